@@ -1,0 +1,17 @@
+pub mod Automata
+pub mod Compatible
+pub mod Each
+pub mod External
+pub mod Found
+pub mod Lists
+pub mod Outcomes
+pub mod Plans
+pub mod Receivers
+pub mod Ring
+pub mod RingRuns
+pub mod Rows
+pub mod Selected
+pub mod Signatures
+pub mod Steps
+pub mod TurnSteps
+pub mod WellFormed

@@ -1,0 +1,45 @@
+//! Laws of compositions that the crates above cite.
+ghost use Rattle.std.specs.Prelude.{◌≡◌, ◌<◌, ℕ, List, true, false, length, Some};
+ghost use Rattle.terms.specs.Named.{Named};
+ghost use Rattle.compose.specs.Automata.{Instance};
+ghost use Rattle.compose.specs.Compatible.{IsCompatible};
+ghost use Rattle.compose.specs.Plans.{composition};
+ghost use Rattle.compose.specs.Signatures.{inputs, receives, receivers_of};
+ghost use Rattle.compose.specs.Receivers.{Rising, IsIn};
+ghost use Rattle.compose.specs.Ring.{ring_of_two};
+ghost use Rattle.compose.specs.RingRuns.{pass_to_0, pass_to_1};
+ghost use Rattle.compose.specs.Steps.{IsSchedule, Joint, applied};
+ghost use Rattle.compose.specs.Outcomes.{outcome_of};
+ghost use Rattle.compose.specs.WellFormed.{IsWellFormed};
+ghost use Rattle.terms.specs.Datum.{Datum};
+ghost use Rattle.std.specs.Prelude.{◌∷◌, []};
+
+use crate::plan::Plan;
+
+/// The components of a plan are compatible, each action of a component has one entry, and the tasks of a component are a
+/// partition of what it controls.
+pub fn compatible(plan: &Plan)
+    ensures compatible { IsCompatible (composition plan.now) }
+    ensures formed { IsWellFormed (composition plan.now) }
+{}
+
+/// The action that a turn takes is a joint step of the composition, whatever states the others are in.
+pub fn turn_is_step(plan: &Plan)
+    ensures { (i task choice : ℕ) (state : ℕ → List Datum) (action : Named) → outcome_of (composition plan.now) i task choice (state i) ≡ Some action → Joint (composition plan.now) state action (λ j. applied (composition plan.now) j action (state j)) }
+{}
+
+/// Nobody receives its own action; each receiver is listed once and in order; the receivers are all other components that
+/// have the action as an input, and no others.
+pub fn receivers_law()
+    ensures own { (composition : List Instance) (action : Named) (sender : ℕ) → receives composition sender action sender ≡ false }
+    ensures once { (composition : List Instance) (action : Named) (sender : ℕ) → Rising 0 (receivers_of composition action sender) }
+    ensures all { (composition : List Instance) (action : Named) (sender j : ℕ) → j < length composition → IsIn j (receivers_of composition action sender) ≡ receives composition sender action j }
+    ensures input { (composition : List Instance) (action : Named) (sender j : ℕ) → IsIn j (receivers_of composition action sender) ≡ true → inputs composition j action ≡ true }
+{}
+
+/// The ring's token goes to and fro: what a schedule is, on the smallest composition.
+pub fn ring_schedules()
+    ensures to_and_fro { IsSchedule ring_of_two (pass_to_1 ∷ pass_to_0 ∷ pass_to_1 ∷ []) }
+    ensures not_twice { IsSchedule ring_of_two (pass_to_1 ∷ pass_to_1 ∷ []) → ⊥ }
+    ensures not_first { IsSchedule ring_of_two (pass_to_0 ∷ []) → ⊥ }
+{}

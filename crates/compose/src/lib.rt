@@ -1,0 +1,13 @@
+//! Compositions of input/output automata: signatures, start states, joint steps and the outcomes of turns.
+#![tactic(auto)]
+
+pub mod automaton;
+pub mod laws;
+pub mod plan;
+
+pub use automaton::{ActionName, Automaton, Component, Entry, Kind, Param};
+pub use plan::Plan;
+pub use plan::ring::ring;
+
+#[cfg(test)]
+mod tests;

@@ -1,0 +1,4 @@
+pub mod Orders
+pub mod Entries
+pub mod Ranks
+pub mod Apart

@@ -1,0 +1,11 @@
+pub mod Faults
+pub mod Gaps
+pub mod Given
+pub mod GivenLaws
+pub mod Refusals
+pub mod Rows
+pub mod Setups
+pub mod Steps
+pub mod Table
+pub mod Ticks
+pub mod Turning

@@ -1,0 +1,30 @@
+-- The numbers and places of the refusals.
+use Rattle.std.specs.Prelude.{ℕ, Option, None, Some}
+use Rattle.task_seed.specs.declared.table.ReadTableError.{ReadTableError}
+use Rattle.task_seed.specs.declared.table.ReadTableError.TheVariants as read
+use Rattle.task_seed.specs.declared.table_turns.TableTurnsError.{TableTurnsError}
+use Rattle.task_seed.specs.declared.table_turns.TableTurnsError.TheVariants as turns
+
+-- the number of a refused table
+abbrev pub read_table_number : ReadTableError → ℕ
+read_table_number read.NoMemory = 1
+read_table_number (read.BadTable line) = 29
+
+-- the line of a refused table
+abbrev pub read_table_place : ReadTableError → Option ℕ
+read_table_place read.NoMemory = None
+read_table_place (read.BadTable line) = Some line
+
+-- the number of refused rows
+abbrev pub table_turns_number : TableTurnsError → ℕ
+table_turns_number turns.NoMemory = 1
+table_turns_number (turns.GapOutOfRange line) = 27
+table_turns_number (turns.TaskOutOfRange line) = 28
+table_turns_number (turns.NoSuchComponent line) = 30
+
+-- the line of refused rows
+abbrev pub table_turns_place : TableTurnsError → Option ℕ
+table_turns_place turns.NoMemory = None
+table_turns_place (turns.GapOutOfRange line) = Some line
+table_turns_place (turns.TaskOutOfRange line) = Some line
+table_turns_place (turns.NoSuchComponent line) = Some line

@@ -1,0 +1,143 @@
+//! The setup of a simulation, and the keys of its turns.
+ghost use Rattle.std.specs.Prelude.{◌≡◌, ℕ, ◌≤◌, ◌<◌, ◌+◌, ◌↔◌, Option, None, Some, IfSome, IfOk, IsErrOf, IsSome};
+
+use crate::turns::{Turn, Turns};
+use compose::Plan;
+use event_keys::Key;
+use terms::Refusal;
+use thiserror::Error;
+
+/// The last tick that a horizon may be.
+pub const MOST_TICKS: u64 = 4_294_967_296;
+
+/// What a simulation runs: a composition, its turns and the last tick.
+#[derive(Drop)]
+pub struct Setup<T> {
+    plan: Plan,
+    turns: T,
+    horizon: u64,
+    ghost in_range: { horizon ≤ 4294967296 },
+}
+
+/// Why a setup isn't made.
+#[derive(Clone, Copy, Debug, PartialEq, Eq, Error)]
+pub enum SetupError {
+    /// The horizon is above 4,294,967,296 ticks.
+    #[error("the horizon is too large")]
+    HorizonTooLarge,
+}
+
+impl Refusal for SetupError {
+    ghost use Rattle.std.specs.Prelude.{None};
+
+    ghost number_of = { λ _. 26 };
+
+    ghost place_of = { λ _. None };
+
+    fn number(&self) -> u8 {
+        26
+    }
+
+    fn place(&self) -> Option<usize> {
+        None
+    }
+}
+
+impl<T: Turns> Setup<T> {
+    ghost use Rattle.std.specs.Prelude.{◌≡◌, ℕ, ◌≤◌, ◌<◌, ◌+◌, ◌↔◌, Option, None, Some, IfSome, IfOk, IsErrOf, IsSome, option_map};
+    ghost use Rattle.task_seed.specs.Turning.{key_at, key_of, turn_in, Reaches};
+    ghost use Rattle.task_seed.specs.Steps.{tick_after};
+    ghost use Rattle.task_seed.specs.Setups.{system, plan_of, source_of, horizon_of};
+
+    /// A setup of the plan, its turns and its horizon, the last tick.
+    pub fn new(plan: Plan, turns: T, horizon: u64) -> Result<Setup<T>, SetupError>
+        ensures ok { IfOk result (λ s. (plan_of s ≡ plan) × (source_of s ≡ turns) × (horizon_of s ≡ horizon)) }
+        ensures refused { IsErrOf result SetupError.HorizonTooLarge ↔ (4294967296 < horizon) }
+    {
+        if horizon <= MOST_TICKS {
+            Ok(Setup {
+                plan,
+                turns,
+                horizon,
+            })
+        } else {
+            Err(SetupError::HorizonTooLarge)
+        }
+    }
+
+    /// The composition.
+    pub fn plan(&self) -> &Plan
+        ensures { result.now ≡ plan_of self.now }
+    {
+        &self.plan
+    }
+
+    // The tick of turn `n` of component `i` where it comes after `tick`.
+    fn tick_after(&self, i: u16, n: u64, tick: u64) -> Option<u64>
+        requires { tick ≤ horizon_of self.now }
+        ensures value { result ≡ tick_after (system T.turn_of self.now) i n tick }
+        ensures later { IfSome result (λ next. tick < next) }
+    {
+        let turn = self.turns.turn(i, n)?;
+        let next = tick + u64::from(turn.gap);
+        if next <= self.horizon {
+            Some(next)
+        } else {
+            None
+        }
+    }
+
+    /// The tick of turn `n` of component `i`, if that turn exists, where `tick` is that of the turn
+    /// before (0 for the first). One question to the turns.
+    pub fn next_tick(&self, i: u16, n: u64, tick: u64) -> Option<u64>
+        requires { Reaches (system T.turn_of self.now) i n tick }
+        ensures key { option_map (key_at i n) result ≡ key_of (system T.turn_of self.now) i n }
+        ensures reached { IfSome result (λ next. Reaches (system T.turn_of self.now) i (n + 1) next) }
+        ensures later { IfSome result (λ next. tick < next) }
+        ensures bounded { IfSome result (λ _. n < 4294967296) }
+    {
+        self.tick_after(i, n, tick)
+    }
+
+    /// The key of turn `n` of component `i`, if that turn exists. The work grows with `n`.
+    pub fn key(&self, i: u16, n: u64) -> Option<Key>
+        ensures value { result ≡ key_of (system T.turn_of self.now) i n }
+        ensures bounded { IfSome result (λ _. n < 4294967296) }
+    {
+        let mut tick = 0;
+        for k in 0..n {
+            match self.next_tick(i, k, tick) {
+                None => return None,
+                Some(next) => tick = next,
+            }
+        }
+        let last = self.next_tick(i, n, tick)?;
+        Some(Key {
+            tick: last,
+            component: i,
+            number: n,
+        })
+    }
+
+    /// Turn `n` of component `i`, if it exists, its task below the number of the component's tasks (0
+    /// where it has none). The work grows with `n`.
+    pub fn turn(&self, i: u16, n: u64) -> Option<Turn>
+        ensures { result ≡ turn_in (system T.turn_of self.now) i n }
+    {
+        match self.key(i, n) {
+            None => None,
+            Some(_) => self.turn_at(i, n),
+        }
+    }
+
+    /// The same for a turn that is known to exist, by one question.
+    pub fn turn_at(&self, i: u16, n: u64) -> Option<Turn>
+        requires { IsSome (key_of (system T.turn_of self.now) i n) }
+        ensures { result ≡ turn_in (system T.turn_of self.now) i n }
+    {
+        let turn = self.turns.turn(i, n)?;
+        let tasks = self.plan.tasks(i);
+        let task = if tasks == 0 { 0 } else { turn.task % tasks };
+        Some(Turn { task, ..turn })
+    }
+}

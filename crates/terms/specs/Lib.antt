@@ -1,0 +1,14 @@
+pub mod Datum
+pub mod EffectTree
+pub mod Items
+pub mod Meaning
+pub mod Nodes
+pub mod NodesFall
+pub mod Same
+pub mod ShapeTree
+pub mod Shapes
+pub mod Seen
+pub mod TermTree
+pub mod Turns
+pub mod Named
+pub mod Orders

@@ -1,0 +1,10 @@
+//! A state with marks, whose writes can be undone.
+#![tactic(auto)]
+
+mod change;
+mod store;
+
+pub use store::Store;
+
+#[cfg(test)]
+mod tests;

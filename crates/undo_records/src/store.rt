@@ -1,0 +1,175 @@
+//! A state with marks.
+ghost use Rattle.std.specs.Prelude.{◌≡◌, ◌<◌, ◌+◌, [], ◌∷◌, IfOk, IfErr, OnOk, OnErr, length, map, slice_set};
+ghost use Rattle.undo_records.specs.Changes.{restored, unwound, noted, changes_in};
+ghost use Rattle.terms.specs.Shapes.{set_item};
+
+use crate::change::Change;
+use std::alloc::Global;
+use std::collections::VecDeque;
+use std::marker::Model;
+use std::mem;
+use terms::{Cells, NoMemory, State, Value};
+
+/// A nonempty list of whole states, the last one current. Kept are the current state and, since each mark, what the
+/// writes replaced, so that no state is copied.
+#[derive(Drop)]
+pub struct Store {
+    current: Vec<Value>,
+    // The newest mark first.
+    marks: VecDeque<Vec<Change>>,
+}
+
+impl Model for Store {
+    ghost use Rattle.std.specs.Prelude.{map};
+    ghost use Rattle.undo_records.specs.States.{States, states_code};
+
+    ghost Value = { States };
+
+    ghost coded = { states_code };
+
+    ghost use Rattle.undo_records.specs.Changes.{states_below, changes_in};
+
+    ghost view = { λ s. record { current = s.current.items; below = states_below (map changes_in s.marks.items) s.current.items } };
+}
+
+impl Store {
+    ghost use Rattle.undo_records.specs.States.{marked, undone, has_marked, without_first};
+
+    /// A store of one state.
+    pub fn new(alloc: Global, state: State) -> Result<Store, NoMemory>
+        ensures { IfOk result (λ store. store ≡ record { current = state; below = [] }) }
+    {
+        Ok(Store {
+            current: state.into_values(),
+            marks: VecDeque::new(alloc),
+        })
+    }
+
+    /// Repeats the current state: what is written from now on can be undone.
+    pub fn mark(&mut self, alloc: Global) -> Result<(), NoMemory>
+        ensures ok { OnOk result (self.new ≡ marked self.old) }
+        ensures err { OnErr result (self.new ≡ self.old) }
+    {
+        self.marks.push_front(Vec::new(alloc))?;
+        Ok(())
+    }
+
+    /// Drops the current state, and answers `false` where it is the only one. Takes no memory.
+    pub fn undo(&mut self) -> bool
+        ensures state { self.new ≡ undone self.old }
+        ensures answer { result ≡ has_marked self.old.below }
+    {
+        match self.marks.pop_front() {
+            None => false,
+            Some(changes) => {
+                put_back(&mut self.current, changes);
+                true
+            }
+        }
+    }
+
+    /// Drops the first `count` states. Takes no memory.
+    pub fn forget_first(&mut self, count: usize)
+        requires { count < length self.old.below + 1 }
+        ensures { self.new ≡ without_first count self.old }
+    {
+        let left = self.marks.len() - count;
+        self.marks.truncate(left);
+    }
+}
+
+impl Cells for Store {
+    ghost values = { λ s. s.current };
+
+    fn get(&self, cell: usize) -> Option<&Value> {
+        self.current.get(cell)
+    }
+
+    fn set(&mut self, cell: usize, value: Value) -> Result<(), NoMemory>
+        ensures ok { OnOk result (self.new ≡ record self.old { current = slice_set self.old.current cell value }) }
+        ensures err { OnErr result (self.new ≡ self.old) }
+    {
+        if cell >= self.current.len() {
+            return Ok(());
+        }
+        let old = mem::replace(&mut self.current[cell], value);
+        keep(&mut self.current, &mut self.marks, Change::Cell(cell, old))
+    }
+
+    fn set_at(&mut self, cell: usize, index: usize, value: Value) -> Result<(), NoMemory>
+        ensures ok { OnOk result (self.new ≡ record self.old { current = set_item cell index value self.old.current }) }
+        ensures err { OnErr result (self.new ≡ self.old) }
+    {
+        if cell >= self.current.len() {
+            return Ok(());
+        }
+        match self.current[cell].replace_item(index, value) {
+            None => Ok(()),
+            Some(old) => keep(
+                &mut self.current,
+                &mut self.marks,
+                Change::Item(cell, index, old),
+            ),
+        }
+    }
+}
+
+// Keeps what a write replaced, or puts it back where memory is refused.
+fn keep(
+    current: &mut Vec<Value>,
+    marks: &mut VecDeque<Vec<Change>>,
+    change: Change,
+) -> Result<(), NoMemory>
+    ensures ok { OnOk result ((current.new.items ≡ current.old.items) × (map changes_in marks.new.items ≡ noted change (map changes_in marks.old.items))) }
+    ensures err { OnErr result ((current.new.items ≡ restored change current.old.items) × (map changes_in marks.new.items ≡ map changes_in marks.old.items)) }
+{
+    match note(marks, change) {
+        Ok(()) => Ok(()),
+        Err(change) => {
+            put_one_back(current, change);
+            Err(NoMemory)
+        }
+    }
+}
+
+// Notes a change at the newest mark, if there is one.
+fn note(marks: &mut VecDeque<Vec<Change>>, change: Change) -> Result<(), Change>
+    ensures ok { OnOk result (map changes_in marks.new.items ≡ noted change (map changes_in marks.old.items)) }
+    ensures err { IfErr result (λ back. (back ≡ change) × (map changes_in marks.new.items ≡ map changes_in marks.old.items)) }
+{
+    match marks.front_mut() {
+        None => Ok(()),
+        Some(changes) => match changes.push(change) {
+            Ok(()) => Ok(()),
+            Err(refused) => Err(refused.value),
+        },
+    }
+}
+
+#[tactic(auto, using(terms::specs::Turns::items))]
+fn put_one_back(current: &mut Vec<Value>, change: Change)
+    ensures { current.new.items ≡ restored change current.old.items }
+{
+    match change {
+        Change::Cell(cell, old) => {
+            if cell < current.len() {
+                current[cell] = old;
+            }
+        }
+        Change::Item(cell, index, old) => {
+            if cell < current.len() {
+                current[cell].put_item(index, old);
+            }
+        }
+    }
+}
+
+// Puts back what several writes replaced, the last one first.
+#[tactic(auto, using(crate::specs::Changes::unwound_more))]
+fn put_back(current: &mut Vec<Value>, mut changes: Vec<Change>)
+    ensures { current.new.items ≡ unwound changes.items current.old.items }
+{
+    while let Some(change) = changes.pop() {
+        put_one_back(current, change);
+    }
+}

@@ -1,0 +1,20 @@
+-- The proofs on the exchange.
+pub mod Parts
+pub mod Committed
+pub mod Ones
+pub mod Meetings
+pub mod Chunks
+pub mod Wholes
+pub mod Floors
+pub mod Alone
+pub mod Followed
+pub mod Steps
+pub mod Runs
+pub mod Extras
+pub mod Lagging
+pub mod Windowed
+pub mod Leased
+pub mod Called
+pub mod WindowKept
+pub mod Exists
+pub mod Quiet

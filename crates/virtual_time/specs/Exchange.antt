@@ -1,0 +1,8 @@
+-- The exchange of several workers.
+pub mod Stubs
+pub mod Leases
+pub mod Meetings
+pub mod Wholes
+pub mod Windows
+pub mod Calls
+pub mod WindowCalls

@@ -1,0 +1,6 @@
+pub mod Answers
+pub mod Reading
+pub mod Reports
+pub mod Tables
+pub mod Whole
+pub mod Words

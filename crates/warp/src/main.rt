@@ -1,0 +1,30 @@
+//! The program `warp`.
+#![tactic(auto)]
+
+pub mod files;
+pub mod first;
+pub mod machine;
+pub mod report;
+pub mod serve;
+
+use crate::machine::MachineFiles;
+use crate::serve::serve;
+use std::process::ExitCode;
+use std::{env, io};
+use trace::Counted;
+
+#[cfg(test)]
+mod tests;
+
+fn main(rt: HostRuntime) -> io::Result<ExitCode> {
+    let alloc = rt.alloc();
+    let mut words = Vec::new(alloc);
+    for word in env::args(&rt)?.skip(1) {
+        words.push(word)?;
+    }
+    let files = MachineFiles::new(&rt);
+    let mut out = Counted::new(rt.stdout());
+    let mut err = rt.stderr();
+    let status = serve(alloc, words.as_slice(), &files, &mut out, &mut err);
+    Ok(ExitCode::from(status))
+}
