@@ -9,3 +9,5 @@ pub mod Steps
 pub mod Table
 pub mod Ticks
 pub mod Turning
+pub mod Machines
+pub mod MachineLaws

@@ -2,6 +2,8 @@
 use Rattle.std.specs.Prelude.{ℕ, Option, None, Some}
 use Rattle.task_seed.specs.declared.table.ReadTableError.{ReadTableError}
 use Rattle.task_seed.specs.declared.table.ReadTableError.TheVariants as read
+use Rattle.task_seed.specs.declared.setup.SetupError.{SetupError}
+use Rattle.task_seed.specs.declared.setup.SetupError.TheVariants as setup
 use Rattle.task_seed.specs.declared.table_turns.TableTurnsError.{TableTurnsError}
 use Rattle.task_seed.specs.declared.table_turns.TableTurnsError.TheVariants as turns
 
@@ -28,3 +30,8 @@ table_turns_place turns.NoMemory = None
 table_turns_place (turns.GapOutOfRange line) = Some line
 table_turns_place (turns.TaskOutOfRange line) = Some line
 table_turns_place (turns.NoSuchComponent line) = Some line
+
+-- the number of a refused setup
+abbrev pub setup_number : SetupError → ℕ
+setup_number setup.NoMemory = 1
+setup_number setup.HorizonTooLarge = 26

@@ -57,7 +57,7 @@ less_by true false tick gap horizon e = refl
 less_by true true tick gap horizon e = grind (arith, nat_tests)
 
 -- where a turn is missing, all later ones are
-none_stays : (s : System) (i n d : ℕ) → has_turns s i n ≡ false → has_turns s i (n + d) ≡ false
+pub none_stays : (s : System) (i n d : ℕ) → has_turns s i n ≡ false → has_turns s i (n + d) ≡ false
 none_stays s i n zero h = rw add-zero h
 none_stays s i n (suc d) h =
     let e : n + suc d ≡ (n + d) + 1 = omega arith in
@@ -130,7 +130,7 @@ gap_by None h there = cc
 gap_by (Some turn) h there = h turn refl
 
 -- as every gap is 1 or more, so many turns take at least so many ticks
-few : (s : System) (i n : ℕ) → ((k : ℕ) (turn : Turn) → s.turn i k ≡ Some turn → 1 ≤ turn.gap) → list_all is_some (first_turns s i n) ≡ true → n ≤ ticks s i n
+pub few : (s : System) (i n : ℕ) → ((k : ℕ) (turn : Turn) → s.turn i k ≡ Some turn → 1 ≤ turn.gap) → list_all is_some (first_turns s i n) ≡ true → n ≤ ticks s i n
 few s i zero law exist = omega arith
 few s i (suc n) law exist =
     let one : suc n ≡ n + 1 = omega arith in
@@ -170,3 +170,15 @@ reaches_key s i n key e =
     let within = leb-true (ticks s i (n + 1)) s.horizon parts.1 in
     let same : ticks s i (n + 1) ≡ key.tick = found.1 in
     record { exist = parts.0; sum = sym same; within = omega (arith, within, same) }
+
+-- the next turn of a component that exists is later by a tick or more
+pub gap_of_next : (s : System) (i n : ℕ) → ((k : ℕ) (turn : Turn) → s.turn i k ≡ Some turn → 1 ≤ turn.gap) → has_turns s i (suc n + 1) ≡ true → ticks s i (n + 1) + 1 ≤ ticks s i (suc n + 1)
+gap_of_next s i n law there =
+    let one : suc n + 1 ≡ (n + 1) + 1 = omega arith in
+    let there' : has_turns s i ((n + 1) + 1) ≡ true = subst (λ (m : ℕ). has_turns s i m ≡ true) one there in
+    let parts = and_parts (list_all is_some (first_turns s i ((n + 1) + 1))) (leb (ticks s i ((n + 1) + 1)) s.horizon) there' in
+    let last = and_parts (list_all is_some (first_turns s i (n + 1))) (is_some (s.turn i (n + 1))) (sym (exist-more s i (n + 1)) ∙ parts.0) in
+    let gap = gap_by (s.turn i (n + 1)) (law (n + 1)) last.1 in
+    let sum = ticks-more s i (n + 1) in
+    let more : ticks s i (n + 1) + 1 ≤ ticks s i ((n + 1) + 1) = omega (arith, gap, sum) in
+    subst (λ (m : ℕ). ticks s i (n + 1) + 1 ≤ ticks s i m) (sym one) more

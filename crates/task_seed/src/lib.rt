@@ -1,6 +1,7 @@
 //! The turns of the components of a composition, and their keys.
 #![tactic(auto)]
 
+pub mod laws;
 pub mod setup;
 pub mod table;
 pub mod table_turns;

@@ -22,6 +22,9 @@ pub struct Setup<T> {
 /// Why a setup isn't made.
 #[derive(Clone, Copy, Debug, PartialEq, Eq, Error)]
 pub enum SetupError {
+    /// Never answered today: making a setup takes no memory.
+    #[error("out of memory")]
+    NoMemory,
     /// The horizon is above 4,294,967,296 ticks.
     #[error("the horizon is too large")]
     HorizonTooLarge,
@@ -29,13 +32,17 @@ pub enum SetupError {
 
 impl Refusal for SetupError {
     ghost use Rattle.std.specs.Prelude.{None};
+    ghost use Rattle.task_seed.specs.Refusals.{setup_number};
 
-    ghost number_of = { λ _. 26 };
+    ghost number_of = { setup_number };
 
     ghost place_of = { λ _. None };
 
     fn number(&self) -> u8 {
-        26
+        match self {
+            SetupError::NoMemory => 1,
+            SetupError::HorizonTooLarge => 26,
+        }
     }
 
     fn place(&self) -> Option<usize> {
@@ -53,6 +60,7 @@ impl<T: Turns> Setup<T> {
     pub fn new(plan: Plan, turns: T, horizon: u64) -> Result<Setup<T>, SetupError>
         ensures ok { IfOk result (λ s. (plan_of s ≡ plan) × (source_of s ≡ turns) × (horizon_of s ≡ horizon)) }
         ensures refused { IsErrOf result SetupError.HorizonTooLarge ↔ (4294967296 < horizon) }
+        ensures memory { IsErrOf result SetupError.NoMemory → ⊥ }
     {
         if horizon <= MOST_TICKS {
             Ok(Setup {

@@ -1,0 +1,5 @@
+pub mod Around
+pub mod Cells
+pub mod Marks
+pub mod Same
+pub mod Strands
