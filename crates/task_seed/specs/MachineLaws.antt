@@ -93,13 +93,15 @@ module _ (s : System) (small : IsSmall s) where
     later_gone : (a b c : Bool) → (a && b) ≡ false → (b ≡ false → c ≡ false) → (a && c) ≡ false
     later_gone true b c h f = f h
     later_gone false b c h f = refl
+
     one : suc m + 1 ≡ (m + 1) + 1
     one = omega arith
+
     go : (b : Bool) → (nat_lt i (length s.composition) && has_turns s i (m + 1)) ≡ b → turn_rank s i (suc m) ≡ end_rank
     go true h = absurd (let l = below_end i m (exists i m h) in let e = rank_there i m h in omega (arith, l, e, high))
     go false h =
         rank_gone i (suc m) (later_gone (nat_lt i (length s.composition)) (has_turns s i (m + 1)) (has_turns s i (suc m + 1)) h
-            (λ gone. subst (λ (n : ℕ). has_turns s i n ≡ false) (sym one) (none_stays s i (m + 1) 1 gone)))
+        (λ gone. subst (λ (n : ℕ). has_turns s i n ≡ false) (sym one) (none_stays s i (m + 1) 1 gone)))
 
   owned : (i m : ℕ) → turn_rank s i m < end_rank → owner_of (turn_rank s i m) ≡ i
   owned i m low = go (nat_lt i (length s.composition) && has_turns s i (m + 1)) refl where
@@ -145,6 +147,7 @@ module _ (order : IsTotalOrder action_order) where
   chain a b c h g = go (action_order a b) refl (action_order b c) refl where
     not_greater : (o : Ordering) → o ≡ Less → not (is_gt o) ≡ true
     not_greater o e = ap (λ q. not (is_gt q)) e
+
     go : (o : Ordering) → action_order a b ≡ o → (p : Ordering) → action_order b c ≡ p → action_before a c ≡ true
     go Less e Less f = not_greater (action_order a c) (order.trans a b c e f)
     go Less e Equal f = let same : b ≡ c = action_apart b c f in subst (λ (x : Named). action_before a x ≡ true) same h
@@ -177,8 +180,10 @@ pub machine_counted : (s : System) → HasCount (machine s) (length s.compositio
 machine_counted s = record { silent = silent; deaf = deaf } where
   silent : (j m : ℕ) → length s.composition ≤ j → turn_rank s j m ≡ end_rank
   silent j m h = let past : nat_lt j (length s.composition) ≡ false = grind (arith, nat_tests) in rw past refl
+
   and_none : (b : Bool) → (b && false) ≡ false
   and_none true = refl
   and_none false = refl
+
   deaf : (i : ℕ) (a : Named) (j : ℕ) → length s.composition ≤ j → receives s.composition i a j ≡ false
   deaf i a j h = rw (past_absent s.composition j h) (and_none (not (j == i)))

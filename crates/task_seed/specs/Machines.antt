@@ -47,5 +47,5 @@ machine s =
       apply = applied s.composition;
       receives = receives s.composition;
       same = same_action;
-      before = action_before
+      before = action_before;
     }

@@ -13,5 +13,4 @@ use crate::turns::Turns;
 pub fn machine_is_lawful<T: Turns>(setup: &Setup<T>)
     ensures lawful { Lawful (machine (system T.turn_of setup.now)) }
     ensures counted { HasCount (machine (system T.turn_of setup.now)) (length (composition (plan_of setup.now))) }
-{
-}
+{}
