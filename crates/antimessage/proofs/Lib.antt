@@ -1,0 +1,5 @@
+pub mod Counting
+pub mod Sorted
+pub mod Meeting
+pub mod Pairs
+pub mod Effects

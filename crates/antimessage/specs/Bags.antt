@@ -1,0 +1,53 @@
+-- What the calls of a bag give and leave.
+use Rattle.std.specs.Prelude.{ℕ, ◌==◌, ◌&&◌, Bool, false, List, [], ◌∷◌, Option, None, Some, if◌then◌else◌, not, nat_lt}
+use Rattle.raw_events.specs.Around.{insert_sorted}
+use Rattle.event_keys.specs.declared.key.Bound.{Bound}
+use Rattle.event_keys.specs.declared.key.Bound.TheVariants.{At, End}
+use Rattle.event_keys.specs.declared.message.Message.{Message}
+use Rattle.event_keys.specs.declared.message.Signed.{Signed}
+use Rattle.antimessage.specs.Counts.{signed_cmp, is_same, plus, minus, count}
+
+module _ {A : Type 0} where
+  -- the first item that passes the test, where there is one
+  abbrev pub first_where : (A → Bool) → List A → Option A
+  first_where test [] = None
+  first_where test (x ∷ xs) = if test x then Some x else first_where test xs
+
+  -- all items but the first that passes the test
+  abbrev pub without_where : (A → Bool) → List A → List A
+  without_where test [] = []
+  without_where test (x ∷ xs) = if test x then xs else x ∷ without_where test xs
+
+  -- whether there is a first item, and it fails the test
+  abbrev pub first_fails : (A → Bool) → List A → Bool
+  first_fails test [] = false
+  first_fails test (x ∷ xs) = not (test x)
+
+-- one more of x, in its place
+abbrev pub insert : Signed → List Signed → List Signed
+insert = insert_sorted signed_cmp
+
+-- whether it is sent to that component
+abbrev pub is_to : ℕ → Signed → Bool
+is_to to s = s.message.to == to
+
+-- whether it equals x
+abbrev pub is_one : Signed → Signed → Bool
+is_one x s = is_same s x
+
+-- one less of x
+abbrev pub remove : Signed → List Signed → List Signed
+remove x = without_where (is_one x)
+
+-- whether a message and its antimessage are both there
+abbrev pub has_pair : Message → List Signed → Bool
+has_pair m bag = nat_lt 0 (count (plus m) bag) && nat_lt 0 (count (minus m) bag)
+
+-- the bag after one message met its antimessage, where both were there
+abbrev pub met : Message → List Signed → List Signed
+met m bag = if has_pair m bag then remove (plus m) (remove (minus m) bag) else bag
+
+-- the key of the first, or the end where there is none
+abbrev pub least_of : List Signed → Bound
+least_of [] = End
+least_of (s ∷ bag) = At s.message.key

@@ -1,0 +1,138 @@
+//! Bags of signed messages.
+ghost use Rattle.std.specs.Prelude.{◌≡◌, [], not};
+ghost use Rattle.std.specs.Cmp.Lexicographic.{pointwise, lists_per, lists_equiv};
+ghost use Rattle.event_keys.specs.contracts.message.SignedPartialEq.TheImpl.Laws.{laws-law as signed_laws};
+ghost use Rattle.event_keys.specs.contracts.message.SignedEq.TheImpl.Laws.{laws-law as signed_equivalence};
+ghost use Rattle.raw_events.specs.Around.{is_nonempty};
+ghost use Rattle.antimessage.specs.Counts.{IsSorted};
+ghost use Rattle.antimessage.specs.Meetings.{IsAllMet, IsPairCount};
+ghost use Rattle.antimessage.specs.Bags.{insert, first_where, without_where, is_to, is_one, remove, has_pair, met, least_of};
+
+use crate::walks;
+use event_keys::{Bound, Message, Sign, Signed};
+use raw_events::{EventCell, EventList, Iter};
+use std::marker::Model;
+
+/// Signed messages, each as often as it was posted and not taken. It is seen as the sorted list of them, which the two
+/// counts of each message determine: how often it is there, and how often its antimessage.
+///
+/// No call takes memory.
+#[derive(Drop)]
+pub struct Bag {
+    events: EventList<Signed>,
+}
+
+impl Model for Bag {
+    ghost use Rattle.std.specs.Prelude.{◌≡◌, List, []};
+    ghost use Rattle.event_keys.specs.declared.message.Signed.{Signed};
+    ghost use Rattle.antimessage.specs.Counts.{IsSorted};
+
+    ghost Value = { List Signed };
+
+    ghost view = { λ b. b.events.after };
+
+    ghost invariant = { λ b. (b.events.before ≡ []) × IsSorted b.events.after };
+}
+
+impl Bag {
+    /// An empty bag.
+    pub fn new() -> Bag
+        ensures { result ≡ [] }
+    {
+        Bag {
+            events: EventList::new(),
+        }
+    }
+
+    /// One more of a signed message.
+    #[tactic(auto, using(crate::proofs::Sorted::signed_inserted))]
+    pub fn post(&mut self, cell: EventCell<Signed>)
+        ensures { self.new ≡ insert cell self.old }
+    {
+        self.events.insert_sorted(cell);
+    }
+
+    /// Takes the least that is sent to the component `to` (its number, from 0); `None` only where there is none to it.
+    #[tactic(auto, using(crate::proofs::Sorted::signed_left))]
+    pub fn take(&mut self, to: u16) -> Option<EventCell<Signed>>
+        ensures taken { result ≡ first_where (is_to to) self.old }
+        ensures rest { self.new ≡ without_where (is_to to) self.old }
+    {
+        walks::take_to(&mut self.events, to)
+    }
+
+    /// Takes one that equals `signed`; `None` only where there is none.
+    #[tactic(auto, using(crate::proofs::Sorted::signed_left))]
+    pub fn take_equal(&mut self, signed: &Signed) -> Option<EventCell<Signed>>
+        ensures taken { result ≡ first_where (is_one signed.now) self.old }
+        ensures rest { self.new ≡ remove signed.now self.old }
+    {
+        walks::take_one(&mut self.events, &signed.message, signed.sign)
+    }
+
+    /// One message and its antimessage annihilate. The answer is false where they are not both there, and the bag then stays.
+    #[tactic(auto, using(crate::proofs::Pairs::met_sorted))]
+    pub fn meet(&mut self, message: &Message) -> bool
+        ensures answer { result ≡ has_pair message.now self.old }
+        ensures left { self.new ≡ met message.now self.old }
+    {
+        walks::meet(&mut self.events, message)
+    }
+
+    /// All pairs of a message and its antimessage annihilate: of each message the difference is left, on the side that had
+    /// more. The answer is the number of the pairs, or the greatest `u64` where there were more.
+    pub fn meet_all(&mut self) -> u64
+        ensures left { IsAllMet self.old self.new }
+        ensures pairs { IsPairCount self.old self.new result }
+    {
+        walks::meet_all(&mut self.events)
+    }
+
+    /// The least key of all, or the end where the bag is empty.
+    pub fn least(&self) -> Bound
+        ensures { result ≡ least_of self.now }
+    {
+        match self.events.peek_next() {
+            None => Bound::End,
+            Some(next) => Bound::At(next.message.key),
+        }
+    }
+
+    /// Whether there is no message.
+    pub fn is_empty(&self) -> bool
+        ensures { result ≡ not (is_nonempty self.now) }
+    {
+        self.events.peek_next().is_none()
+    }
+
+    /// References to all messages, from the least.
+    pub fn iter(&self) -> Iter<'_, Signed>
+        ensures items { result ≡ self.now }
+        ensures sorted { IsSorted self.now }
+    {
+        self.events.iter()
+    }
+}
+
+impl PartialEq for Bag {
+    ghost eq = { pointwise ⟦<Signed as PartialEq>⟧.eq };
+
+    ghost laws = { lists_per signed_laws };
+
+    fn eq(&self, other: &Bag) -> bool {
+        let (mut left, mut right) = (self.iter(), other.iter());
+        while let Some(mine) = left.next() {
+            let Some(its) = right.next() else {
+                return false;
+            };
+            if mine != its {
+                return false;
+            }
+        }
+        right.next().is_none()
+    }
+}
+
+impl Eq for Bag {
+    ghost laws = { lists_equiv signed_equivalence };
+}

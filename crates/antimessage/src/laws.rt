@@ -1,0 +1,58 @@
+//! What the calls of a bag do to its counts. Each function does nothing: its contract is the law.
+ghost use Rattle.std.specs.Prelude.{◌≡◌, ℕ, ◌+◌, Bool, true, false, List, None, Some};
+ghost use Rattle.std.specs.Ordering.{is_gt};
+ghost use Rattle.std.specs.Bool.{Decides};
+ghost use Rattle.event_keys.specs.declared.message.Message.{Message as MessageValue};
+ghost use Rattle.event_keys.specs.declared.message.Signed.{Signed as SignedValue};
+ghost use Rattle.event_keys.specs.declared.key.Bound.TheVariants.{At};
+ghost use Rattle.event_keys.specs.Orders.{bound_order};
+ghost use Rattle.antimessage.specs.Counts.{Each, IsSorted, signed_cmp, plus, minus, count};
+ghost use Rattle.antimessage.specs.Bags.{insert, first_where, without_where, is_one, has_pair, met, least_of};
+
+use crate::bag::Bag;
+
+/// Sorted lists with the same counts are the same.
+pub fn counts_law()
+    ensures { (xs ys : List SignedValue) → IsSorted xs → IsSorted ys → ((x : SignedValue) → count x xs ≡ count x ys) → xs ≡ ys }
+{}
+
+/// `==` tells whether two bags have the same messages, each as often.
+pub fn equal_law(a: &Bag, b: &Bag)
+    ensures { Decides (⟦<Bag as PartialEq>⟧.eq a.now b.now) (a.now ≡ b.now) }
+{}
+
+/// To post adds one to one count, and leaves all others.
+pub fn post_law()
+    ensures more { (s : SignedValue) (bag : List SignedValue) → count s (insert s bag) ≡ count s bag + 1 }
+    ensures others { (x s : SignedValue) (bag : List SignedValue) → (x ≡ s → ⊥) → count x (insert s bag) ≡ count x bag }
+{}
+
+/// What is taken passes the test, is one less, and is the least that passes; all other counts stay. Where nothing is taken
+/// nothing passes.
+pub fn take_law()
+    ensures passes { (test : SignedValue → Bool) (s : SignedValue) (bag : List SignedValue) → first_where test bag ≡ Some s → test s ≡ true }
+    ensures least { (test : SignedValue → Bool) (s : SignedValue) (bag : List SignedValue) → IsSorted bag → first_where test bag ≡ Some s → Each (λ y. test y ≡ true → is_gt (signed_cmp s y) ≡ false) bag }
+    ensures less { (test : SignedValue → Bool) (s : SignedValue) (bag : List SignedValue) → first_where test bag ≡ Some s → count s bag ≡ count s (without_where test bag) + 1 }
+    ensures others { (test : SignedValue → Bool) (x s : SignedValue) (bag : List SignedValue) → first_where test bag ≡ Some s → (x ≡ s → ⊥) → count x (without_where test bag) ≡ count x bag }
+    ensures none { (test : SignedValue → Bool) (bag : List SignedValue) → first_where test bag ≡ None → Each (λ y. test y ≡ false) bag }
+    ensures kept { (test : SignedValue → Bool) (bag : List SignedValue) → first_where test bag ≡ None → without_where test bag ≡ bag }
+{}
+
+/// What is taken as equal is the same; where nothing is taken its count is 0.
+pub fn take_equal_law()
+    ensures same { (x s : SignedValue) (bag : List SignedValue) → first_where (is_one x) bag ≡ Some s → s ≡ x }
+    ensures none { (x : SignedValue) (bag : List SignedValue) → first_where (is_one x) bag ≡ None → count x bag ≡ 0 }
+{}
+
+/// To meet takes one off both counts of a message, and leaves all others; without a pair the bag stays.
+pub fn meet_law()
+    ensures pluses { (m : MessageValue) (bag : List SignedValue) → has_pair m bag ≡ true → count (plus m) bag ≡ count (plus m) (met m bag) + 1 }
+    ensures minuses { (m : MessageValue) (bag : List SignedValue) → has_pair m bag ≡ true → count (minus m) bag ≡ count (minus m) (met m bag) + 1 }
+    ensures others { (x : SignedValue) (m : MessageValue) (bag : List SignedValue) → (x ≡ plus m → ⊥) → (x ≡ minus m → ⊥) → count x (met m bag) ≡ count x bag }
+    ensures kept { (m : MessageValue) (bag : List SignedValue) → has_pair m bag ≡ false → met m bag ≡ bag }
+{}
+
+/// The least key is not above the key of any message.
+pub fn least_law()
+    ensures { (bag : List SignedValue) → IsSorted bag → Each (λ s. is_gt (bound_order (least_of bag) (At s.message.key)) ≡ false) bag }
+{}

@@ -1,0 +1,137 @@
+//! Walks along a list of signed messages, from its front and back to it.
+ghost use Rattle.std.specs.Prelude.{◌≡◌, ◌++◌, [], reverse};
+ghost use Rattle.raw_events.specs.Around.{head, tail, is_nonempty};
+ghost use Rattle.antimessage.specs.Bags.{first_where, without_where, first_fails, is_to, is_one, has_pair, met};
+ghost use Rattle.antimessage.specs.Counts.{IsSorted};
+ghost use Rattle.antimessage.specs.Meetings.{IsAllMet, IsPairCount, can_meet};
+
+use event_keys::{Message, Sign, Signed};
+use raw_events::{EventCell, EventList};
+
+fn take_next(events: &mut EventList<Signed>) -> Option<EventCell<Signed>>
+    ensures taken { result ≡ head events.old.after }
+    ensures rest { events.new ≡ record events.old { after = tail events.old.after } }
+{
+    if !events.pass_next() {
+        return None;
+    }
+    events.take_last()
+}
+
+fn rewind(events: &mut EventList<Signed>)
+    ensures { events.new ≡ record { before = []; after = reverse events.old.before ++ events.old.after } }
+{
+    let mut rewound = EventList::new();
+    rewound.append_all(events);
+    *events = rewound;
+}
+
+fn next_is_to_another(events: &EventList<Signed>, to: u16) -> bool
+    ensures { result ≡ first_fails (is_to to) events.now.after }
+{
+    match events.peek_next() {
+        None => false,
+        Some(next) => next.message.to != to,
+    }
+}
+
+fn next_differs(events: &EventList<Signed>, message: &Message, sign: Sign) -> bool
+    ensures { result ≡ first_fails (is_one (record { message = message.now; sign = sign })) events.now.after }
+{
+    match events.peek_next() {
+        None => false,
+        Some(next) => !(next.message == *message && next.sign == sign),
+    }
+}
+
+// Takes the first after the cursor that is sent to that component.
+pub(crate) fn take_to(events: &mut EventList<Signed>, to: u16) -> Option<EventCell<Signed>>
+    requires { events.old.before ≡ [] }
+    ensures taken { result ≡ first_where (is_to to) events.old.after }
+    ensures rest { events.new ≡ record { before = []; after = without_where (is_to to) events.old.after } }
+{
+    while next_is_to_another(events, to) {
+        events.pass_next();
+    }
+    let taken = take_next(events);
+    rewind(events);
+    taken
+}
+
+// Takes the first after the cursor that has this message and this sign.
+pub(crate) fn take_one(
+    events: &mut EventList<Signed>,
+    message: &Message,
+    sign: Sign,
+) -> Option<EventCell<Signed>>
+    requires { events.old.before ≡ [] }
+    ensures taken { result ≡ first_where (is_one (record { message = message.now; sign = sign })) events.old.after }
+    ensures rest { events.new ≡ record { before = []; after = without_where (is_one (record { message = message.now; sign = sign })) events.old.after } }
+{
+    while next_differs(events, message, sign) {
+        events.pass_next();
+    }
+    let taken = take_next(events);
+    rewind(events);
+    taken
+}
+
+// Takes the message and its antimessage, where both are there.
+pub(crate) fn meet(events: &mut EventList<Signed>, message: &Message) -> bool
+    requires front { events.old.before ≡ [] }
+    requires sorted { IsSorted events.old.after }
+    ensures answer { result ≡ has_pair message.now events.old.after }
+    ensures left { events.new ≡ record { before = []; after = met message.now events.old.after } }
+{
+    match take_one(events, message, Sign::Minus) {
+        None => false,
+        Some(antimessage) => match take_one(events, message, Sign::Plus) {
+            None => {
+                events.insert_sorted(antimessage);
+                false
+            }
+            Some(_) => true,
+        },
+    }
+}
+
+fn has_next(events: &EventList<Signed>) -> bool
+    ensures { result ≡ is_nonempty events.now.after }
+{
+    events.peek_next().is_some()
+}
+
+fn next_meets_last(events: &EventList<Signed>) -> bool
+    ensures { result ≡ can_meet events.now.before events.now.after }
+{
+    match (events.peek_last(), events.peek_next()) {
+        (Some(last), Some(next)) => {
+            last.message == next.message && last.sign == Sign::Plus && next.sign == Sign::Minus
+        }
+        _ => false,
+    }
+}
+
+// Plus stands before minus of the same message, so an antimessage that can meet one meets the last that was passed.
+#[tactic(auto, using(crate::proofs::Meeting::meeting_starts))]
+pub(crate) fn meet_all(events: &mut EventList<Signed>) -> u64
+    requires front { events.old.before ≡ [] }
+    requires sorted { IsSorted events.old.after }
+    ensures front { events.new.before ≡ [] }
+    ensures sorted { IsSorted events.new.after }
+    ensures met { IsAllMet events.old.after events.new.after }
+    ensures pairs { IsPairCount events.old.after events.new.after result }
+{
+    let mut pairs: u64 = 0;
+    while has_next(events) {
+        if next_meets_last(events) {
+            drop(take_next(events));
+            drop(events.take_last());
+            pairs = pairs.saturating_add(1);
+        } else {
+            events.pass_next();
+        }
+    }
+    rewind(events);
+    pairs
+}
