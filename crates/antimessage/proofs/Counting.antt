@@ -5,13 +5,12 @@ use Rattle.std.specs.declared.cmp.Ordering.TheVariants.{Less, Equal, Greater}
 use Rattle.std.specs.Ordering.{is_gt, is_eq, ordering_reverse}
 use Rattle.std.specs.Cmp.{IsTotalOrder, Equal-is, tied_itself}
 use Rattle.std.specs.Bool.{Decides}
-use Rattle.raw_events.specs.Around.{insert_sorted}
+use Rattle.raw_events.specs.Around.{insert_sorted, first_where, without_where}
 use Rattle.event_keys.specs.declared.message.Signed.{Signed}
 use Rattle.event_keys.specs.contracts.message.SignedOrd.TheImpl.Laws.{total-law, matches_eq-law}
 use Rattle.event_keys.specs.Orders.{signed_order}
 use Rattle.event_keys.specs.Apart.{signed_apart}
 use Rattle.antimessage.specs.Counts.{Each, IsRising, IsSorted, signed_cmp, is_same, count_equal, count}
-use Rattle.antimessage.specs.Bags.{first_where, without_where}
 
 -- two orders, one the other way round, neither of which is greater
 both_ways : (o p : Ordering) → o ≡ ordering_reverse p → is_gt o ≡ false → is_gt p ≡ false → o ≡ Equal

@@ -13,7 +13,8 @@ use Rattle.event_keys.specs.contracts.message.SignedOrd.TheImpl.Laws.{total-law}
 use Rattle.event_keys.specs.Orders.{bound_order}
 use Rattle.antimessage.specs.Counts.{Each, IsSorted, signed_cmp, is_same, plus, minus, count}
 use Rattle.antimessage.proofs.Counting.{counted_inserted, counted_left, counted_none, left_same, signed_decides}
-use Rattle.antimessage.specs.Bags.{first_where, without_where, insert, is_one, remove, has_pair, met, least_of}
+use Rattle.raw_events.specs.Around.{first_where, without_where}
+use Rattle.antimessage.specs.Bags.{insert, is_one, remove, has_pair, met, least_of}
 use Rattle.antimessage.proofs.Sorted.{each_more}
 use borrow.Author.Tests.{ltb-true}
 use Rattle.antimessage.proofs.Meeting.{both_true, one_of, one_no, unlike, one_minus}

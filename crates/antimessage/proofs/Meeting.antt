@@ -16,6 +16,7 @@ use Rattle.event_keys.specs.contracts.message.MessageOrd.TheImpl.Laws.{total-law
 use Rattle.event_keys.specs.contracts.message.SignedOrd.TheImpl.Laws.{total-law as signed_total}
 use Rattle.event_keys.specs.Apart.{message_apart}
 use Rattle.antimessage.specs.Counts.{Each, IsRising, IsSorted, signed_cmp, is_same, plus, minus, count}
+use Rattle.antimessage.specs.Order.{Fits, IsInOrder}
 use Rattle.antimessage.proofs.Counting.{counted_each, counted_first, signed_decides}
 use Rattle.antimessage.specs.Meetings.{can_meet, is_minus, IsAllMet, IsPairCount}
 
@@ -30,6 +31,11 @@ module _ {A : Type 0} (R : A → A → Ordering) where
   rising_fewer (x ∷ b) u v each rising r =
       rising_fewer b (x ∷ u) (x ∷ v) (λ P e. (e.0, each P e.1)) (λ s. (each (λ y. is_gt (R x y) ≡ false) s.0, rising s.1)) r
 
+  -- and of what holds of each item
+  pub each_fewer : (P : A → Type 0) (b u v : List A) → ((Q : A → Type 0) → Each Q u → Each Q v) → Each P (reverse_aux b u) → Each P (reverse_aux b v)
+  each_fewer P [] u v each e = each P e
+  each_fewer P (x ∷ b) u v each e = each_fewer P b (x ∷ u) (x ∷ v) (λ Q f. (f.0, each Q f.1)) e
+
   pub each_before : (b : List A) (x : A) (a : List A) → IsRising R (reverse_aux b (x ∷ a)) → Each (λ y. is_gt (R y x) ≡ false) b
   each_before [] x a r = tt
   each_before (y ∷ b) x a r =
@@ -43,16 +49,16 @@ pub length_along : (b u : List Signed) → length (reverse_aux b u) ≡ length b
 length_along [] u = omega arith
 length_along (x ∷ b) u = omega (arith, length_along b (x ∷ u))
 
--- where a walk stands: the walked list is sorted, what left it left in pairs, and no message before the cursor has both signs
+-- where a walk stands: the walked list is in order, what left it left in pairs, and no message before the cursor has both signs
 pub record IsMeeting (old before after : List Signed) (answer : ℕ) : Type 0 where
-  pub sorted : IsSorted (reverse_aux before after)
+  pub order : IsInOrder (reverse_aux before after)
   pub balanced : (m : Message) → count (plus m) old + count (minus m) (reverse_aux before after) ≡ count (minus m) old + count (plus m) (reverse_aux before after)
   pub apart : (m : Message) → 0 < count (plus m) before → count (minus m) before ≡ 0
   pub counted : IsPairCount old (reverse_aux before after) answer
 
-pub meeting_starts : (old : List Signed) → IsSorted old → IsMeeting old [] old 0
+pub meeting_starts : (old : List Signed) → IsInOrder old → IsMeeting old [] old 0
 meeting_starts old r = record {
-  sorted = r;
+  order = r;
   balanced = λ m. omega arith;
   apart = λ m c. refl;
   counted = record { pairs = 0; left = omega arith; is = omega arith };
@@ -144,9 +150,9 @@ passed_apart m x before after r n apart c =
 
 meeting_passes : (old before after : List Signed) (x : Signed) (answer : ℕ) → can_meet before (x ∷ after) ≡ false → IsMeeting old before (x ∷ after) answer → IsMeeting old (x ∷ before) after answer
 meeting_passes old before after x answer n k = record {
-  sorted = k.sorted;
+  order = k.order;
   balanced = k.balanced;
-  apart = λ m. passed_apart m x before after k.sorted n (k.apart m);
+  apart = λ m. passed_apart m x before after k.order.sorted n (k.apart m);
   counted = k.counted;
 }
 
@@ -183,7 +189,10 @@ meeting_meets old before after x y answer n k =
     let xe : x ≡ plus y.message = (signed_decides x (plus y.message)).0 parts.0 in
     let ye : y ≡ minus y.message = of_minus y.message y.sign parts.1 in
     record {
-      sorted = rising_fewer signed_cmp before (x ∷ y ∷ after) after (λ P e. e.1.1) (λ s. s.1.1) k.sorted;
+      order = record {
+        sorted = rising_fewer signed_cmp before (x ∷ y ∷ after) after (λ P e. e.1.1) (λ s. s.1.1) k.order.sorted;
+        fits = each_fewer signed_cmp Fits before (x ∷ y ∷ after) after (λ P e. e.1.1) k.order.fits;
+      };
       balanced = λ m. balanced_pair old before after y.message m x y xe ye (k.balanced m);
       apart = λ m c. let gone : count (minus m) (x ∷ before) ≡ 0 = k.apart m (omega arith) in omega arith;
       counted = record {

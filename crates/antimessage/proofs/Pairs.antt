@@ -3,10 +3,12 @@ use Rattle.std.proofs.Common.{◌≡◌, refl, sym, ◌∙◌, ap, subst, ℕ, �
 use Rattle.std.proofs.lemmas.Grind.{common_steps}
 use Rattle.event_keys.specs.declared.message.Message.{Message}
 use Rattle.event_keys.specs.declared.message.Signed.{Signed}
+use Rattle.antimessage.specs.Order.{IsInOrder}
 use Rattle.antimessage.specs.Counts.{IsSorted, signed_cmp, is_same, plus, minus, count}
 use Rattle.antimessage.proofs.Counting.{counted_inserted, counted_left, counted_none, left_same, passes, same_counts, signed_decides}
-use Rattle.antimessage.specs.Bags.{first_where, insert, is_one, remove, has_pair, met}
-use Rattle.antimessage.proofs.Sorted.{signed_inserted, signed_left}
+use Rattle.raw_events.specs.Around.{first_where}
+use Rattle.antimessage.specs.Bags.{insert, is_one, remove, has_pair, met}
+use Rattle.antimessage.proofs.Sorted.{signed_inserted, signed_left, order_left}
 use Rattle.antimessage.proofs.Meeting.{one_minus}
 
 and_false : (a : Bool) → a && false ≡ false
@@ -31,11 +33,11 @@ stays m bag e = ap (λ (b : Bool). if b then both_left m bag else bag) e
 pub leaves : (m : Message) (bag : List Signed) → has_pair m bag ≡ true → met m bag ≡ both_left m bag
 leaves m bag e = ap (λ (b : Bool). if b then both_left m bag else bag) e
 
-pub met_sorted : (m : Message) (bag : List Signed) → IsSorted bag → IsSorted (met m bag)
-met_sorted m bag r =
-    elim (has_pair m bag) as (λ b. IsSorted (if b then both_left m bag else bag)) [
-      | true ↦ signed_left (is_one (plus m)) (remove (minus m) bag) (signed_left (is_one (minus m)) bag r)
-      | false ↦ r
+pub met_order : (m : Message) (bag : List Signed) → IsInOrder bag → IsInOrder (met m bag)
+met_order m bag o =
+    elim (has_pair m bag) as (λ b. IsInOrder (if b then both_left m bag else bag)) [
+      | true ↦ order_left (is_one (plus m)) (remove (minus m) bag) (order_left (is_one (minus m)) bag o)
+      | false ↦ o
     ]
 
 -- what was taken goes back to its place

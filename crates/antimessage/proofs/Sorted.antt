@@ -4,11 +4,12 @@ use Rattle.std.specs.declared.cmp.Ordering.{Ordering}
 use Rattle.std.specs.declared.cmp.Ordering.TheVariants.{Less, Equal, Greater}
 use Rattle.std.specs.Ordering.{is_gt, ordering_reverse}
 use Rattle.std.specs.Cmp.{IsTotalOrder}
-use Rattle.raw_events.specs.Around.{insert_sorted}
+use Rattle.raw_events.specs.Around.{insert_sorted, without_where}
 use Rattle.event_keys.specs.declared.message.Signed.{Signed}
 use Rattle.event_keys.specs.contracts.message.SignedOrd.TheImpl.Laws.{total-law}
 use Rattle.antimessage.specs.Counts.{Each, IsRising, IsSorted, signed_cmp}
-use Rattle.antimessage.specs.Bags.{without_where, insert}
+use Rattle.antimessage.specs.Order.{Fits, IsInOrder}
+use Rattle.antimessage.specs.Bags.{insert}
 
 module _ {A : Type 0} where
   -- what holds of each item holds of each that is left
@@ -78,3 +79,15 @@ signed_inserted x xs r = rising_inserted signed_cmp signed_total x xs r
 
 pub signed_left : (test : Signed → Bool) (xs : List Signed) → IsSorted xs → IsSorted (without_where test xs)
 signed_left test xs r = rising_left signed_cmp test xs r
+
+pub order_inserted : (x : Signed) (xs : List Signed) → Fits x → IsInOrder xs → IsInOrder (insert x xs)
+order_inserted x xs p o = record {
+  sorted = signed_inserted x xs o.sorted;
+  fits = each_inserted signed_cmp Fits x xs p o.fits;
+}
+
+pub order_left : (test : Signed → Bool) (xs : List Signed) → IsInOrder xs → IsInOrder (without_where test xs)
+order_left test xs o = record {
+  sorted = signed_left test xs o.sorted;
+  fits = each_left Fits test xs o.fits;
+}

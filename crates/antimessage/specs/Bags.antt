@@ -1,27 +1,11 @@
 -- What the calls of a bag give and leave.
-use Rattle.std.specs.Prelude.{ℕ, ◌==◌, ◌&&◌, Bool, false, List, [], ◌∷◌, Option, None, Some, if◌then◌else◌, not, nat_lt}
-use Rattle.raw_events.specs.Around.{insert_sorted}
+use Rattle.std.specs.Prelude.{ℕ, ◌==◌, ◌&&◌, Bool, List, [], ◌∷◌, if◌then◌else◌, nat_lt}
+use Rattle.raw_events.specs.Around.{insert_sorted, without_where}
 use Rattle.event_keys.specs.declared.key.Bound.{Bound}
 use Rattle.event_keys.specs.declared.key.Bound.TheVariants.{At, End}
 use Rattle.event_keys.specs.declared.message.Message.{Message}
 use Rattle.event_keys.specs.declared.message.Signed.{Signed}
 use Rattle.antimessage.specs.Counts.{signed_cmp, is_same, plus, minus, count}
-
-module _ {A : Type 0} where
-  -- the first item that passes the test, where there is one
-  abbrev pub first_where : (A → Bool) → List A → Option A
-  first_where test [] = None
-  first_where test (x ∷ xs) = if test x then Some x else first_where test xs
-
-  -- all items but the first that passes the test
-  abbrev pub without_where : (A → Bool) → List A → List A
-  without_where test [] = []
-  without_where test (x ∷ xs) = if test x then xs else x ∷ without_where test xs
-
-  -- whether there is a first item, and it fails the test
-  abbrev pub first_fails : (A → Bool) → List A → Bool
-  first_fails test [] = false
-  first_fails test (x ∷ xs) = not (test x)
 
 -- one more of x, in its place
 abbrev pub insert : Signed → List Signed → List Signed

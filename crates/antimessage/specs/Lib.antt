@@ -1,3 +1,4 @@
 pub mod Counts
+pub mod Order
 pub mod Bags
 pub mod Meetings

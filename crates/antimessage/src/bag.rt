@@ -3,10 +3,10 @@ ghost use Rattle.std.specs.Prelude.{◌≡◌, [], not};
 ghost use Rattle.std.specs.Cmp.Lexicographic.{pointwise, lists_per, lists_equiv};
 ghost use Rattle.event_keys.specs.contracts.message.SignedPartialEq.TheImpl.Laws.{laws-law as signed_laws};
 ghost use Rattle.event_keys.specs.contracts.message.SignedEq.TheImpl.Laws.{laws-law as signed_equivalence};
-ghost use Rattle.raw_events.specs.Around.{is_nonempty};
-ghost use Rattle.antimessage.specs.Counts.{IsSorted};
+ghost use Rattle.raw_events.specs.Around.{is_nonempty, first_where, without_where};
+ghost use Rattle.antimessage.specs.Order.{IsInOrder};
 ghost use Rattle.antimessage.specs.Meetings.{IsAllMet, IsPairCount};
-ghost use Rattle.antimessage.specs.Bags.{insert, first_where, without_where, is_to, is_one, remove, has_pair, met, least_of};
+ghost use Rattle.antimessage.specs.Bags.{insert, is_to, is_one, remove, has_pair, met, least_of};
 
 use crate::walks;
 use event_keys::{Bound, Message, Sign, Signed};
@@ -25,13 +25,13 @@ pub struct Bag {
 impl Model for Bag {
     ghost use Rattle.std.specs.Prelude.{◌≡◌, List, []};
     ghost use Rattle.event_keys.specs.declared.message.Signed.{Signed};
-    ghost use Rattle.antimessage.specs.Counts.{IsSorted};
+    ghost use Rattle.antimessage.specs.Order.{IsInOrder};
 
     ghost Value = { List Signed };
 
     ghost view = { λ b. b.events.after };
 
-    ghost invariant = { λ b. (b.events.before ≡ []) × IsSorted b.events.after };
+    ghost invariant = { λ b. (b.events.before ≡ []) × IsInOrder b.events.after };
 }
 
 impl Bag {
@@ -45,15 +45,20 @@ impl Bag {
     }
 
     /// One more of a signed message.
-    #[tactic(auto, using(crate::proofs::Sorted::signed_inserted))]
+    #[tactic(auto, using(crate::proofs::Sorted::order_inserted))]
     pub fn post(&mut self, cell: EventCell<Signed>)
-        ensures { self.new ≡ insert cell self.old }
+        ensures posted { self.new ≡ insert cell self.old }
+        ensures was { IsInOrder self.old }
+        ensures is { IsInOrder self.new }
     {
+        // They are read so that the proof knows that they fit.
+        let key = &cell.value().message.key;
+        let (_component, _number) = (key.component, key.number);
         self.events.insert_sorted(cell);
     }
 
     /// Takes the least that is sent to the component `to` (its number, from 0); `None` only where there is none to it.
-    #[tactic(auto, using(crate::proofs::Sorted::signed_left))]
+    #[tactic(auto, using(crate::proofs::Sorted::order_left))]
     pub fn take(&mut self, to: u16) -> Option<EventCell<Signed>>
         ensures taken { result ≡ first_where (is_to to) self.old }
         ensures rest { self.new ≡ without_where (is_to to) self.old }
@@ -62,16 +67,16 @@ impl Bag {
     }
 
     /// Takes one that equals `signed`; `None` only where there is none.
-    #[tactic(auto, using(crate::proofs::Sorted::signed_left))]
+    #[tactic(auto, using(crate::proofs::Sorted::order_left))]
     pub fn take_equal(&mut self, signed: &Signed) -> Option<EventCell<Signed>>
         ensures taken { result ≡ first_where (is_one signed.now) self.old }
         ensures rest { self.new ≡ remove signed.now self.old }
     {
-        walks::take_one(&mut self.events, &signed.message, signed.sign)
+        self.events.take_equal(signed)
     }
 
     /// One message and its antimessage annihilate. The answer is false where they are not both there, and the bag then stays.
-    #[tactic(auto, using(crate::proofs::Pairs::met_sorted))]
+    #[tactic(auto, using(crate::proofs::Pairs::met_order))]
     pub fn meet(&mut self, message: &Message) -> bool
         ensures answer { result ≡ has_pair message.now self.old }
         ensures left { self.new ≡ met message.now self.old }
@@ -108,7 +113,7 @@ impl Bag {
     /// References to all messages, from the least.
     pub fn iter(&self) -> Iter<'_, Signed>
         ensures items { result ≡ self.now }
-        ensures sorted { IsSorted self.now }
+        ensures order { IsInOrder self.now }
     {
         self.events.iter()
     }
@@ -120,16 +125,7 @@ impl PartialEq for Bag {
     ghost laws = { lists_per signed_laws };
 
     fn eq(&self, other: &Bag) -> bool {
-        let (mut left, mut right) = (self.iter(), other.iter());
-        while let Some(mine) = left.next() {
-            let Some(its) = right.next() else {
-                return false;
-            };
-            if mine != its {
-                return false;
-            }
-        }
-        right.next().is_none()
+        self.events == other.events
     }
 }
 

@@ -6,8 +6,10 @@ ghost use Rattle.event_keys.specs.declared.message.Message.{Message as MessageVa
 ghost use Rattle.event_keys.specs.declared.message.Signed.{Signed as SignedValue};
 ghost use Rattle.event_keys.specs.declared.key.Bound.TheVariants.{At};
 ghost use Rattle.event_keys.specs.Orders.{bound_order};
+ghost use Rattle.antimessage.specs.Order.{IsInOrder};
 ghost use Rattle.antimessage.specs.Counts.{Each, IsSorted, signed_cmp, plus, minus, count};
-ghost use Rattle.antimessage.specs.Bags.{insert, first_where, without_where, is_one, has_pair, met, least_of};
+ghost use Rattle.raw_events.specs.Around.{first_where, without_where};
+ghost use Rattle.antimessage.specs.Bags.{insert, is_one, has_pair, met, least_of};
 
 use crate::bag::Bag;
 
@@ -20,6 +22,13 @@ pub fn counts_law()
 pub fn equal_law(a: &Bag, b: &Bag)
     ensures { Decides (⟦<Bag as PartialEq>⟧.eq a.now b.now) (a.now ≡ b.now) }
 {}
+
+/// A bag is in order, and the numbers of its keys fit their types.
+pub fn order_law(bag: &Bag)
+    ensures { IsInOrder bag.now }
+{
+    let _items = bag.iter();
+}
 
 /// To post adds one to one count, and leaves all others.
 pub fn post_law()

@@ -1,8 +1,9 @@
 //! Walks along a list of signed messages, from its front and back to it.
 ghost use Rattle.std.specs.Prelude.{◌≡◌, ◌++◌, [], reverse};
-ghost use Rattle.raw_events.specs.Around.{head, tail, is_nonempty};
-ghost use Rattle.antimessage.specs.Bags.{first_where, without_where, first_fails, is_to, is_one, has_pair, met};
+ghost use Rattle.raw_events.specs.Around.{head, tail, is_nonempty, first_where, without_where};
+ghost use Rattle.antimessage.specs.Bags.{is_to, is_one, has_pair, met};
 ghost use Rattle.antimessage.specs.Counts.{IsSorted};
+ghost use Rattle.antimessage.specs.Order.{IsInOrder};
 ghost use Rattle.antimessage.specs.Meetings.{IsAllMet, IsPairCount, can_meet};
 
 use event_keys::{Message, Sign, Signed};
@@ -26,62 +27,31 @@ fn rewind(events: &mut EventList<Signed>)
     *events = rewound;
 }
 
-fn next_is_to_another(events: &EventList<Signed>, to: u16) -> bool
-    ensures { result ≡ first_fails (is_to to) events.now.after }
-{
-    match events.peek_next() {
-        None => false,
-        Some(next) => next.message.to != to,
-    }
-}
-
-fn next_differs(events: &EventList<Signed>, message: &Message, sign: Sign) -> bool
-    ensures { result ≡ first_fails (is_one (record { message = message.now; sign = sign })) events.now.after }
-{
-    match events.peek_next() {
-        None => false,
-        Some(next) => !(next.message == *message && next.sign == sign),
-    }
-}
-
 // Takes the first after the cursor that is sent to that component.
 pub(crate) fn take_to(events: &mut EventList<Signed>, to: u16) -> Option<EventCell<Signed>>
-    requires { events.old.before ≡ [] }
     ensures taken { result ≡ first_where (is_to to) events.old.after }
-    ensures rest { events.new ≡ record { before = []; after = without_where (is_to to) events.old.after } }
+    ensures rest { events.new ≡ record events.old { after = without_where (is_to to) events.old.after } }
 {
-    while next_is_to_another(events, to) {
-        events.pass_next();
-    }
-    let taken = take_next(events);
-    rewind(events);
-    taken
+    events.take_where(|next| next.message.to == to)
 }
 
 // Takes the first after the cursor that has this message and this sign.
-pub(crate) fn take_one(
+fn take_one(
     events: &mut EventList<Signed>,
     message: &Message,
     sign: Sign,
 ) -> Option<EventCell<Signed>>
-    requires { events.old.before ≡ [] }
     ensures taken { result ≡ first_where (is_one (record { message = message.now; sign = sign })) events.old.after }
-    ensures rest { events.new ≡ record { before = []; after = without_where (is_one (record { message = message.now; sign = sign })) events.old.after } }
+    ensures rest { events.new ≡ record events.old { after = without_where (is_one (record { message = message.now; sign = sign })) events.old.after } }
 {
-    while next_differs(events, message, sign) {
-        events.pass_next();
-    }
-    let taken = take_next(events);
-    rewind(events);
-    taken
+    events.take_where(|next| next.message == *message && next.sign == sign)
 }
 
 // Takes the message and its antimessage, where both are there.
 pub(crate) fn meet(events: &mut EventList<Signed>, message: &Message) -> bool
-    requires front { events.old.before ≡ [] }
-    requires sorted { IsSorted events.old.after }
+    requires { IsSorted events.old.after }
     ensures answer { result ≡ has_pair message.now events.old.after }
-    ensures left { events.new ≡ record { before = []; after = met message.now events.old.after } }
+    ensures left { events.new ≡ record events.old { after = met message.now events.old.after } }
 {
     match take_one(events, message, Sign::Minus) {
         None => false,
@@ -116,9 +86,9 @@ fn next_meets_last(events: &EventList<Signed>) -> bool
 #[tactic(auto, using(crate::proofs::Meeting::meeting_starts))]
 pub(crate) fn meet_all(events: &mut EventList<Signed>) -> u64
     requires front { events.old.before ≡ [] }
-    requires sorted { IsSorted events.old.after }
+    requires order { IsInOrder events.old.after }
     ensures front { events.new.before ≡ [] }
-    ensures sorted { IsSorted events.new.after }
+    ensures order { IsInOrder events.new.after }
     ensures met { IsAllMet events.old.after events.new.after }
     ensures pairs { IsPairCount events.old.after events.new.after result }
 {

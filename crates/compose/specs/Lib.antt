@@ -2,6 +2,7 @@ pub mod Automata
 pub mod Compatible
 pub mod Each
 pub mod External
+pub mod Fan
 pub mod Found
 pub mod Lists
 pub mod Outcomes
@@ -15,3 +16,5 @@ pub mod Signatures
 pub mod Steps
 pub mod TurnSteps
 pub mod WellFormed
+pub mod SameCompositions
+pub mod SameLaws

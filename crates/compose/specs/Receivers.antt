@@ -1,10 +1,11 @@
 -- The receivers of an action: each once, in order, and all that take it.
-use Rattle.std.specs.Prelude.{◌≡◌, ℕ, zero, suc, ◌+◌, ◌<◌, ◌≤◌, ◌==◌, ◌||◌, ◌&&◌, not, Bool, true, false, cond, List, [], ◌∷◌, filter, refl, length}
+use Rattle.std.specs.Prelude.{◌≡◌, ℕ, zero, suc, ◌+◌, ◌<◌, ◌≤◌, ◌==◌, ◌||◌, ◌&&◌, not, nat_lt, Bool, true, false, cond, List, [], ◌∷◌, filter, refl, length}
 use Rattle.std.specs.List.{range_with_len}
 use Rattle.std.proofs.Common.{arith, ap, sym, ◌∙◌}
+use Rattle.std.proofs.lemmas.Bool.{ltb-true, ltb-false}
 use Rattle.std.proofs.lemmas.Bool.Decides.{nat_tests}
 use Rattle.terms.specs.Named.{Named}
-use Rattle.compose.specs.Automata.{Instance}
+use Rattle.compose.specs.Automata.{Instance, component_at, absent}
 use Rattle.compose.specs.Signatures.{receives, receivers_of, inputs}
 
 -- strictly rising, from a on
@@ -68,8 +69,35 @@ is_kept p j a (suc n) l h = at (λ k. is_kept p j (a + 1) n k (omega arith)) (j 
     there r true = ap (λ s. s || IsIn j (filter p (range_with_len (a + 1) n))) e ∙ r
     there r false = r
 
-pub receivers_all : (composition : List Instance) (a : Named) (i j : ℕ) → j < length composition → IsIn j (receivers_of composition a i) ≡ receives composition i a j
-receivers_all composition a i j h = is_kept (receives composition i a) j 0 (length composition) (omega arith) (omega arith)
+not_above : (p : ℕ → Bool) (j a n : ℕ) → a + n ≤ j → IsIn j (filter p (range_with_len a n)) ≡ false
+not_above p j a zero h = refl
+not_above p j a (suc n) h = go (not_above p j (a + 1) n (omega arith)) (p a) where
+  e : (j == a) ≡ false
+  e = grind (arith, nat_tests)
+
+  go : IsIn j (filter p (range_with_len (a + 1) n)) ≡ false → (b : Bool) → IsIn j (cond b (a ∷ filter p (range_with_len (a + 1) n)) (filter p (range_with_len (a + 1) n))) ≡ false
+  go rest true = ap (λ b. b || IsIn j (filter p (range_with_len (a + 1) n))) e ∙ rest
+  go rest false = rest
+
+-- a component that isn't there has no entries, and so no inputs
+past_absent : (composition : List Instance) (j : ℕ) → length composition ≤ j → component_at composition j ≡ absent
+past_absent [] j h = refl
+past_absent (x ∷ xs) zero h = absurd (omega arith)
+past_absent (x ∷ xs) (suc j) h = past_absent xs j (omega arith)
+
+none_past : (composition : List Instance) (a : Named) (i j : ℕ) → length composition ≤ j → receives composition i a j ≡ false
+none_past composition a i j h = rw (past_absent composition j h) (none (not (j == i))) where
+  none : (b : Bool) → (b && false) ≡ false
+  none true = refl
+  none false = refl
+
+pub receivers_all : (composition : List Instance) (a : Named) (i j : ℕ) → IsIn j (receivers_of composition a i) ≡ receives composition i a j
+receivers_all composition a i j = go (nat_lt j (length composition)) refl where
+  go : (b : Bool) → nat_lt j (length composition) ≡ b → IsIn j (receivers_of composition a i) ≡ receives composition i a j
+  go true h = let within : j < length composition = ltb-true j (length composition) h in is_kept (receives composition i a) j 0 (length composition) (omega arith) (omega arith)
+  go false h =
+      let past : length composition ≤ j = ltb-false j (length composition) h in
+      not_above (receives composition i a) j 0 (length composition) (omega arith) ∙ sym (none_past composition a i j past)
 
 -- what is kept passes the test
 kept_passes : (p : ℕ → Bool) (j : ℕ) (xs : List ℕ) → IsIn j (filter p xs) ≡ true → p j ≡ true

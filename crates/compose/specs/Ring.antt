@@ -42,8 +42,12 @@ node_formals me next first = Int me ∷ Int next ∷ Bool first ∷ []
 abbrev pub node : ℤ → ℤ → Truth → Instance
 node me next first = record { entries = node_entries; start = node_start; tasks = node_tasks; formals = node_formals me next first }
 
+-- two nodes, each of which has the token first where its flag says so
+abbrev pub ring_of : Truth → Truth → List Instance
+ring_of left right = node (pos 0) (pos 1) left ∷ node (pos 1) (pos 0) right ∷ []
+
 abbrev pub ring_of_two : List Instance
-ring_of_two = node (pos 0) (pos 1) true ∷ node (pos 1) (pos 0) false ∷ []
+ring_of_two = ring_of true false
 
 second : (a b : Truth) → ((a && b) || false) ≡ true → b ≡ true
 second true true h = refl
@@ -82,34 +86,6 @@ node_output me next first action h = passed me next first action.args (second (0
 apart : (args : List Scalar) → args ≡ Int (pos 0) ∷ [] → args ≡ Int (pos 1) ∷ [] → ⊥
 apart args zero_is one_is = let e : ◌≡◌ {A = List Scalar} (Int (pos 0) ∷ []) (Int (pos 1) ∷ []) = sym zero_is ∙ one_is in cc
 
-input_output : (i : ℕ) (action : Named) → inputs ring_of_two i action ≡ true → outputs ring_of_two i action ≡ true → ⊥
-input_output zero action p q = apart action.args (node_input (pos 0) (pos 1) true action p) (node_output (pos 0) (pos 1) true action q)
-input_output (suc zero) action p q = apart action.args (node_output (pos 1) (pos 0) false action q) (node_input (pos 1) (pos 0) false action p)
-input_output (suc (suc i)) action p q = cc
-
-no_internal : (i : ℕ) (action : Named) → internals ring_of_two i action ≡ true → ⊥
-no_internal zero action p = cc
-no_internal (suc zero) action p = cc
-no_internal (suc (suc i)) action p = cc
-
-own_outputs : (i j : ℕ) (action : Named) → i ≢ j → outputs ring_of_two i action ≡ true → outputs ring_of_two j action ≡ true → ⊥
-own_outputs zero zero action other p q = other refl
-own_outputs zero (suc zero) action other p q = apart action.args (node_output (pos 1) (pos 0) false action q) (node_output (pos 0) (pos 1) true action p)
-own_outputs zero (suc (suc j)) action other p q = cc
-own_outputs (suc zero) zero action other p q = apart action.args (node_output (pos 1) (pos 0) false action p) (node_output (pos 0) (pos 1) true action q)
-own_outputs (suc zero) (suc zero) action other p q = other refl
-own_outputs (suc zero) (suc (suc j)) action other p q = cc
-own_outputs (suc (suc i)) j action other p q = cc
-
-pub ring_compatible : IsCompatible ring_of_two
-ring_compatible = record {
-  input_output = input_output;
-  input_internal = λ i action p q. no_internal i action q;
-  output_internal = λ i action p q. no_internal i action q;
-  own_internals = λ i j action other p q. no_internal i action p;
-  own_outputs = own_outputs;
-}
-
 -- what is found among a node's entries is one of its two
 taking_is : (e : Transition) → ◌≡◌ {A = Option Transition} (Some taking) (Some e) → e ≡ taking
 taking_is e h = cc
@@ -137,22 +113,8 @@ one_entry me next first differ zero (suc (suc n)) e f action p q h g = cc
 one_entry me next first differ (suc zero) (suc (suc n)) e f action p q h g = cc
 one_entry me next first differ (suc (suc m)) n e f action p q h g = cc
 
-single : (i m n : ℕ) (e f : Transition) (action : Named) → slice_get (component_at ring_of_two i).entries m ≡ Some e → slice_get (component_at ring_of_two i).entries n ≡ Some f → has (component_at ring_of_two i).formals action e ≡ true → has (component_at ring_of_two i).formals action f ≡ true → m ≡ n
-single zero = one_entry (pos 0) (pos 1) true apart
-single (suc zero) = one_entry (pos 1) (pos 0) false (λ args p q. apart args q p)
-single (suc (suc i)) = λ m n e f action p q h g. cc
-
 not_there : (n : ℕ) → times (suc (suc n)) (1 ∷ []) ≡ 0
 not_there n = grind (arith, nat_tests)
-
-tasks : (i place : ℕ) → times place (all_places (component_at ring_of_two i).tasks) ≡ share (slice_get (component_at ring_of_two i).entries place)
-tasks zero zero = refl
-tasks zero (suc zero) = refl
-tasks zero (suc (suc n)) = not_there n
-tasks (suc zero) zero = refl
-tasks (suc zero) (suc zero) = refl
-tasks (suc zero) (suc (suc n)) = not_there n
-tasks (suc (suc i)) n = refl
 
 no_members : (place k : ℕ) (entry : Transition) (members : Listed) → slice_get node_entries place ≡ Some entry → slice_get entry.params k ≡ Some (Member members) → ⊥
 no_members zero k entry members at found = taking_has_none k (ap (λ e. slice_get e.params k) (sym (taking_is entry at)) ∙ found) where
@@ -165,13 +127,57 @@ no_members (suc zero) k entry members at found = passing_has_none k (ap (λ e. s
   passing_has_none (suc k) h = cc
 no_members (suc (suc place)) k entry members at found = cc
 
-complete : (i place k : ℕ) (entry : Transition) (members : Listed) → slice_get (component_at ring_of_two i).entries place ≡ Some entry → slice_get entry.params k ≡ Some (Member members) → is_complete members ≡ true
-complete zero place k entry members at found = absurd (no_members place k entry members at found)
-complete (suc zero) place k entry members at found = absurd (no_members place k entry members at found)
-complete (suc (suc i)) place k entry members at found = cc
+-- whoever has the token first
+module _ (left right : Truth) where
+  input_output : (i : ℕ) (action : Named) → inputs (ring_of left right) i action ≡ true → outputs (ring_of left right) i action ≡ true → ⊥
+  input_output zero action p q = apart action.args (node_input (pos 0) (pos 1) left action p) (node_output (pos 0) (pos 1) left action q)
+  input_output (suc zero) action p q = apart action.args (node_output (pos 1) (pos 0) right action q) (node_input (pos 1) (pos 0) right action p)
+  input_output (suc (suc i)) action p q = cc
 
-pub ring_formed : IsWellFormed ring_of_two
-ring_formed = record { single = single; tasks = tasks; complete = complete }
+  no_internal : (i : ℕ) (action : Named) → internals (ring_of left right) i action ≡ true → ⊥
+  no_internal zero action p = cc
+  no_internal (suc zero) action p = cc
+  no_internal (suc (suc i)) action p = cc
+
+  own_outputs : (i j : ℕ) (action : Named) → i ≢ j → outputs (ring_of left right) i action ≡ true → outputs (ring_of left right) j action ≡ true → ⊥
+  own_outputs zero zero action other p q = other refl
+  own_outputs zero (suc zero) action other p q = apart action.args (node_output (pos 1) (pos 0) right action q) (node_output (pos 0) (pos 1) left action p)
+  own_outputs zero (suc (suc j)) action other p q = cc
+  own_outputs (suc zero) zero action other p q = apart action.args (node_output (pos 1) (pos 0) right action p) (node_output (pos 0) (pos 1) left action q)
+  own_outputs (suc zero) (suc zero) action other p q = other refl
+  own_outputs (suc zero) (suc (suc j)) action other p q = cc
+  own_outputs (suc (suc i)) j action other p q = cc
+
+  pub ring_compatible : IsCompatible (ring_of left right)
+  ring_compatible = record {
+    input_output = input_output;
+    input_internal = λ i action p q. no_internal i action q;
+    output_internal = λ i action p q. no_internal i action q;
+    own_internals = λ i j action other p q. no_internal i action p;
+    own_outputs = own_outputs;
+  }
+
+  single : (i m n : ℕ) (e f : Transition) (action : Named) → slice_get (component_at (ring_of left right) i).entries m ≡ Some e → slice_get (component_at (ring_of left right) i).entries n ≡ Some f → has (component_at (ring_of left right) i).formals action e ≡ true → has (component_at (ring_of left right) i).formals action f ≡ true → m ≡ n
+  single zero = one_entry (pos 0) (pos 1) left apart
+  single (suc zero) = one_entry (pos 1) (pos 0) right (λ args p q. apart args q p)
+  single (suc (suc i)) = λ m n e f action p q h g. cc
+
+  tasks : (i place : ℕ) → times place (all_places (component_at (ring_of left right) i).tasks) ≡ share (slice_get (component_at (ring_of left right) i).entries place)
+  tasks zero zero = refl
+  tasks zero (suc zero) = refl
+  tasks zero (suc (suc n)) = not_there n
+  tasks (suc zero) zero = refl
+  tasks (suc zero) (suc zero) = refl
+  tasks (suc zero) (suc (suc n)) = not_there n
+  tasks (suc (suc i)) n = refl
+
+  complete : (i place k : ℕ) (entry : Transition) (members : Listed) → slice_get (component_at (ring_of left right) i).entries place ≡ Some entry → slice_get entry.params k ≡ Some (Member members) → is_complete members ≡ true
+  complete zero place k entry members at found = absurd (no_members place k entry members at found)
+  complete (suc zero) place k entry members at found = absurd (no_members place k entry members at found)
+  complete (suc (suc i)) place k entry members at found = cc
+
+  pub ring_formed : IsWellFormed (ring_of left right)
+  ring_formed = record { single = single; tasks = tasks; complete = complete }
 
 pub record IsNode (automaton : Automaton) : Type 0 where
   pub entries : map transition_of automaton.entries.items ≡ node_entries
@@ -188,8 +194,8 @@ node_placed node' component me next first is at =
     (λ i. placed (at.formals i) (slice_get (node' ∷ []) (at.automaton i)))
     ∙ (λ i. record { entries = is.entries i; start = is.start i; tasks = is.tasks i; formals = node_formals me next first })
 
-pub ring_made : (automata : List Automaton) (components : List Component) (node' : Automaton) (a b : Component) → automata ≡ node' ∷ [] → components ≡ a ∷ b ∷ [] → IsNode node' → IsPlacedAt a (pos 0) (pos 1) true → IsPlacedAt b (pos 1) (pos 0) false → ring_of_two ≡ composed automata components
-ring_made automata components node' a b one two is at next =
-    let first = node_placed node' a (pos 0) (pos 1) true is at in
-    let second' = node_placed node' b (pos 1) (pos 0) false is next in
+pub ring_made : (left right : Truth) → (automata : List Automaton) (components : List Component) (node' : Automaton) (a b : Component) → automata ≡ node' ∷ [] → components ≡ a ∷ b ∷ [] → IsNode node' → IsPlacedAt a (pos 0) (pos 1) left → IsPlacedAt b (pos 1) (pos 0) right → ring_of left right ≡ composed automata components
+ring_made left right automata components node' a b one two is at next =
+    let first = node_placed node' a (pos 0) (pos 1) left is at in
+    let second' = node_placed node' b (pos 1) (pos 0) right is next in
     sym ((λ i. composed (one i) (two i)) ∙ (λ i. first i ∷ second' i ∷ []))

@@ -1,6 +1,8 @@
 //! Automata and components, their names resolved to numbers.
 ghost use Rattle.std.specs.Prelude.{◌<◌, ◌^◌, vec_len};
 
+mod equal;
+
 use terms::{Effect, Listed, Scalar, Shape, Term};
 
 /// What an automaton does with an action (Lynch, Distributed Algorithms, section 8.1).

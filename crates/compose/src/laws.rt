@@ -1,5 +1,5 @@
 //! Laws of compositions that the crates above cite.
-ghost use Rattle.std.specs.Prelude.{◌≡◌, ◌<◌, ℕ, List, true, false, length, Some};
+ghost use Rattle.std.specs.Prelude.{◌≡◌, ℕ, List, true, false, Some};
 ghost use Rattle.terms.specs.Named.{Named};
 ghost use Rattle.compose.specs.Automata.{Instance};
 ghost use Rattle.compose.specs.Compatible.{IsCompatible};
@@ -13,6 +13,7 @@ ghost use Rattle.compose.specs.Outcomes.{outcome_of};
 ghost use Rattle.compose.specs.WellFormed.{IsWellFormed};
 ghost use Rattle.terms.specs.Datum.{Datum};
 ghost use Rattle.std.specs.Prelude.{◌∷◌, []};
+ghost use Rattle.compose.specs.Plans.{action_texts, member_texts};
 
 use crate::plan::Plan;
 
@@ -33,7 +34,7 @@ pub fn turn_is_step(plan: &Plan)
 pub fn receivers_law()
     ensures own { (composition : List Instance) (action : Named) (sender : ℕ) → receives composition sender action sender ≡ false }
     ensures once { (composition : List Instance) (action : Named) (sender : ℕ) → Rising 0 (receivers_of composition action sender) }
-    ensures all { (composition : List Instance) (action : Named) (sender j : ℕ) → j < length composition → IsIn j (receivers_of composition action sender) ≡ receives composition sender action j }
+    ensures all { (composition : List Instance) (action : Named) (sender j : ℕ) → IsIn j (receivers_of composition action sender) ≡ receives composition sender action j }
     ensures input { (composition : List Instance) (action : Named) (sender j : ℕ) → IsIn j (receivers_of composition action sender) ≡ true → inputs composition j action ≡ true }
 {}
 
@@ -42,4 +43,10 @@ pub fn ring_schedules()
     ensures to_and_fro { IsSchedule ring_of_two (pass_to_1 ∷ pass_to_0 ∷ pass_to_1 ∷ []) }
     ensures not_twice { IsSchedule ring_of_two (pass_to_1 ∷ pass_to_1 ∷ []) → ⊥ }
     ensures not_first { IsSchedule ring_of_two (pass_to_0 ∷ []) → ⊥ }
+{}
+
+/// Two plans are equal exactly where they are the same composition, with the same texts of actions and of members.
+pub fn equal_law(a: &Plan, b: &Plan)
+    ensures same { ⟦<Plan as PartialEq>⟧.eq a.now b.now ≡ true → (composition a.now ≡ composition b.now) × (action_texts a.now ≡ action_texts b.now) × (member_texts a.now ≡ member_texts b.now) }
+    ensures equal { (composition a.now ≡ composition b.now) × (action_texts a.now ≡ action_texts b.now) × (member_texts a.now ≡ member_texts b.now) → ⟦<Plan as PartialEq>⟧.eq a.now b.now ≡ true }
 {}

@@ -7,7 +7,8 @@ pub mod plan;
 
 pub use automaton::{ActionName, Automaton, Component, Entry, Kind, Param};
 pub use plan::Plan;
-pub use plan::ring::ring;
+pub use plan::fan::fan;
+pub use plan::ring::{ring, ring_from};
 
 #[cfg(test)]
 mod tests;

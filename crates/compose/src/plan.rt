@@ -5,6 +5,8 @@ ghost use Rattle.compose.specs.Compatible.{IsCompatible};
 ghost use Rattle.compose.specs.WellFormed.{IsWellFormed};
 
 mod choose;
+mod equal;
+pub mod fan;
 mod find;
 mod names;
 pub mod ring;

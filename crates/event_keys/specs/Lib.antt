@@ -2,3 +2,4 @@ pub mod Orders
 pub mod Entries
 pub mod Ranks
 pub mod Apart
+pub mod Ranked

@@ -1,5 +1,5 @@
 -- Two lists round a cursor, and what the calls do to them.
-use Rattle.std.specs.Prelude.{Bool, true, false, List, [], ◌∷◌, Option, None, Some, if◌then◌else◌, not}
+use Rattle.std.specs.Prelude.{◌≡◌, Bool, true, false, List, [], ◌∷◌, Option, None, Some, if◌then◌else◌, not}
 use Rattle.std.specs.declared.cmp.Ordering.{Ordering}
 use Rattle.std.specs.Ordering.{is_gt}
 
@@ -66,17 +66,29 @@ module _ {T : Type 0} where
   first_is_at_most cmp x [] = false
   first_is_at_most cmp x (y ∷ ys) = not (is_gt (cmp y x))
 
+  -- the answers of a test's calls are those of p
+  abbrev pub Tells : (T → Bool → Type 0) → (T → Bool) → Type 0
+  Tells answers p = (x : T) (b : Bool) → answers x b → b ≡ p x
+
+  -- the first item that passes the test, where there is one
+  abbrev pub first_where : (T → Bool) → List T → Option T
+  first_where test [] = None
+  first_where test (x ∷ xs) = if test x then Some x else first_where test xs
+
+  -- all items but the first that passes the test
+  abbrev pub without_where : (T → Bool) → List T → List T
+  without_where test [] = []
+  without_where test (x ∷ xs) = if test x then xs else x ∷ without_where test xs
+
+  -- whether there is a first item, and it fails the test
+  abbrev pub first_fails : (T → Bool) → List T → Bool
+  first_fails test [] = false
+  first_fails test (x ∷ xs) = not (test x)
+
   -- the first item that equals x, where there is one
   abbrev pub first_equal : (T → T → Bool) → T → List T → Option T
-  first_equal eq x [] = None
-  first_equal eq x (y ∷ ys) = if eq y x then Some y else first_equal eq x ys
+  first_equal eq x = first_where (λ y. eq y x)
 
   -- all items but the first that equals x
   abbrev pub without_first : (T → T → Bool) → T → List T → List T
-  without_first eq x [] = []
-  without_first eq x (y ∷ ys) = if eq y x then ys else y ∷ without_first eq x ys
-
-  -- whether there is a first item, and it differs from x
-  abbrev pub first_differs : (T → T → Bool) → T → List T → Bool
-  first_differs eq x [] = false
-  first_differs eq x (y ∷ ys) = not (eq y x)
+  without_first eq x = without_where (λ y. eq y x)

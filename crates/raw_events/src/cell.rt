@@ -3,7 +3,7 @@ ghost use Rattle.std.specs.Prelude.{◌≡◌, [], ◌∷◌, length, MatchResul
 ghost use Rattle.raw_events.specs.Cells.{the_only};
 
 use crate::line::Line;
-use std::alloc::{AllocFailed, Global};
+use std::alloc::{AllocError, Global};
 use std::marker::Model;
 use std_alloc::room::Vacant;
 
@@ -28,20 +28,33 @@ impl<T: Drop> Drop for EventCell<T> {
     }
 }
 
+/// A value for which there was no memory.
+#[derive(Debug, PartialEq, Eq, Drop)]
+pub struct Refused<T> {
+    pub value: T,
+}
+
+// So that `EventCell::new(alloc, value)?` answers `AllocError`. The value is dropped.
+impl<T: Drop> From<Refused<T>> for AllocError {
+    fn from(_refused: Refused<T>) -> AllocError {
+        AllocError
+    }
+}
+
 impl<T> EventCell<T> {
     /// A node that holds `value`. This is the only call of the crate that takes memory.
     ///
     /// # Errors
     ///
     /// Where the allocator refuses the block of the node, which no clause can rule out; the value comes back.
-    pub fn new(alloc: Global, value: T) -> Result<EventCell<T>, AllocFailed<T>>
+    pub fn new(alloc: Global, value: T) -> Result<EventCell<T>, Refused<T>>
         ensures { MatchResult result (λ cell. cell ≡ value) (λ refused. refused.value ≡ value) }
     {
         match Vacant::take(alloc) {
             Ok(room) => Ok(EventCell {
                 line: Line::one(room, value),
             }),
-            Err(_) => Err(AllocFailed { value }),
+            Err(_) => Err(Refused { value }),
         }
     }
 

@@ -13,7 +13,7 @@ pub(crate) mod slot;
 pub(crate) mod sorted;
 pub(crate) mod strand;
 
-pub use cell::EventCell;
+pub use cell::{EventCell, Refused};
 pub use list::EventList;
 pub use list::iter::Iter;
 

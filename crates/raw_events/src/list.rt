@@ -1,7 +1,8 @@
 //! A list with a cursor.
-ghost use Rattle.std.specs.Prelude.{◌≡◌, [], ◌∷◌, ◌++◌, reverse, IfNone};
+ghost use Rattle.std.specs.Prelude.{◌≡◌, Bool, [], ◌∷◌, ◌++◌, reverse, IfNone};
+ghost use Rattle.std.specs.Fn.{FnReturnsAt};
 ghost use Rattle.std.specs.Option.{option_copied};
-ghost use Rattle.raw_events.specs.Around.{head, tail, is_nonempty, pass_next, pass_back, first_of, without_first_of, insert_sorted, first_equal, without_first};
+ghost use Rattle.raw_events.specs.Around.{head, tail, is_nonempty, pass_next, pass_back, first_of, without_first_of, insert_sorted, Tells, first_where, without_where, first_equal, without_first};
 
 use crate::cell::EventCell;
 use crate::line::Line;
@@ -143,6 +144,16 @@ impl<T> EventList<T> {
         self.after.insert_sorted(cell);
     }
 
+    /// Takes the first item after the cursor that passes the test. `None` where none does, and the list then stays.
+    pub fn take_where<F: Fn(&T) -> bool>(&mut self, test: F) -> Option<EventCell<T>>
+        requires { F.IsAlwaysCallable test }
+        ensures taken { (p : T → Bool) → Tells (FnReturnsAt F.Fn test) p → result ≡ first_where p self.old.after }
+        ensures rest { (p : T → Bool) → Tells (FnReturnsAt F.Fn test) p → self.new ≡ record self.old { after = without_where p self.old.after } }
+        ensures kept { IfNone result (self.new ≡ self.old) }
+    {
+        self.after.take_where(test)
+    }
+
     /// Takes the first item after the cursor that equals `value`. `None` where none does, and the list then stays.
     pub fn take_equal(&mut self, value: &T) -> Option<EventCell<T>>
     where
@@ -151,6 +162,6 @@ impl<T> EventList<T> {
         ensures rest { self.new ≡ record self.old { after = without_first T.eq value.now self.old.after } }
         ensures kept { IfNone result (self.new ≡ self.old) }
     {
-        self.after.take_equal(value)
+        self.take_where(|item| item.eq(value))
     }
 }

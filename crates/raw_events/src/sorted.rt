@@ -1,6 +1,7 @@
 //! The calls on a line that look for a place or for an item.
-ghost use Rattle.std.specs.Prelude.{◌≡◌, IfNone};
-ghost use Rattle.raw_events.specs.Around.{first_is_at_most, insert_sorted, first_differs, first_equal, without_first};
+ghost use Rattle.std.specs.Prelude.{◌≡◌, ◌<◌, Bool, IsTrue, IfNone, length};
+ghost use Rattle.std.specs.Fn.{FnReturnsAt};
+ghost use Rattle.raw_events.specs.Around.{first_is_at_most, insert_sorted, Tells, first_where, without_where, first_fails};
 
 use crate::cell::EventCell;
 use crate::line::Line;
@@ -14,12 +15,12 @@ impl<T> Line<T> {
         !self.is_empty() && !self.first().cmp(value).is_gt()
     }
 
-    fn first_differs(&self, value: &T) -> bool
-    where
-        T: PartialEq,
-        ensures { result ≡ first_differs T.eq value.now self.now }
+    fn first_fails<F: Fn(&T) -> bool>(&self, test: &F) -> bool
+        requires { F.IsAlwaysCallable test.now }
+        ensures some { IsTrue result → 0 < length self.now }
+        ensures told { (p : T → Bool) → Tells (FnReturnsAt F.Fn test.now) p → result ≡ first_fails p self.now }
     {
-        !self.is_empty() && !self.first().eq(value)
+        !self.is_empty() && !test(self.first())
     }
 
     pub(crate) fn insert_sorted(&mut self, cell: EventCell<T>)
@@ -36,15 +37,14 @@ impl<T> Line<T> {
         self.prepend(passed);
     }
 
-    pub(crate) fn take_equal(&mut self, value: &T) -> Option<EventCell<T>>
-    where
-        T: PartialEq,
-        ensures taken { result ≡ first_equal T.eq value.now self.old }
-        ensures rest { self.new ≡ without_first T.eq value.now self.old }
+    pub(crate) fn take_where<F: Fn(&T) -> bool>(&mut self, test: F) -> Option<EventCell<T>>
+        requires { F.IsAlwaysCallable test }
+        ensures taken { (p : T → Bool) → Tells (FnReturnsAt F.Fn test) p → result ≡ first_where p self.old }
+        ensures rest { (p : T → Bool) → Tells (FnReturnsAt F.Fn test) p → self.new ≡ without_where p self.old }
         ensures kept { IfNone result (self.new ≡ self.old) }
     {
         let mut passed = Line::new();
-        while self.first_differs(value) {
+        while self.first_fails(&test) {
             let one = self.take_first();
             passed.append(one);
         }

@@ -1,4 +1,5 @@
 use crate::{EventCell, EventList};
+use std::alloc::AllocError;
 use std::process::Abort;
 use std::rc::Rc;
 use std::test::Fail;
@@ -62,6 +63,21 @@ fn calls_on_a_row(rt: HostRuntime) -> Result<(), Fail> {
     assert_eq!(rt; value_of(list.take_last()), None);
     assert_eq!(rt; value_of(list.take_first()), Some(3));
     assert_items(&rt, list, &[], &[5, 7]);
+    Ok(())
+}
+
+// A caller that names its error.
+fn cell<R: AllocGlobal>(rt: &R, value: u64) -> Result<EventCell<u64>, AllocError> {
+    Ok(EventCell::new(rt.alloc(), value)?)
+}
+
+#[test]
+fn takes_the_first_that_passes(rt: HostRuntime) -> Result<(), Fail> {
+    let mut list = row(&rt)?;
+    list.insert_sorted(cell(&rt, 9)?);
+    assert_eq!(rt; value_of(list.take_where(|value| *value > 5)), Some(7));
+    assert_eq!(rt; value_of(list.take_where(|value| *value < 5)), None);
+    assert_items(&rt, list, &[1, 3], &[5, 9]);
     Ok(())
 }
 

@@ -1,6 +1,6 @@
 -- The machine of a setup meets the laws of the theory.
-use Rattle.std.specs.Prelude.{◌≡◌, ℕ, zero, suc, ◌+◌, ◌*◌, ◌^◌, ◌<◌, ◌≤◌, ◌==◌, nat_lt, nat_le, Bool, true, false, not, ◌&&◌, Option, None, Some, is_some, List, [], ◌∷◌, length, get_or, if◌then◌else◌, refl}
-use Rattle.std.specs.List.{list_any, list_all}
+use Rattle.std.specs.Prelude.{◌≡◌, ℕ, zero, suc, ◌+◌, ◌^◌, ◌<◌, ◌≤◌, ◌==◌, nat_lt, nat_le, Bool, true, false, not, ◌&&◌, Some, is_some, List, [], ◌∷◌, length, refl}
+use Rattle.std.specs.List.{list_all}
 use Rattle.std.specs.declared.cmp.Ordering.{Ordering}
 use Rattle.std.specs.declared.cmp.Ordering.TheVariants.{Less, Equal, Greater}
 use Rattle.std.specs.Ordering.{is_eq, is_gt, ordering_reverse}
@@ -11,9 +11,9 @@ use Rattle.terms.specs.Named.{Named}
 use Rattle.event_keys.specs.Apart.{action_apart}
 use Rattle.event_keys.specs.Orders.{action_order}
 use Rattle.event_keys.specs.Ranks.{rank, owner_of}
-use Rattle.virtual_time.specs.Machine.{Machine, Lawful, HasCount}
+use Rattle.virtual_time.specs.Machine.{Lawful, HasCount}
 use Rattle.compose.specs.Automata.{Instance, component_at, absent}
-use Rattle.compose.specs.Signatures.{receives, inputs}
+use Rattle.compose.specs.Signatures.{receives}
 use Rattle.compose.specs.Receivers.{no_own}
 use Rattle.task_seed.specs.declared.turns.Turn.{Turn}
 use Rattle.task_seed.specs.Turning.{System, ticks, has_turns, first_turns, key_at}

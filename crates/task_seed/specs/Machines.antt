@@ -1,6 +1,5 @@
 -- The machine of a setup, whose Time Warp is the theory's.
 use Rattle.std.specs.Prelude.{ℕ, ◌+◌, ◌^◌, nat_lt, Bool, not, ◌&&◌, Option, None, Some, List, length, if◌then◌else◌}
-use Rattle.std.specs.declared.cmp.Ordering.{Ordering}
 use Rattle.std.specs.Ordering.{is_eq, is_gt}
 use Rattle.terms.specs.Datum.{Datum}
 use Rattle.terms.specs.Named.{Named}

@@ -11,7 +11,7 @@ use thiserror::Error;
 pub const MOST_TICKS: u64 = 4_294_967_296;
 
 /// What a simulation runs: a composition, its turns and the last tick.
-#[derive(Drop)]
+#[derive(PartialEq, Eq, Drop)]
 pub struct Setup<T> {
     plan: Plan,
     turns: T,

@@ -2,8 +2,9 @@
 ghost use Rattle.std.specs.Prelude.{◌≡◌, [], IsSome};
 
 use super::*;
-use compose::ring;
+use compose::{ring, ring_from};
 use event_keys::Key;
+use std::alloc::Global;
 use std::test::Fail;
 use terms::Refusal;
 
@@ -142,6 +143,37 @@ fn a_horizon_is_refused_above_its_limit(rt: HostRuntime) -> Result<(), Fail> {
                 assert_eq!(rt; fault.place(), None);
             }
         }
+    }
+    Ok(())
+}
+
+fn setup_of(
+    alloc: Global,
+    first_token: bool,
+    table: &[u8],
+    horizon: u64,
+) -> Result<Setup<TableTurns>, Fail> {
+    let plan = ring_from(alloc, first_token, !first_token)?;
+    let rows = read_table(alloc, table)?;
+    let turns = TableTurns::new(alloc, &plan, &rows)?;
+    Ok(Setup::new(plan, turns, horizon)?)
+}
+
+#[test]
+fn setups_are_equal_where_plans_turns_and_horizons_are(rt: HostRuntime) -> Result<(), Fail> {
+    let alloc = rt.alloc();
+    let setup = setup_of(alloc, true, TABLE, 3)?;
+    let others: [(bool, &[u8], u64, bool); 5] = [
+        (true, TABLE, 3, true),
+        (false, TABLE, 3, false),
+        (true, TABLE, 4, false),
+        (true, b"0 2 0 0\n0 2 0 0\n1 1 0 0\n1 2 0 1\n", 3, false),
+        (true, b"", 3, false),
+    ];
+    for (first_token, table, horizon, same) in others {
+        let other = setup_of(alloc, first_token, table, horizon)?;
+        laws::equal_setup_law(&setup, &other);
+        assert!(rt; (setup == other) == same, "at the horizon {horizon}");
     }
     Ok(())
 }

@@ -12,3 +12,6 @@ pub mod TermTree
 pub mod Turns
 pub mod Named
 pub mod Orders
+pub mod DerivedSame
+pub mod SameTrees
+pub mod SameTreeLaws

@@ -12,6 +12,9 @@ pub trait Cells {
     /// The values of the cells, in order.
     ghost values: { Self → List Datum };
 
+    /// The states to which it can go back, which no write changes.
+    ghost marked: { Self → List (List Datum) };
+
     /// The value in a cell; `None` where there is no such cell.
     fn get(&self, cell: usize) -> Option<&Value>
         ensures { option_copied result ≡ slice_get (values self.now) cell };
@@ -19,13 +22,15 @@ pub trait Cells {
     /// Puts a value into a cell; nothing changes where there is no such cell. A refused call changes nothing.
     fn set(&mut self, cell: usize, value: Value) -> Result<(), NoMemory>
         ensures ok { OnOk result (values self.new ≡ slice_set (values self.old) cell value) }
-        ensures err { OnErr result (values self.new ≡ values self.old) };
+        ensures err { OnErr result (values self.new ≡ values self.old) }
+        ensures marked { marked self.new ≡ marked self.old };
 
     /// Puts a value in the place of one item of the array or sequence in a cell, its items counted from 0; nothing changes
     /// where there is no such item. A refused call changes nothing.
     fn set_at(&mut self, cell: usize, index: usize, value: Value) -> Result<(), NoMemory>
         ensures ok { OnOk result (values self.new ≡ set_item cell index value (values self.old)) }
-        ensures err { OnErr result (values self.new ≡ values self.old) };
+        ensures err { OnErr result (values self.new ≡ values self.old) }
+        ensures marked { marked self.new ≡ marked self.old };
 }
 
 /// The values of formals, parameters and loop variables, each list numbered from 0.

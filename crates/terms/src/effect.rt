@@ -4,7 +4,7 @@ use crate::scalar::Listed;
 use crate::term::Term;
 
 /// What a transition does to its state.
-#[derive(Debug, Drop)]
+#[derive(Debug, PartialEq, Eq, Drop)]
 pub enum Effect {
     /// The state stays.
     Nothing,

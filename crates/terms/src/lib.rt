@@ -9,6 +9,7 @@ mod action;
 mod cells;
 mod effect;
 pub mod evaluate;
+pub mod laws;
 mod number;
 pub mod parts;
 mod perform;

@@ -26,6 +26,7 @@ pub fn run<C: Cells>(
 ) -> Result<(), NoMemory>
     ensures ok { OnOk result (C.values cells.new ≡ after (effect_tree effect.now) (scope env.now) (C.values cells.old)) }
     ensures err { OnErr result (IsPart (effect_tree effect.now) (scope env.now) (C.values cells.old) (C.values cells.new)) }
+    ensures marked { C.marked cells.new ≡ C.marked cells.old }
 {
     match effect {
         Effect::Nothing => Ok(()),
@@ -67,6 +68,7 @@ fn turns<C: Cells>(
 ) -> Result<(), NoMemory>
     ensures ok { OnOk result (C.values cells.new ≡ each (turn slot (effect_tree body.now) (scope env.now)) (members listed) (C.values cells.old)) }
     ensures err { OnErr result (AreParts (turn slot (effect_tree body.now) (scope env.now)) (IsPartOfTurn slot (effect_tree body.now) (scope env.now)) (members listed) (C.values cells.old) (C.values cells.new)) }
+    ensures marked { C.marked cells.new ≡ C.marked cells.old }
 {
     for k in 0..parts::count_of(listed) {
         let inner = Env {

@@ -1,5 +1,5 @@
 //! A state as a plain list of values.
-ghost use Rattle.std.specs.Prelude.{◌≡◌, IsOk, slice_set};
+ghost use Rattle.std.specs.Prelude.{◌≡◌, [], IsOk, slice_set};
 ghost use Rattle.terms.specs.Shapes.{set_item};
 
 use crate::cells::Cells;
@@ -44,6 +44,8 @@ impl State {
 #[tactic(auto, using(crate::specs::Turns::items))]
 impl Cells for State {
     ghost values = { λ s. s };
+
+    ghost marked = { λ _. [] };
 
     fn get(&self, cell: usize) -> Option<&Value> {
         self.values.get(cell)

@@ -24,7 +24,7 @@ pub enum Operator {
 }
 
 /// A term, its names resolved to numbers.
-#[derive(Debug, Drop)]
+#[derive(Debug, PartialEq, Eq, Drop)]
 pub enum Term {
     /// A literal.
     Known(Scalar),

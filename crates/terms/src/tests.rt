@@ -407,6 +407,8 @@ fn values_and_their_copies(rt: HostRuntime) -> Result<(), Fail> {
     let kept = copy(rt.alloc(), &value)?;
     value.put_item(1, list(rt.alloc(), &[5])?);
     assert!(rt; value != kept);
+    assert!(rt; value.is_list());
+    assert!(rt; !Value::of_scalar(Scalar::Int(1)).is_list());
     assert_eq!(rt; copy_all(rt.alloc(), kept.items())?.len(), 3);
     assert_eq!(rt; value.into_items(rt.alloc()).len(), 3);
     Ok(())
@@ -434,4 +436,61 @@ fn actions_by_name_then_arguments_from_the_left(rt: HostRuntime) -> Result<(), F
 fn want_of_memory_is_number_1(rt: HostRuntime) {
     assert_eq!(rt; NoMemory.number(), 1);
     assert_eq!(rt; NoMemory.place(), None);
+}
+
+fn choice(alloc: Global, cell: usize, slot: usize, last: i64) -> Result<Effect, NoMemory> {
+    let rest = Effect::Assign(
+        cell,
+        binary(alloc, Operator::Plus, Term::Cell(cell), int(last))?,
+    );
+    let each = Effect::For(slot, Listed::Bool, Box::new(alloc, rest)?);
+    let nothing = Box::new(alloc, Effect::Nothing)?;
+    Ok(Effect::If(Term::Formal(0), Box::new(alloc, each)?, nothing))
+}
+
+#[test]
+fn terms_are_equal_where_all_their_parts_are(rt: HostRuntime) -> Result<(), Fail> {
+    let alloc = rt.alloc();
+    let item = Shape::Seq(Box::new(alloc, Shape::Range(0, 9))?, 3);
+    let other = Shape::Seq(Box::new(alloc, Shape::Range(0, 8))?, 3);
+    let terms = [
+        int(1),
+        Term::Known(Scalar::Bool(true)),
+        Term::Formal(1),
+        Term::Cell(1),
+        binary(alloc, Operator::Plus, int(1), Term::Cell(0))?,
+        binary(alloc, Operator::Plus, Term::Cell(0), int(1))?,
+        binary(alloc, Operator::Minus, int(1), Term::Cell(0))?,
+        head(alloc, 1, item)?,
+        head(alloc, 1, other)?,
+        append(alloc, 0, int(1), 3)?,
+        append(alloc, 0, int(1), 4)?,
+    ];
+    for (k, one) in terms.iter().enumerate() {
+        for (n, other) in terms.iter().enumerate() {
+            laws::equal_terms_law(one, other);
+            assert!(rt; (one == other) == (k == n), "at {k} and {n}");
+        }
+    }
+    assert!(rt; head(alloc, 2, Shape::Int)? == head(alloc, 2, Shape::Int)?);
+    laws::equal_shapes_law(&Shape::Int, &Shape::Listed(Listed::Bool));
+    Ok(())
+}
+
+#[test]
+fn effects_are_equal_where_all_their_parts_are(rt: HostRuntime) -> Result<(), Fail> {
+    let alloc = rt.alloc();
+    let effect = choice(alloc, 0, 0, 1)?;
+    let others = [
+        choice(alloc, 0, 0, 1)?,
+        choice(alloc, 0, 0, 2)?,
+        choice(alloc, 0, 1, 1)?,
+        choice(alloc, 1, 0, 1)?,
+        Effect::Nothing,
+    ];
+    for (k, other) in others.iter().enumerate() {
+        laws::equal_effects_law(&effect, other);
+        assert!(rt; (effect == *other) == (k == 0), "at {k}");
+    }
+    Ok(())
 }

@@ -1,5 +1,5 @@
 //! Values.
-ghost use Rattle.std.specs.Prelude.{◌≡◌, IfOk, slice_get, slice_set};
+ghost use Rattle.std.specs.Prelude.{◌≡◌, if◌then◌else◌, IfOk, slice_get, slice_set};
 ghost use lib.Pointwise.{pointwise};
 ghost use Rattle.std.specs.Cmp.{partial_equiv_from_equiv};
 ghost use Rattle.terms.specs.Datum.{Just, pack, items_of, scalar_of};
@@ -96,6 +96,16 @@ impl Value {
         match &self.node {
             Node::Scalar(_) => &[],
             Node::Items(items) => items.as_slice(),
+        }
+    }
+
+    /// Whether it is a sequence or an array, and not a scalar.
+    pub fn is_list(&self) -> bool
+        ensures { self.now ≡ (if result then pack (items_of self.now) else Just (scalar_of self.now)) }
+    {
+        match &self.node {
+            Node::Scalar(_) => false,
+            Node::Items(_) => true,
         }
     }
 

@@ -1,0 +1,4 @@
+mod Cells
+mod Earliest
+mod Likeness
+mod Sameness

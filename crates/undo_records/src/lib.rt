@@ -2,6 +2,8 @@
 #![tactic(auto)]
 
 mod change;
+mod first;
+pub mod laws;
 mod store;
 
 pub use store::Store;

@@ -4,6 +4,7 @@ ghost use Rattle.undo_records.specs.Changes.{restored, unwound, noted, changes_i
 ghost use Rattle.terms.specs.Shapes.{set_item};
 
 use crate::change::Change;
+use crate::first::{Traced, is_same_first};
 use std::alloc::Global;
 use std::collections::VecDeque;
 use std::marker::Model;
@@ -34,6 +35,7 @@ impl Model for Store {
 
 impl Store {
     ghost use Rattle.undo_records.specs.States.{marked, undone, has_marked, without_first};
+    ghost use Rattle.undo_records.specs.First.{first_state, same_state};
 
     /// A store of one state.
     pub fn new(alloc: Global, state: State) -> Result<Store, NoMemory>
@@ -68,6 +70,13 @@ impl Store {
         }
     }
 
+    /// The number of the marked states below the current one.
+    pub fn marks(&self) -> usize
+        ensures { result ≡ length self.now.below }
+    {
+        self.marks.len()
+    }
+
     /// Drops the first `count` states. Takes no memory.
     pub fn forget_first(&mut self, count: usize)
         requires { count < length self.old.below + 1 }
@@ -76,10 +85,37 @@ impl Store {
         let left = self.marks.len() - count;
         self.marks.truncate(left);
     }
+
+    /// Whether the first states of two stores are equal. Takes no memory.
+    pub fn has_same_first(&self, other: &Store) -> bool
+        ensures { result ≡ same_state (first_state self.now) (first_state other.now) }
+    {
+        if self.current.len() != other.current.len() {
+            return false;
+        }
+        for (cell, value) in self.current.iter().enumerate() {
+            let mine = Traced {
+                cell,
+                current: value,
+                marks: &self.marks,
+            };
+            let theirs = Traced {
+                cell,
+                current: &other.current[cell],
+                marks: &other.marks,
+            };
+            if !is_same_first(mine, theirs) {
+                return false;
+            }
+        }
+        true
+    }
 }
 
 impl Cells for Store {
     ghost values = { λ s. s.current };
+
+    ghost marked = { λ s. s.below };
 
     fn get(&self, cell: usize) -> Option<&Value> {
         self.current.get(cell)

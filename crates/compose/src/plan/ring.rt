@@ -1,7 +1,7 @@
 //! The ring of two, built in until sources are read.
 ghost use Rattle.std.specs.Prelude.{◌≡◌, IfOk, pos};
 ghost use Rattle.compose.specs.Plans.{composition, action_texts, member_texts, text_of};
-ghost use Rattle.compose.specs.Ring.{ring_of_two, IsNode, IsPlacedAt};
+ghost use Rattle.compose.specs.Ring.{ring_of, ring_of_two, IsNode, IsPlacedAt};
 ghost use Rattle.compose.specs.Automata.{transition_of};
 ghost use Rattle.std.specs.Prelude.{◌∷◌, [], codes};
 ghost use Rattle.terms.specs.TermTree.{term_tree, Known};
@@ -21,9 +21,18 @@ pub fn ring(alloc: Global) -> Result<Plan, NoMemory>
     ensures actions { IfOk result (λ plan. action_texts plan ≡ codes "pass" ∷ []) }
     ensures members { IfOk result (λ plan. member_texts plan ≡ []) }
 {
+    ring_from(alloc, true, false)
+}
+
+/// The same two nodes, each of which has the token first where its flag says so.
+pub fn ring_from(alloc: Global, first_token: bool, second_token: bool) -> Result<Plan, NoMemory>
+    ensures composition { IfOk result (λ plan. composition plan ≡ ring_of first_token second_token) }
+    ensures actions { IfOk result (λ plan. action_texts plan ≡ codes "pass" ∷ []) }
+    ensures members { IfOk result (λ plan. member_texts plan ≡ []) }
+{
     let node = node(alloc)?;
-    let first = placed(alloc, 0, 1, true)?;
-    let second = placed(alloc, 1, 0, false)?;
+    let first = placed(alloc, 0, 1, first_token)?;
+    let second = placed(alloc, 1, 0, second_token)?;
     let automata = Vec::from_array(alloc, [node])?;
     let components = Vec::from_array(alloc, [first, second])?;
     let actions = Vec::from_array(alloc, [pass(alloc)?])?;

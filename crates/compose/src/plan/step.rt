@@ -21,7 +21,8 @@ impl Plan {
     }
 
     /// Changes the state of component `i` by an action that it has; another action changes nothing. After a refusal some
-    /// first part of the assignments is done, and the caller goes back to the state before.
+    /// first part of the assignments is done, and the caller goes back to the state before. The states to which the cells can go
+    /// back stay.
     pub fn apply<C: Cells>(
         &self,
         alloc: Global,
@@ -31,6 +32,7 @@ impl Plan {
     ) -> Result<(), NoMemory>
         ensures ok { OnOk result (C.values cells.new ≡ applied (composition self.now) i action.now (C.values cells.old)) }
         ensures err { OnErr result (IsPartApplied (composition self.now) i action.now (C.values cells.old) (C.values cells.new)) }
+        ensures marked { C.marked cells.new ≡ C.marked cells.old }
     {
         match self.entry(i, action) {
             Some(entry) => {

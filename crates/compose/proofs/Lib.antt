@@ -1,0 +1,2 @@
+mod FanFormed
+mod Pairs
