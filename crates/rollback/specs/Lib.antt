@@ -1,0 +1,11 @@
+pub mod Flight
+pub mod Post
+pub mod Replays
+pub mod Held
+pub mod Kept
+pub mod Refusals
+pub mod Coming
+pub mod Dropped
+pub mod Runs
+pub mod Same
+pub mod SameLaws

@@ -1,0 +1,263 @@
+//! One component: what it has done, what waits, and its state.
+ghost use Rattle.std.specs.Prelude.{◌≡◌, ◌<◌, ◌+◌, ◌∷◌, ◌↔◌, [], None, Some, IfSome, true, length, IfOk, OnOk, OnErr, IsErrOf, IsTrue, IsSomeAnd};
+ghost use Rattle.std.specs.Arc.{arc_value};
+ghost use Rattle.event_keys.specs.declared.key.Bound.TheVariants.{At};
+ghost use Rattle.event_keys.specs.declared.message.Sign.TheVariants.{Plus, Minus};
+ghost use Rattle.event_keys.specs.Ranks.{rank, rank_of_bound};
+ghost use Rattle.raw_events.specs.Around.{is_nonempty};
+ghost use Rattle.compose.specs.Plans.{composition};
+ghost use Rattle.virtual_time.specs.Bags.{IsSorted};
+ghost use Rattle.virtual_time.specs.Entries.{entry_key};
+ghost use Rattle.virtual_time.specs.Records.{next_of, roll_back_of, unsent};
+ghost use Rattle.task_seed.specs.Setups.{plan_of};
+ghost use Rattle.rollback.specs.declared.refused.ProcessRefused.TheVariants.{NoMemory as OutOfMemory};
+ghost use Rattle.task_seed.specs.Machines.{end_rank};
+ghost use Rattle.task_seed.specs.Setups.{system};
+ghost use Rattle.task_seed.specs.Turning.{key_of};
+ghost use Rattle.rollback.specs.Held.{machine_of, processed, sent_next, next_key, last_of, is_receiving, is_turning, start_record};
+ghost use Rattle.rollback.specs.Kept.{IsSmall};
+ghost use Rattle.rollback.specs.Post.{IsPosted};
+
+use crate::done::Done;
+use crate::growth::{outcome_at, post_all, take_input, take_turn};
+use crate::keys::{fits, is_below};
+use crate::refused::ProcessRefused;
+use antimessage::Bag;
+use compose::laws::receivers_law;
+use event_keys::{Bound, Key, Signed, Turned};
+use raw_events::EventList;
+use std::alloc::Global;
+use std::marker::Model;
+use std::sync::Arc;
+use task_seed::{Setup, Turns};
+use terms::NoMemory;
+use undo_records::Store;
+
+/// A component of a setup, with its record: the bound and the state of its base, the done entries since then, the pending
+/// inputs, the owed antimessages, and its next turn. It is seen as the setup, its number, the bound and the record.
+#[derive(Drop)]
+pub struct Component<T: Turns> {
+    pub(crate) setup: Arc<Setup<T>>,
+    pub(crate) number: u16,
+    pub(crate) base: Bound,
+    // The number of the first turn after the base.
+    pub(crate) first: u64,
+    // One state for each done entry, and the current one.
+    pub(crate) store: Store,
+    // All before the cursor, but inside a call.
+    pub(crate) done: EventList<Done>,
+    // All after the cursor, as the owed antimessages are.
+    pub(crate) pending: EventList<Signed>,
+    pub(crate) owed: EventList<Signed>,
+    // The key of the next turn, if there is one.
+    pub(crate) coming: Option<Key>,
+}
+
+impl<T: Turns> Model for Component<T> {
+    ghost use Rattle.std.specs.Arc.{arc_value};
+    ghost use Rattle.task_seed.specs.declared.setup.Setup.{Setup};
+    ghost use Rattle.rollback.specs.Held.{Held};
+    ghost use Rattle.std.specs.Coded.{codes};
+    ghost use Rattle.terms.specs.Datum.{datum_code};
+    ghost use Rattle.terms.specs.contracts.scalar.Shape as shape;
+    ghost use Rattle.terms.specs.contracts.term.Term as term;
+    ghost use Rattle.terms.specs.contracts.effect.Effect as effect;
+
+    ghost Value = { Held (Setup T) };
+
+    ghost coded = { Prim.hlevel (codes, shape.the_row.coded, term.the_row.coded, effect.the_row.coded, datum_code) };
+
+    ghost use Rattle.task_seed.specs.Setups.{system};
+    ghost use Rattle.rollback.specs.Kept.{record_of, IsKept};
+
+    ghost view = { λ c. record { setup = arc_value c.setup; number = c.number; base = c.base; history = record_of c.store c.first c.done c.pending c.owed } };
+
+    ghost invariant = { λ c. IsKept (system T.turn_of (arc_value c.setup)) c.number c.first c.store c.done c.pending c.owed c.coming };
+}
+
+impl<T: Turns> Component<T> {
+    /// Component `number` of a setup, at its start.
+    pub fn new(alloc: Global, setup: Arc<Setup<T>>, number: u16) -> Result<Component<T>, NoMemory>
+        requires { number < length (composition (plan_of (arc_value setup))) }
+        ensures { IfOk result (λ c. c ≡ record { setup = arc_value setup; number = number; base = At (record { tick = 0; component = 0; number = 0 }); history = start_record (machine_of T.turn_of (arc_value setup)) number }) }
+    {
+        let state = setup.plan().start(alloc, number)?;
+        let store = Store::new(alloc, state)?;
+        let coming = first_key(&setup, number);
+        Ok(Component {
+            setup,
+            number,
+            base: Bound::At(Key {
+                tick: 0,
+                component: 0,
+                number: 0,
+            }),
+            first: 0,
+            store,
+            done: EventList::new(),
+            pending: EventList::new(),
+            owed: EventList::new(),
+            coming,
+        })
+    }
+
+    /// The setup.
+    pub fn setup(&self) -> &Setup<T>
+        ensures { result.now ≡ self.now.setup }
+    {
+        &self.setup
+    }
+
+    /// The pending inputs and the owed antimessages are in order. The call does nothing.
+    pub fn is_in_order(&self)
+        ensures pending { IsSorted (machine_of T.turn_of self.now.setup) self.now.history.pending }
+        ensures owed { IsSorted (machine_of T.turn_of self.now.setup) self.now.history.owed }
+    {
+        let _pending = self.pending.peek_next();
+    }
+
+    /// The key of the entry that is processed next, or the end where there is none.
+    pub fn next(&self) -> Bound
+        ensures { rank_of_bound result ≡ next_key (machine_of T.turn_of self.now.setup) (next_of (machine_of T.turn_of self.now.setup) self.now.number self.now.history) }
+    {
+        if self.is_input_next() {
+            return match self.pending.peek_next() {
+                None => Bound::End,
+                Some(first) => Bound::At(first.message.key),
+            };
+        }
+        match self.coming {
+            None => Bound::End,
+            Some(key) => Bound::At(key),
+        }
+    }
+
+    // Whether the next entry is the first pending input.
+    fn is_input_next(&self) -> bool
+        ensures { result ≡ is_receiving (next_of (machine_of T.turn_of self.now.setup) self.now.number self.now.history) }
+    {
+        match (self.pending.peek_next(), self.coming) {
+            (None, _) => false,
+            (Some(_), None) => true,
+            (Some(first), Some(own)) => is_below(first.message.key, own),
+        }
+    }
+
+    /// Does the next entry, and posts a message for each receiver of what a turn did. The answer is the entry's key. A refusal
+    /// leaves the component and the bag.
+    pub fn process(&mut self, alloc: Global, out: &mut Bag) -> Result<Key, ProcessRefused>
+        ensures key { IfOk result (λ key. IsSomeAnd (next_of (machine_of T.turn_of self.old.setup) self.old.number self.old.history) (λ entry. entry_key entry ≡ rank key)) }
+        ensures record { OnOk result (self.new ≡ record self.old { history = processed (next_of (machine_of T.turn_of self.old.setup) self.old.number self.old.history) self.old.history }) }
+        ensures sent { OnOk result (IsPosted Plus (sent_next (machine_of T.turn_of self.old.setup) self.old.number (next_of (machine_of T.turn_of self.old.setup) self.old.number self.old.history)) out.old out.new) }
+        ensures nothing { IsErrOf result ProcessRefused.NothingPending ↔ (next_of (machine_of T.turn_of self.old.setup) self.old.number self.old.history ≡ None) }
+        ensures kept { OnErr result (self.new ≡ self.old) }
+        ensures out_kept { OnErr result (out.new ≡ out.old) }
+    {
+        if self.is_input_next() {
+            return Ok(self.process_input(alloc)?);
+        }
+        if self.coming.is_none() {
+            return Err(ProcessRefused::NothingPending);
+        }
+        Ok(self.process_turn(alloc, out)?)
+    }
+
+    // Takes the first pending input.
+    fn process_input(&mut self, alloc: Global) -> Result<Key, NoMemory>
+        requires { IsTrue (is_receiving (next_of (machine_of T.turn_of self.old.setup) self.old.number self.old.history)) }
+        ensures key { IfOk result (λ key. IsSomeAnd (next_of (machine_of T.turn_of self.old.setup) self.old.number self.old.history) (λ entry. entry_key entry ≡ rank key)) }
+        ensures record { OnOk result (self.new ≡ record self.old { history = processed (next_of (machine_of T.turn_of self.old.setup) self.old.number self.old.history) self.old.history }) }
+        ensures kept { OnErr result (self.new ≡ self.old) }
+    {
+        let Some(first) = self.pending.peek_next() else {
+            unreachable!();
+        };
+        let key = first.message.key;
+        take_input(
+            alloc,
+            self.setup.plan(),
+            self.number,
+            &mut self.store,
+            &mut self.done,
+            &mut self.pending,
+        )?;
+        Ok(key)
+    }
+
+    // Takes the own turn.
+    fn process_turn(&mut self, alloc: Global, out: &mut Bag) -> Result<Key, NoMemory>
+        requires { IsTrue (is_turning (next_of (machine_of T.turn_of self.old.setup) self.old.number self.old.history)) }
+        ensures key { IfOk result (λ key. IsSomeAnd (next_of (machine_of T.turn_of self.old.setup) self.old.number self.old.history) (λ entry. entry_key entry ≡ rank key)) }
+        ensures record { OnOk result (self.new ≡ record self.old { history = processed (next_of (machine_of T.turn_of self.old.setup) self.old.number self.old.history) self.old.history }) }
+        ensures sent { OnOk result (IsPosted Plus (sent_next (machine_of T.turn_of self.old.setup) self.old.number (next_of (machine_of T.turn_of self.old.setup) self.old.number self.old.history)) out.old out.new) }
+        ensures kept { OnErr result (self.new ≡ self.old) }
+        ensures out_kept { OnErr result (out.new ≡ out.old) }
+    {
+        let Some(key) = self.coming else {
+            unreachable!();
+        };
+        let outcome = outcome_at(alloc, &self.setup, self.number, key.number, &self.store)?;
+        take_turn(
+            alloc,
+            &self.setup,
+            self.number,
+            Turned { key, outcome },
+            &mut self.store,
+            &mut self.done,
+            out,
+        )?;
+        self.coming = key_after(&self.setup, self.number, key);
+        Ok(key)
+    }
+
+    /// Takes the last done entry back, and posts an antimessage for each message that it sent. The answer is false where
+    /// nothing is done.
+    pub fn roll_back(&mut self, out: &mut Bag) -> bool
+        ensures record { self.new ≡ record self.old { history = roll_back_of (machine_of T.turn_of self.old.setup) self.old.history } }
+        ensures sent { IsPosted Minus (unsent (machine_of T.turn_of self.old.setup) self.old.number (last_of self.old.history.done)) out.old out.new }
+        ensures answer { result ≡ is_nonempty self.old.history.done }
+    {
+        receivers_law();
+        let Some(cell) = self.done.take_last() else {
+            return false;
+        };
+        self.store.undo();
+        match cell.into_value() {
+            Done::Turn(turned, antimessages) => {
+                let key = turned.value().key;
+                fits(key);
+                self.coming = Some(key);
+                post_all(out, antimessages);
+            }
+            Done::Input(cell) => self.pending.insert_sorted(cell),
+        }
+        true
+    }
+}
+
+// The key of the first turn, if there is one.
+fn first_key<T: Turns>(setup: &Setup<T>, i: u16) -> Option<Key>
+    ensures key { result ≡ key_of (system T.turn_of setup.now) i 0 }
+    ensures small { IfSome result IsSmall }
+{
+    let key = setup.key(i, 0)?;
+    fits(key);
+    Some(key)
+}
+
+// The key of the turn after the one of this key, if there is one.
+fn key_after<T: Turns>(setup: &Setup<T>, i: u16, key: Key) -> Option<Key>
+    requires there { Some key ≡ key_of (system T.turn_of setup.now) i key.number }
+    requires small { key.number < 4294967296 }
+    ensures key { result ≡ key_of (system T.turn_of setup.now) i (key.number + 1) }
+    ensures small { IfSome result IsSmall }
+{
+    let tick = setup.next_tick(i, key.number + 1, key.tick)?;
+    let next = Key {
+        tick,
+        component: i,
+        number: key.number + 1,
+    };
+    fits(next);
+    Some(next)
+}

@@ -1,0 +1,232 @@
+//! The growths of a step, over the parts of a component.
+ghost use Rattle.std.specs.Prelude.{◌≡◌, ◌∷◌, ◌<◌, [], map, length, OnOk, OnErr, IfOk, IfSome, IsSome, IsTrue};
+ghost use Rattle.raw_events.specs.Around.{head, tail, is_nonempty};
+ghost use Rattle.event_keys.specs.declared.message.Sign.TheVariants.{Plus, Minus};
+ghost use Rattle.event_keys.specs.Entries.{action_of};
+ghost use Rattle.event_keys.specs.Ranks.{rank};
+ghost use Rattle.antimessage.specs.Order.{IsInOrder};
+ghost use Rattle.virtual_time.specs.Entries.{by_own};
+ghost use Rattle.virtual_time.specs.Records.{sent};
+ghost use Rattle.compose.specs.Plans.{composition};
+ghost use Rattle.compose.specs.Steps.{applied};
+ghost use Rattle.task_seed.specs.Setups.{system, plan_of};
+ghost use Rattle.task_seed.specs.Turning.{key_of};
+ghost use Rattle.task_seed.specs.Machines.{turn_outcome};
+ghost use Rattle.rollback.specs.Held.{machine_of};
+ghost use Rattle.rollback.specs.Kept.{signed_of, IsGivenBack};
+ghost use Rattle.rollback.specs.Post.{signed_to, post_all, IsPosted};
+
+use crate::done::Done;
+use crate::keys::fits;
+use antimessage::Bag;
+use antimessage::laws::order_law;
+use compose::Plan;
+use compose::laws::receivers_law;
+use event_keys::{Key, Message, Outcome, Sign, Signed, Turned};
+use raw_events::{EventCell, EventList};
+use std::alloc::Global;
+use task_seed::{Setup, Turns};
+use terms::{Action, NoMemory};
+use undo_records::Store;
+
+fn cell_of<T: Drop>(alloc: Global, value: T) -> Result<EventCell<T>, NoMemory>
+    ensures { IfOk result (λ cell. cell ≡ value) }
+{
+    match EventCell::new(alloc, value) {
+        Ok(cell) => Ok(cell),
+        Err(_) => Err(NoMemory),
+    }
+}
+
+/// Marks the state, and changes it by an action.
+pub(crate) fn advance(
+    alloc: Global,
+    plan: &Plan,
+    i: u16,
+    action: &Action,
+    store: &mut Store,
+) -> Result<(), NoMemory>
+    ensures ok { OnOk result (store.new ≡ record { current = applied (composition plan.now) i action.now store.old.current; below = store.old.current ∷ store.old.below }) }
+    ensures err { OnErr result (store.new ≡ store.old) }
+{
+    store.mark(alloc)?;
+    if let Err(refused) = plan.apply(alloc, i, action, store) {
+        store.undo();
+        return Err(refused);
+    }
+    Ok(())
+}
+
+/// Marks the state, and changes it by what came of a turn.
+pub(crate) fn advance_turn<T: Turns>(
+    alloc: Global,
+    setup: &Setup<T>,
+    i: u16,
+    outcome: &Outcome,
+    store: &mut Store,
+) -> Result<(), NoMemory>
+    ensures ok { OnOk result (store.new ≡ record { current = by_own (machine_of T.turn_of setup.now) i (action_of outcome.now) store.old.current; below = store.old.current ∷ store.old.below }) }
+    ensures err { OnErr result (store.new ≡ store.old) }
+{
+    match outcome {
+        Outcome::Idle => store.mark(alloc),
+        Outcome::Did(action) => advance(alloc, setup.plan(), i, action, store),
+    }
+}
+
+/// What comes of turn `n` in the current state.
+pub(crate) fn outcome_at<T: Turns>(
+    alloc: Global,
+    setup: &Setup<T>,
+    i: u16,
+    n: u64,
+    store: &Store,
+) -> Result<Outcome, NoMemory>
+    requires { IsSome (key_of (system T.turn_of setup.now) i n) }
+    ensures { IfOk result (λ outcome. action_of outcome ≡ turn_outcome (system T.turn_of setup.now) i n store.now.current) }
+{
+    let Some(turn) = setup.turn_at(i, n) else {
+        return Ok(Outcome::Idle);
+    };
+    match setup
+        .plan()
+        .outcome(alloc, i, turn.task, turn.choice, store)?
+    {
+        None => Ok(Outcome::Idle),
+        Some(action) => Ok(Outcome::Did(action)),
+    }
+}
+
+// One message of the action for each receiver, the first nearest to the cursor.
+fn signed_cells(
+    alloc: Global,
+    key: Key,
+    action: &Action,
+    sign: Sign,
+    receivers: &[u16],
+) -> Result<EventList<Signed>, NoMemory>
+    ensures { IfOk result (λ cells. cells ≡ record { before = map (signed_to sign key action.now) receivers.now; after = [] }) }
+{
+    let mut cells = EventList::new();
+    for receiver in receivers.iter().rev().copied() {
+        let message = Message {
+            key,
+            action: action.clone()?,
+            to: receiver,
+        };
+        cells.push_last(cell_of(alloc, Signed { message, sign })?);
+    }
+    Ok(cells)
+}
+
+// The messages of a turn, and their antimessages.
+fn messages_of<T: Turns>(
+    alloc: Global,
+    setup: &Setup<T>,
+    i: u16,
+    turned: &Turned,
+) -> Result<(EventList<Signed>, EventList<Signed>), NoMemory>
+    ensures messages { IfOk result (λ p. p.0 ≡ record { before = signed_of (system T.turn_of setup.now) Plus i turned.now.key turned.now.outcome; after = [] }) }
+    ensures antimessages { IfOk result (λ p. p.1 ≡ record { before = signed_of (system T.turn_of setup.now) Minus i turned.now.key turned.now.outcome; after = [] }) }
+{
+    let Outcome::Did(action) = &turned.outcome else {
+        return Ok((EventList::new(), EventList::new()));
+    };
+    let receivers = setup.plan().receivers(alloc, action, i)?;
+    let messages = signed_cells(alloc, turned.key, action, Sign::Plus, &receivers)?;
+    let antimessages = signed_cells(alloc, turned.key, action, Sign::Minus, &receivers)?;
+    Ok((messages, antimessages))
+}
+
+/// Posts all that stands before the cursor, the nearest first.
+pub(crate) fn post_all(out: &mut Bag, mut cells: EventList<Signed>)
+    ensures posted { out.new ≡ post_all cells.before out.old }
+    ensures order { IsInOrder out.old }
+{
+    order_law(out);
+    while let Some(cell) = cells.take_last() {
+        out.post(cell);
+    }
+}
+
+// Puts an input that was not taken back before all that is pending.
+fn give_back(pending: &mut EventList<Signed>, refused: Done)
+    ensures { IsGivenBack refused pending.old pending.new }
+{
+    if let Done::Input(cell) = refused {
+        pending.push_last(cell);
+        pending.pass_back();
+    }
+}
+
+/// Takes the first pending input.
+pub(crate) fn take_input(
+    alloc: Global,
+    plan: &Plan,
+    i: u16,
+    store: &mut Store,
+    done: &mut EventList<Done>,
+    pending: &mut EventList<Signed>,
+) -> Result<(), NoMemory>
+    requires { IsTrue (is_nonempty pending.old.after) }
+    ensures state { OnOk result (IfSome (head pending.old.after) (λ first. store.new ≡ record { current = applied (composition plan.now) i first.message.action store.old.current; below = store.old.current ∷ store.old.below })) }
+    ensures done { OnOk result (IfSome (head pending.old.after) (λ first. done.new ≡ record done.old { before = Done.Input first ∷ done.old.before })) }
+    ensures pending { OnOk result (pending.new ≡ record pending.old { after = tail pending.old.after }) }
+    ensures store_kept { OnErr result (store.new ≡ store.old) }
+    ensures done_kept { OnErr result (done.new ≡ done.old) }
+    ensures pending_kept { OnErr result (pending.new ≡ pending.old) }
+{
+    let Some(first) = pending.peek_next() else {
+        unreachable!();
+    };
+    advance(alloc, plan, i, &first.message.action, store)?;
+    pending.pass_next();
+    let Some(cell) = pending.take_last() else {
+        unreachable!();
+    };
+    match EventCell::new(alloc, Done::Input(cell)) {
+        Ok(cell) => {
+            done.push_last(cell);
+            Ok(())
+        }
+        Err(refused) => {
+            give_back(pending, refused.value);
+            store.undo();
+            Err(NoMemory)
+        }
+    }
+}
+
+/// Does a turn with what came of it.
+pub(crate) fn take_turn<T: Turns>(
+    alloc: Global,
+    setup: &Setup<T>,
+    i: u16,
+    turned: Turned,
+    store: &mut Store,
+    done: &mut EventList<Done>,
+    out: &mut Bag,
+) -> Result<(), NoMemory>
+    requires { i < length (composition (plan_of setup.now)) }
+    ensures state { OnOk result (store.new ≡ record { current = by_own (machine_of T.turn_of setup.now) i (action_of turned.outcome) store.old.current; below = store.old.current ∷ store.old.below }) }
+    ensures done { OnOk result (done.new ≡ record done.old { before = Done.Turn turned (record { before = signed_of (system T.turn_of setup.now) Minus i turned.key turned.outcome; after = [] }) ∷ done.old.before }) }
+    ensures sent { OnOk result (IsPosted Plus (sent (machine_of T.turn_of setup.now) i (rank turned.key) (action_of turned.outcome)) out.old out.new) }
+    ensures store_kept { OnErr result (store.new ≡ store.old) }
+    ensures done_kept { OnErr result (done.new ≡ done.old) }
+    ensures out_kept { OnErr result (out.new ≡ out.old) }
+{
+    receivers_law();
+    fits(turned.key);
+    let (messages, antimessages) = messages_of(alloc, setup, i, &turned)?;
+    let turned = cell_of(alloc, turned)?;
+    advance_turn(alloc, setup, i, &turned.value().outcome, store)?;
+    match EventCell::new(alloc, Done::Turn(turned, antimessages)) {
+        Ok(cell) => done.push_last(cell),
+        Err(_) => {
+            store.undo();
+            return Err(NoMemory);
+        }
+    }
+    post_all(out, messages);
+    Ok(())
+}

@@ -1,0 +1,60 @@
+//! Entries processed and taken back.
+ghost use Rattle.std.specs.Prelude.{◌≡◌, ◌≤◌, ◌+◌, ℕ, take};
+ghost use Rattle.terms.specs.Named.{Named};
+ghost use Rattle.event_keys.specs.declared.message.Sign.TheVariants.{Plus, Minus};
+ghost use Rattle.virtual_time.specs.Bags.{times};
+ghost use Rattle.virtual_time.specs.Records.{roll_back_times, unsent};
+ghost use Rattle.rollback.specs.Flight.{in_flight};
+ghost use Rattle.rollback.specs.Held.{machine_of};
+ghost use Rattle.rollback.specs.Post.{IsPosted};
+ghost use Rattle.rollback.specs.Runs.{IsRun};
+
+use crate::component::Component;
+use antimessage::Bag;
+use std::alloc::Global;
+use task_seed::Turns;
+use task_seed::laws::machine_is_lawful;
+use terms::{Action, State};
+use virtual_time::rolling_back::record_law;
+
+impl<T: Turns> Component<T> {
+    /// Processes entries, at most `most` of them, until nothing is pending or memory is refused, and takes them back again.
+    /// That gives the component back, and of each message the bag has gained as many as antimessages. The answer is the number of the entries.
+    pub fn there_and_back(&mut self, alloc: Global, most: u32, out: &mut Bag) -> u32
+        ensures same { self.new ≡ self.old }
+        ensures balance { (j k : ℕ) (action : Named) → times (machine_of T.turn_of self.old.setup) (in_flight Plus j out.new) k action + times (machine_of T.turn_of self.old.setup) (in_flight Minus j out.old) k action ≡ times (machine_of T.turn_of self.old.setup) (in_flight Minus j out.new) k action + times (machine_of T.turn_of self.old.setup) (in_flight Plus j out.old) k action }
+        ensures most { result ≤ most }
+    {
+        machine_is_lawful(self.setup());
+        record_law::<State, Action>();
+        self.is_in_order();
+        let count = self.process_some(alloc, most, out);
+        self.roll_back_some(count, out);
+        count
+    }
+
+    // Processes entries, at most `most` of them, until nothing is pending or memory is refused.
+    fn process_some(&mut self, alloc: Global, most: u32, out: &mut Bag) -> u32
+        ensures rest { self.new ≡ record self.old { history = self.new.history } }
+        ensures run { IsRun (machine_of T.turn_of self.old.setup) self.old.number self.old.history self.new.history out.old out.new result }
+        ensures most { result ≤ most }
+    {
+        for count in 0..most {
+            match self.process(alloc, out) {
+                Ok(_) => {}
+                Err(_) => return count,
+            }
+        }
+        most
+    }
+
+    // Takes entries back, as many as are done but at most `count`.
+    fn roll_back_some(&mut self, count: u32, out: &mut Bag)
+        ensures record { self.new ≡ record self.old { history = roll_back_times (machine_of T.turn_of self.old.setup) count self.old.history } }
+        ensures sent { IsPosted Minus (unsent (machine_of T.turn_of self.old.setup) self.old.number (take count self.old.history.done)) out.old out.new }
+    {
+        for _k in 0..count {
+            self.roll_back(out);
+        }
+    }
+}

@@ -1,0 +1,19 @@
+//! One component of a simulation.
+#![tactic(auto)]
+
+pub mod component;
+mod deliver;
+mod done;
+mod drop;
+mod growth;
+mod inverse;
+mod keys;
+pub mod laws;
+pub mod refused;
+mod same;
+
+pub use component::Component;
+pub use refused::ProcessRefused;
+
+#[cfg(test)]
+mod tests;

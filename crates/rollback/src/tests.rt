@@ -1,0 +1,204 @@
+//! One component of the ring of two, against values worked out by hand.
+ghost use Rattle.std.specs.Prelude.{◌≡◌, ◌<◌};
+
+mod apart;
+mod given;
+mod refused;
+
+use crate::ProcessRefused;
+use antimessage::Bag;
+use event_keys::{Bound, Key, Outcome, Turned};
+use given::{
+    Node, assert_processes, assert_same, bag, come, first_pass, key, minus, node, plus, sent,
+};
+use raw_events::EventList;
+use std::alloc::AllocGlobal;
+use std::process::Abort;
+use terms::{NoMemory, Refusal};
+
+// Component 1 after so many of its two turns, in which it idles.
+fn idled(rt: &(impl Abort + AllocGlobal), turns: usize) -> Node
+    requires { turns < 3 }
+{
+    let mut second = node(rt, 1);
+    let mut out = Bag::new();
+    let keys = [key(1, 1, 0), key(3, 1, 1)];
+    assert_processes(rt, &mut second, &mut out, &keys[..turns]);
+    assert!(rt; out.is_empty());
+    second
+}
+
+// Component 0 after its first turn, in which it passes the token.
+fn passed(rt: &(impl Abort + AllocGlobal), out: &mut Bag) -> Node {
+    let mut first = node(rt, 0);
+    assert_processes(rt, &mut first, out, &[key(2, 0, 0)]);
+    first
+}
+
+// Component 1 after it took the token and passed it on.
+fn passed_on(rt: &(impl Abort + AllocGlobal), out: &mut Bag) -> Node {
+    let mut second = idled(rt, 1);
+    assert!(rt; come(rt, &mut second, plus(first_pass(rt)), out) == 0);
+    assert_processes(rt, &mut second, out, &[key(2, 0, 0), key(3, 1, 1)]);
+    second
+}
+
+#[test]
+fn a_message_takes_back_what_is_later(rt: HostRuntime) {
+    let mut out = Bag::new();
+    passed(&rt, &mut out);
+    assert!(rt; out == bag(&rt, key(2, 0, 0), 1, false));
+    let mut second = idled(&rt, 2);
+    let mut out = Bag::new();
+    assert!(rt; come(&rt, &mut second, plus(first_pass(&rt)), &mut out) == 1);
+    assert!(rt; second.next() == Bound::At(key(2, 0, 0)));
+    assert!(rt; out.is_empty());
+}
+
+#[test]
+fn a_pending_message_is_taken_back(rt: HostRuntime) {
+    let mut second = idled(&rt, 2);
+    let mut out = Bag::new();
+    come(&rt, &mut second, plus(first_pass(&rt)), &mut out);
+    assert!(rt; come(&rt, &mut second, minus(first_pass(&rt)), &mut out) == 0);
+    assert!(rt; second.next() == Bound::At(key(3, 1, 1)));
+    assert_processes(&rt, &mut second, &mut out, &[key(3, 1, 1)]);
+    assert!(rt; out.is_empty());
+    assert_same(&rt, second, idled(&rt, 2));
+}
+
+#[test]
+fn a_turn_is_rolled_back_once(rt: HostRuntime) {
+    let mut out = Bag::new();
+    let mut first = passed(&rt, &mut out);
+    assert!(rt; first.roll_back(&mut out));
+    assert!(rt; out == bag(&rt, key(2, 0, 0), 1, true));
+    assert!(rt; out.meet(&first_pass(&rt)));
+    assert!(rt; out.is_empty());
+    assert!(rt; !first.roll_back(&mut out));
+    assert!(rt; out.is_empty());
+    assert_same(&rt, first, node(&rt, 0));
+}
+
+#[test]
+fn an_antimessage_is_owed_until_its_message_comes(rt: HostRuntime) {
+    let mut second = node(&rt, 1);
+    let mut out = Bag::new();
+    assert!(rt; come(&rt, &mut second, minus(first_pass(&rt)), &mut out) == 0);
+    assert!(rt; come(&rt, &mut second, plus(first_pass(&rt)), &mut out) == 0);
+    assert!(rt; second.next() == Bound::At(key(1, 1, 0)));
+    assert!(rt; out.is_empty());
+    assert_same(&rt, second, node(&rt, 1));
+}
+
+#[test]
+fn an_antimessage_is_owed_once(rt: HostRuntime) {
+    let mut second = idled(&rt, 1);
+    let mut out = Bag::new();
+    come(&rt, &mut second, minus(first_pass(&rt)), &mut out);
+    come(&rt, &mut second, plus(first_pass(&rt)), &mut out);
+    assert!(rt; second.next() == Bound::At(key(3, 1, 1)));
+    come(&rt, &mut second, plus(first_pass(&rt)), &mut out);
+    assert!(rt; second.next() == Bound::At(key(2, 0, 0)));
+}
+
+#[test]
+fn a_message_that_comes_twice_is_taken_back_once(rt: HostRuntime) {
+    let mut out = Bag::new();
+    let mut first = passed(&rt, &mut out);
+    assert!(rt; first.roll_back(&mut out));
+    assert_processes(&rt, &mut first, &mut out, &[key(2, 0, 0)]);
+    assert!(rt; out == bag(&rt, key(2, 0, 0), 2, true));
+    let mut out = Bag::new();
+    let mut second = node(&rt, 1);
+    assert!(rt; come(&rt, &mut second, plus(first_pass(&rt)), &mut out) == 0);
+    assert!(rt; come(&rt, &mut second, plus(first_pass(&rt)), &mut out) == 0);
+    assert!(rt; come(&rt, &mut second, minus(first_pass(&rt)), &mut out) == 0);
+    let mut once = node(&rt, 1);
+    come(&rt, &mut once, plus(first_pass(&rt)), &mut out);
+    assert!(rt; out.is_empty());
+    assert_same(&rt, second, once);
+}
+
+#[test]
+fn an_antimessage_takes_back_from_its_message_on(rt: HostRuntime) {
+    let mut out = Bag::new();
+    let mut second = passed_on(&rt, &mut out);
+    assert!(rt; out == bag(&rt, key(3, 1, 1), 1, false));
+    assert!(rt; come(&rt, &mut second, minus(first_pass(&rt)), &mut out) == 2);
+    assert!(rt; out == bag(&rt, key(3, 1, 1), 1, true));
+    assert!(rt; second.next() == Bound::At(key(3, 1, 1)));
+    assert_same(&rt, second, idled(&rt, 1));
+}
+
+fn idle(key: Key) -> Turned {
+    Turned {
+        key,
+        outcome: Outcome::Idle,
+    }
+}
+
+// The turn of this key, by which a node passed the token on.
+fn did_pass(rt: &(impl Abort + AllocGlobal), key: Key) -> Turned {
+    Turned {
+        key,
+        outcome: Outcome::Did(sent(rt, key).action),
+    }
+}
+
+fn assert_turns(rt: &impl Abort, mut turns: EventList<Turned>, wanted: &[Turned]) {
+    for turned in wanted {
+        match turns.take_first() {
+            Some(cell) => assert!(rt; cell.value() == turned, "at {}", turned.key.tick),
+            None => assert!(rt; false, "nothing at {}", turned.key.tick),
+        }
+    }
+    assert!(rt; turns.peek_next().is_none());
+}
+
+#[test]
+fn what_is_below_the_bound_is_dropped(rt: HostRuntime) {
+    let mut out = Bag::new();
+    let mut second = idled(&rt, 2);
+    let dropped = second.drop_below(Bound::At(key(3, 1, 1)));
+    assert_turns(&rt, dropped, &[idle(key(1, 1, 0))]);
+    assert!(rt; second.roll_back(&mut out));
+    assert!(rt; second.next() == Bound::At(key(3, 1, 1)));
+    assert!(rt; !second.roll_back(&mut out));
+    assert!(rt; out.is_empty());
+    assert_processes(&rt, &mut second, &mut out, &[key(3, 1, 1)]);
+    assert_turns(&rt, second.drop_below(Bound::End), &[idle(key(3, 1, 1))]);
+    assert!(rt; !second.roll_back(&mut out));
+}
+
+#[test]
+fn turns_are_dropped_in_order(rt: HostRuntime) {
+    let mut out = Bag::new();
+    let wanted = [idle(key(1, 1, 0)), did_pass(&rt, key(3, 1, 1))];
+    assert_turns(
+        &rt,
+        passed_on(&rt, &mut out).drop_below(Bound::End),
+        &wanted,
+    );
+    let wanted = [idle(key(1, 1, 0)), idle(key(3, 1, 1))];
+    assert_turns(&rt, idled(&rt, 2).drop_below(Bound::End), &wanted);
+}
+
+#[test]
+fn nothing_is_pending_at_the_end(rt: HostRuntime) {
+    let mut out = Bag::new();
+    let mut second = idled(&rt, 2);
+    assert!(rt; second.next() == Bound::End);
+    assert!(rt; second.process(rt.alloc(), &mut out) == Err(ProcessRefused::NothingPending));
+    assert!(rt; second.next() == Bound::End);
+    assert!(rt; out.is_empty());
+}
+
+#[test]
+fn refusals_have_numbers(rt: HostRuntime) {
+    let memory = ProcessRefused::from(NoMemory);
+    for (refused, number) in [(memory, 1), (ProcessRefused::NothingPending, 31)] {
+        assert_eq!(rt; refused.number(), number);
+        assert_eq!(rt; refused.place(), None);
+    }
+}
