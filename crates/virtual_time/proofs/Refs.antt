@@ -1,6 +1,6 @@
 -- the reference by going up the key, and one component's done entries against it.
 use Rattle.std.proofs.Common.{◌≡◌, ℕ, zero, suc, ◌+◌, ◌<◌, ◌≤◌, ◌==◌, ◌&&◌, ◌⊎◌, inl, inr, Bool, true, false, cond, Option, None, Some, List, ◌∷◌, refl, ap, sym, subst, ◌∙◌, arith, ltb}
-use Rattle.std.proofs.lemmas.Bool.{ltb-true, lt-ltb, eqb-true, eq-eqb, ne_eqb, and_parts, cases_eq}
+use Rattle.std.proofs.lemmas.Bool.{ltb-true, lt-ltb, eqb-true, eq-eqb, ne_eqb, and_parts, cases_eq, cases_lt}
 use Rattle.virtual_time.specs.Machine.{Lawful, Machine}
 use Rattle.virtual_time.specs.Reference.{IsReference, Point, add_turn, after, joint, next_turn, point, reference_below, reference_turn}
 use Rattle.virtual_time.specs.Entries.{Entry, Input, Item, Own, below, number, replay, turn_at}
@@ -31,6 +31,27 @@ module _ {S A : Type 0} (machine : Machine S A) (law : Lawful machine) where
           let q = and_parts (ltb c machine.top) (machine.key (machine.owner c) (p.next (machine.owner c)) == c) e in
           record { low = ltb-true c machine.top q.0; key = eqb-true (machine.key (machine.owner c) (p.next (machine.owner c))) c q.1; outcome = cc }
       go false e f = absurd (Some≢None o (sym f))
+
+  -- a component that has some turn has a first one
+  pub has_first : (i m : ℕ) → machine.key i m < machine.top → machine.key i 0 < machine.top
+  has_first i zero l = l
+  has_first i (suc m) l = go (has_first i m) (cases_lt (machine.key i m) machine.top)
+    where
+      go : (machine.key i m < machine.top → machine.key i 0 < machine.top) → (machine.key i m < machine.top) ⊎ (machine.top ≤ machine.key i m) → machine.key i 0 < machine.top
+      go ih (inl h) = ih h
+      go ih (inr h) = let e = law.ends i m h in absurd (omega arith)
+
+  -- the simulator has no turn of a component that has none
+  pub no_turn : (k : ℕ) → (machine.key (machine.owner k) 0 < machine.top → ⊥) → reference_turn machine k ≡ None
+  no_turn k none = go (reference_turn machine k) refl
+    where
+      go : (t : Option (Option A)) → reference_turn machine k ≡ t → reference_turn machine k ≡ None
+      go None e = e
+      go (Some o) e =
+          let q = turn_is k (point machine k) o e in
+          let h = q.key in
+          let l = q.low in
+          absurd (none (has_first (machine.owner k) ((point machine k).next (machine.owner k)) (omega arith)))
 
   -- the reference by going up the keys is the reference
   pub ref_is : (c : ℕ) → c ≤ machine.top → IsReference machine c (reference_below machine c)

@@ -1,13 +1,14 @@
 -- A chunk is the reference's turns below the least base that no chunk has given, and the start is sound.
 use Rattle.std.proofs.Common.{◌≡◌, ℕ, zero, suc, ◌+◌, ◌-◌, ◌<◌, ◌≤◌, ◌&&◌, ◌⊎◌, inl, inr, Bool, true, false, cond, Option, None, Some, List, [], ◌∷◌, ◌++◌, length, refl, ap, sym, subst, ◌∙◌, arith, ltb, leb, length-append}
 use Rattle.std.proofs.lemmas.Bool.{lt-ltb, le-ltb, le-leb, lt-leb, eq-eqb, ne_eqb, cases_lt, cases_order}
-use Rattle.virtual_time.specs.Machine.{Lawful, Machine}
+use Rattle.virtual_time.specs.Machine.{HasCount, Lawful, Machine}
 use Rattle.virtual_time.specs.Reference.{AllBelow, Turn, add_turn, reference_below, reference_turn, Falls, outcome_at}
 use Rattle.virtual_time.specs.Bags.{sends}
 use Rattle.virtual_time.specs.Exchange.Stubs.{Exchange, IsHeld, IsSound, start_exchange, start_stub}
 use Rattle.virtual_time.specs.Exchange.Leases.{IsLease, Matches, start_lease}
 use Rattle.virtual_time.specs.Exchange.Meetings.{IsChunk, turns_below, turns_from}
 use Rattle.virtual_time.proofs.Cuts.{Some≢None}
+use Rattle.virtual_time.proofs.Refs.{no_turn}
 
 pub look_none : {A : Type 0} (c : ℕ) (ts : List (Turn A)) → AllBelow c ts → (k : ℕ) → c ≤ k → outcome_at k ts ≡ None
 look_none c [] p k l = refl
@@ -75,47 +76,61 @@ add_append c None xs ys = refl
 add_append c (Some o) xs ys = refl
 
 module _ {S A : Type 0} (machine : Machine S A) (law : Lawful machine) where
-  module _ (e : Exchange A) (g : ℕ) (is : IsHeld machine e g) (b : ℕ) (low : (j : ℕ) → b ≤ (e.stub j).base) where
+  module _ {count : ℕ} (e : Exchange A) (g : ℕ) (is : IsHeld machine count e g) (b : ℕ) (low : (j : ℕ) → machine.key j 0 < machine.top → b ≤ (e.stub j).base) where
+    -- what is held at a key below b is the simulator's turn there
+    held_at : (k : ℕ) → g ≤ k → k < b → outcome_at k e.held ≡ reference_turn machine k
+    held_at k l m = is.turns k ∙ rw (le-leb g k l) (go (cases_lt k (e.stub (machine.owner k)).base))
+      where
+        go : (k < (e.stub (machine.owner k)).base) ⊎ ((e.stub (machine.owner k)).base ≤ k) → cond (ltb k (e.stub (machine.owner k)).base) (reference_turn machine k) None ≡ reference_turn machine k
+        go (inl h) = rw (lt-ltb k (e.stub (machine.owner k)).base h)
+        go (inr h) = rw (le-ltb k (e.stub (machine.owner k)).base h) (sym (no_turn machine law k (λ has. let f = low (machine.owner k) has in omega arith)))
+
     pub held_all : (d : ℕ) → g + d ≤ b → reference_below machine (g + d) ≡ turns_below (g + d) e.held ++ reference_below machine g
     held_all zero l =
         let z : g + 0 ≡ g = omega arith in
         rw (z, below_empty g e.held (λ k m. is.turns k ∙ rw (lt-leb g k m)))
     held_all (suc d) l =
         let z : g + suc d ≡ suc (g + d) = omega arith in
-        let h = low (machine.owner (g + d)) in
-        let t : outcome_at (g + d) e.held ≡ reference_turn machine (g + d) = is.turns (g + d) ∙ rw (le-leb g (g + d) (omega arith), lt-ltb (g + d) (e.stub (machine.owner (g + d))).base (omega arith)) in
+        let t : outcome_at (g + d) e.held ≡ reference_turn machine (g + d) = held_at (g + d) (omega arith) (omega arith) in
         let ih = held_all d (omega arith) in
         rw z (ap (λ (ts : List (Turn A)). add_turn (g + d) (reference_turn machine (g + d)) ts) ih ∙ add_append (g + d) (reference_turn machine (g + d)) (turns_below (g + d) e.held) (reference_below machine g)
         ∙ ap (λ (ts : List (Turn A)). ts ++ reference_below machine g) (ap (λ (o : Option (Option A)). add_turn (g + d) o (turns_below (g + d) e.held)) (sym t) ∙ sym (below_step (g + d) e.held is.falls)))
 
-    -- with what was given before the chunk is the reference below the least base
+    -- with what was given before the chunk is the reference below b
     pub chunk_ref : g ≤ b → reference_below machine b ≡ turns_below b e.held ++ reference_below machine g
     chunk_ref l = let z : g + (b - g) ≡ b = omega arith in subst (λ (c : ℕ). reference_below machine c ≡ turns_below c e.held ++ reference_below machine g) z (held_all (b - g) (omega arith))
 
-  pub chunk_sound : (e : Exchange A) (b : ℕ) (e' : Exchange A) (ts : List (Turn A)) → IsSound machine e → IsChunk e b e' ts
-      → IsSound machine e' × (g : ℕ) × (e.given ≡ length (reference_below machine g)) × (reference_below machine b ≡ ts ++ reference_below machine g)
-  chunk_sound e b e' ts is ch = (sym_sound, g, is.held.1.given, all)
+  pub chunk_sound : (count : ℕ) → HasCount machine count → (e : Exchange A) (b : ℕ) (e' : Exchange A) (ts : List (Turn A)) → IsSound machine count e → IsChunk machine count e b e' ts
+      → IsSound machine count e' × (g : ℕ) × (e.given ≡ length (reference_below machine g)) × (reference_below machine b ≡ ts ++ reference_below machine g)
+  chunk_sound count counted e b e' ts is ch = (sym_sound, g, is.held.1.given, all)
     where
       g : ℕ
       g = is.held.0
 
       low : g ≤ b
-      low = ch.most g is.held.1.low
+      low = ch.most g is.held.1.end is.held.1.counted
+
+      has_low : (j : ℕ) → machine.key j 0 < machine.top → b ≤ (e.stub j).base
+      has_low j has = go (cases_lt j count)
+        where
+          go : (j < count) ⊎ (count ≤ j) → b ≤ (e.stub j).base
+          go (inl h) = ch.low j h
+          go (inr h) = let s = counted.silent j 0 h in absurd (omega arith)
 
       all : reference_below machine b ≡ ts ++ reference_below machine g
-      all = rw ch.turns (chunk_ref e g is.held.1 b ch.low low)
+      all = rw ch.turns (chunk_ref e g is.held.1 b has_low low)
 
-      count : e.given + length ts ≡ length (reference_below machine b)
-      count = let h = is.held.1.given in let k = ap length all ∙ length-append ts (reference_below machine g) in omega arith
+      many : e.given + length ts ≡ length (reference_below machine b)
+      many = let h = is.held.1.given in let k = ap length all ∙ length-append ts (reference_below machine g) in omega arith
 
       turns : (k : ℕ) → (k < b) ⊎ (b ≤ k) → outcome_at k (turns_from b e.held) ≡ cond (leb b k && ltb k (e.stub (machine.owner k)).base) (reference_turn machine k) None
       turns k (inl l) = rw (lt-leb b k l) (look_gone b k e.held l)
       turns k (inr l) = rw (le-leb b k l) (look_from b k e.held is.held.1.falls l ∙ is.held.1.turns k ∙ rw (le-leb g k (omega (arith, low))))
 
-      held : IsHeld machine (record { stub = e.stub; bound = e.bound; held = turns_from b e.held; given = e.given + length ts }) b
-      held = record { low = ch.low; given = count; falls = falls_from b e.held is.held.1.falls; turns = λ k. turns k (cases_lt k b) }
+      held : IsHeld machine count (record { stub = e.stub; bound = e.bound; held = turns_from b e.held; given = e.given + length ts }) b
+      held = record { end = ch.end; low = has_low; counted = ch.low; given = many; falls = falls_from b e.held is.held.1.falls; turns = λ k. turns k (cases_lt k b) }
 
-      sym_sound : IsSound machine e'
+      sym_sound : IsSound machine count e'
       sym_sound =
           rw ch.rest (record {
             end = is.end;
@@ -142,8 +157,8 @@ module _ {S A : Type 0} (machine : Machine S A) (law : Lawful machine) where
       go true = refl
       go false = refl
 
-  pub start_sound : IsSound machine (start_exchange machine)
-  start_sound =
+  pub start_sound : (count : ℕ) → IsSound machine count (start_exchange machine)
+  start_sound count =
       record {
         end = omega arith;
         base = λ j. omega arith;
@@ -158,7 +173,7 @@ module _ {S A : Type 0} (machine : Machine S A) (law : Lawful machine) where
         one_standing = λ j k a. omega arith;
         low_taken = λ j k a l. refl;
         low_standing = λ j k a l. refl;
-        held = (0, record { low = λ j. omega arith; given = refl; falls = tt; turns = λ k. none_held k });
+        held = (0, record { end = omega arith; low = λ j has. omega arith; counted = λ j within. omega arith; given = refl; falls = tt; turns = λ k. none_held k });
       }
     where
       none_held : (k : ℕ) → None ≡ cond (leb 0 k && ltb k 0) (reference_turn machine k) None

@@ -33,7 +33,7 @@ module _ {S A : Type 0} (machine : Machine S A) (law : Lawful machine) where
         subst (λ (c : ℕ). At machine law i g n s es d c) e
         (at_all machine law i g n s es d g (b - g) at_base (λ c a h m. ins c a h (omega arith)) (omega arith))
 
-  module _ (e : Exchange A) (is : IsSound machine e) (b : ℕ) (up : e.bound ≤ b) (clear : IsClear machine e b) where
+  module _ {count : ℕ} (e : Exchange A) (is : IsSound machine count e) (b : ℕ) (up : e.bound ≤ b) (clear : IsClear machine e b) where
     abbrev Stands : ℕ → ℕ → Type 0
     Stands j c = At machine law j (e.stub j).base ((point machine (e.stub j).base).next j) ((point machine (e.stub j).base).state j) (is.runs j).es (is.runs j).done c
 
@@ -92,7 +92,7 @@ module _ {S A : Type 0} (machine : Machine S A) (law : Lawful machine) where
     standing_ref c l h j a = standing_sends c l h j a ∙ sends_are c l h (stands_at c l (omega arith)) j a
 
     -- clauses 2 to 5 speak of stubs alone; the third is what moves
-    pub commit_sound : IsSound machine (record { stub = e.stub; bound = b; held = e.held; given = e.given })
+    pub commit_sound : IsSound machine count (record { stub = e.stub; bound = b; held = e.held; given = e.given })
     commit_sound =
         record {
           end = clear.end;
@@ -108,7 +108,7 @@ module _ {S A : Type 0} (machine : Machine S A) (law : Lawful machine) where
           one_standing = is.one_standing;
           low_taken = is.low_taken;
           low_standing = is.low_standing;
-          held = (is.held.0, record { low = is.held.1.low; given = is.held.1.given; falls = is.held.1.falls; turns = is.held.1.turns });
+          held = (is.held.0, record { end = is.held.1.end; low = is.held.1.low; counted = is.held.1.counted; given = is.held.1.given; falls = is.held.1.falls; turns = is.held.1.turns });
         }
       where
         settled : (j k : ℕ) (a : A) → (e.stub j).base ≤ k → k < b → (k < e.bound) ⊎ (e.bound ≤ k) → (e.stub j).taken k a ≡ reference_sends machine k a j

@@ -262,7 +262,7 @@ module _ {S A : Type 0} (machine : Machine S A) (law : Lawful machine) where
   outcome_among k (Input x ∷ es) = outcome_among k es
 
   -- The meeting.
-  module _ (count : ℕ) (counted : HasCount machine count) (i : ℕ) (e : Exchange A) (is : IsSound machine e) (l : Lease S A) (lease : IsLease machine i l) (match : Matches machine i (e.stub i) l)
+  module _ (count : ℕ) (counted : HasCount machine count) (i : ℕ) (e : Exchange A) (is : IsSound machine count e) (l : Lease S A) (lease : IsLease machine i l) (match : Matches machine i (e.stub i) l)
       (quiet : (j : ℕ) → count ≤ j → (e.stub j).plus ≡ []) (still : (j : ℕ) → count ≤ j → l.out_plus j ≡ []) where
     abbrev g : ℕ
     g = e.bound

@@ -45,7 +45,7 @@ module _ {S A : Type 0} (machine : Machine S A) (law : Lawful machine) where
   next_on c i d l = key_up c i ((point machine c).next i) d l ((ref_is machine law c l).all i)
 
   -- a meeting never has to count below 0: what component i has taken after it is what the senders' standing sends say
-  pub net_taken : (i : ℕ) (e : Exchange A) (l : Lease S A) → IsSound machine e → Matches machine i (e.stub i) l → (k : ℕ) (a : A) → e.bound ≤ k
+  pub net_taken : {count : ℕ} (i : ℕ) (e : Exchange A) (l : Lease S A) → IsSound machine count e → Matches machine i (e.stub i) l → (k : ℕ) (a : A) → e.bound ≤ k
       → (e.stub (machine.owner k)).standing k a i + times machine l.part.owed k a + (times machine l.part.minus k a + times machine (e.stub i).minus k a)
       ≡ inputs machine l.part.done k a + times machine l.part.pending k a + (times machine l.part.plus k a + times machine (e.stub i).plus k a)
   net_taken i e l is match k a h = let m = match.taken k a in let v = is.even i k a h in omega arith

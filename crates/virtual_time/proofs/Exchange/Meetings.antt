@@ -13,12 +13,12 @@ use Rattle.virtual_time.specs.Exchange.Meetings.{Met}
 use Rattle.virtual_time.proofs.Lists.{AllFrom-weaken, Each-both}
 use Rattle.virtual_time.proofs.Joint.{all_zero}
 use Rattle.virtual_time.proofs.Commits.{IsDone-from, inputs_from, inputs_split, sends_from, number_split, follow_from}
-use Rattle.virtual_time.proofs.Refs.{At, own_turn}
+use Rattle.virtual_time.proofs.Refs.{At, no_turn, own_turn}
 use Rattle.virtual_time.proofs.Exchange.Committed.{at_bound}
 use Rattle.virtual_time.proofs.Exchange.Wholes.{low_counts}
 use Rattle.virtual_time.proofs.Exchange.Ones.{sends_one, sends_low, inputs_low, turn_below, turn_above}
 
-module _ {S A : Type 0} (machine : Machine S A) (law : Lawful machine) (i : ℕ) (e : Exchange A) (is : IsSound machine e) (l : Lease S A) (lease : IsLease machine i l) (match : Matches machine i (e.stub i) l) where
+module _ {S A : Type 0} (machine : Machine S A) (law : Lawful machine) {count : ℕ} (i : ℕ) (e : Exchange A) (is : IsSound machine count e) (l : Lease S A) (lease : IsLease machine i l) (match : Matches machine i (e.stub i) l) where
   pub low : l.base ≤ e.bound
   low = let b = is.base i in let h = match.base in omega arith
 
@@ -240,10 +240,12 @@ module _ {S A : Type 0} (machine : Machine S A) (law : Lawful machine) (i : ℕ)
         go (inr ne) = old (λ st. st.taken k a ≤ 1) j ne (is.one_taken j k a)
 
     -- the turns held, with what is taken in
-    pub held_new : IsHeld machine e' is.held.0
+    pub held_new : IsHeld machine count e' is.held.0
     held_new =
         record {
-          low = λ j. low_at j (cases_eq j i);
+          end = is.held.1.end;
+          low = λ j has. low_at j (is.held.1.low j has) (cases_eq j i);
+          counted = λ j within. low_at j (is.held.1.counted j within) (cases_eq j i);
           given = met.given ∙ is.held.1.given;
           falls = met.falls;
           turns = λ k. met.turns k ∙ go k (cases_eq (machine.owner k) i);
@@ -252,13 +254,23 @@ module _ {S A : Type 0} (machine : Machine S A) (law : Lawful machine) (i : ℕ)
         b : ℕ
         b = is.held.0
 
-        low_at : (j : ℕ) → (j ≡ i) ⊎ (j ≡ i → ⊥) → b ≤ (e'.stub j).base
-        low_at j (inl f) = mine (λ st. b ≤ st.base) j f (let n = new_base in let h = is.held.1.low i in let g = is.base i in omega arith)
-        low_at j (inr ne) = old (λ st. b ≤ st.base) j ne (is.held.1.low j)
+        low_at : (j : ℕ) → b ≤ (e.stub j).base → (j ≡ i) ⊎ (j ≡ i → ⊥) → b ≤ (e'.stub j).base
+        low_at j h (inl f) = mine (λ st. b ≤ st.base) j f (let n = new_base in let g = is.base j in omega arith)
+        low_at j h (inr ne) = old (λ st. b ≤ st.base) j ne h
 
         skip : (v : Bool) (x y : Option (Option A)) → cond (v && false) x y ≡ y
         skip true x y = refl
         skip false x y = refl
+
+        -- a turn that is not given and not below the base is held from b on
+        only_from : (k : ℕ) → machine.owner k ≡ i → (e.stub i).base ≤ k → reference_turn machine k ≡ cond (leb b k && true) (reference_turn machine k) None
+        only_from k own h = at (cases_lt k b)
+          where
+            at : (k < b) ⊎ (b ≤ k) → reference_turn machine k ≡ cond (leb b k && true) (reference_turn machine k) None
+            at (inl m) =
+                let f : (e.stub (machine.owner k)).base ≡ (e.stub i).base = ap (λ (j : ℕ). (e.stub j).base) own in
+                rw (lt-leb b k m) (no_turn machine law k (λ has. let g = is.held.1.low (machine.owner k) has in omega arith))
+            at (inr m) = rw (le-leb b k m)
 
         here : (k : ℕ) → machine.owner k ≡ i → (k < (e.stub i).base) ⊎ ((e.stub i).base ≤ k) → (k < e.bound) ⊎ (e.bound ≤ k)
             → cond (leb (e.stub i).base k && (machine.owner k == i)) (turn_at k (below e.bound l.part.done)) (outcome_at k e.held) ≡ cond (leb b k && ltb k e.bound) (reference_turn machine k) None
@@ -268,9 +280,9 @@ module _ {S A : Type 0} (machine : Machine S A) (law : Lawful machine) (i : ℕ)
             let u = lt-ltb k (e.stub i).base h in
             rw (lt-leb (e.stub i).base k h, lt-ltb k e.bound m) (subst (λ (v : Bool). outcome_at k e.held ≡ cond (leb b k && v) (reference_turn machine k) None) u t)
         here k own (inr h) (inl m) =
-            let f = is.held.1.low i in
-            rw (le-leb (e.stub i).base k h, eq-eqb (machine.owner k) i own, lt-ltb k e.bound m, le-leb b k (omega arith))
-            (turn_below machine law i l.base l.part.first l.part.base e.bound k l.part.done lease.proper.done m ∙ turns_ref k own (let n = match.base in omega arith) m)
+            rw (le-leb (e.stub i).base k h, eq-eqb (machine.owner k) i own, lt-ltb k e.bound m)
+            (turn_below machine law i l.base l.part.first l.part.base e.bound k l.part.done lease.proper.done m ∙ turns_ref k own (let n = match.base in omega arith) m
+            ∙ only_from k own h)
         here k own (inr h) (inr m) =
             rw (le-leb (e.stub i).base k h, eq-eqb (machine.owner k) i own, le-ltb k e.bound m)
             (turn_above machine law i l.base l.part.first l.part.base e.bound k l.part.done lease.proper.done m ∙ sym (skip (leb b k) (reference_turn machine k) None))
@@ -284,7 +296,7 @@ module _ {S A : Type 0} (machine : Machine S A) (law : Lawful machine) (i : ℕ)
             let n : (e'.stub (machine.owner k)).base ≡ (e.stub (machine.owner k)).base = old (λ st. st.base ≡ (e.stub (machine.owner k)).base) (machine.owner k) ne refl in
             rw (n, ne_eqb (machine.owner k) i ne) (skip (leb (e.stub i).base k) (turn_at k (below e.bound l.part.done)) (outcome_at k e.held) ∙ is.held.1.turns k)
 
-    pub meet_sound : IsSound machine e'
+    pub meet_sound : IsSound machine count e'
     meet_sound =
         record {
           end = rw met.bound is.end;

@@ -50,7 +50,7 @@ module _ {S A : Type 0} (machine : Machine S A) (law : Lawful machine) (count : 
   bags : (i : ℕ) (l : Lease S A) (u : Shared S A) → ((j : ℕ) → count ≤ j → l.out_plus j ≡ []) → ((n j : ℕ) → count ≤ j → (u.lease n).out_plus j ≡ []) → (n j : ℕ) → count ≤ j → (put_lease i l u.lease n).out_plus j ≡ []
   bags i l u here all n j c = each_lease machine law (λ k x. x.out_plus j ≡ []) i l u.lease (here j c) (λ k ne. all k j c) n
 
-  call_quiet : (u : Shared S A) (c : Call A) (v : Shared S A) → IsQuiet count u → Called machine u c v → IsQuiet count v
+  call_quiet : (u : Shared S A) (c : Call A) (v : Shared S A) → IsQuiet count u → Called machine count u c v → IsQuiet count v
   call_quiet u (CallMeet i) v q h =
       let met = h.2 in
       subst (λ (x : Shared S A). IsQuiet count x) (sym h.3)
@@ -82,7 +82,7 @@ module _ {S A : Type 0} (machine : Machine S A) (law : Lawful machine) (count : 
       out j c (inl e) = rw (eq-eqb j i e)
       out j c (inr ne) = rw (ne_eqb j i ne) (does_quiet i j (alone machine i (u.lease i)) steps h.0 ne c (alone_quiet i j (u.lease i) ne (q.bag i j c)) h.1)
 
-  pub calls_quiet : (calls : List (Call A)) (u v : Shared S A) → IsQuiet count u → Calls machine u calls v → IsQuiet count v
+  pub calls_quiet : (calls : List (Call A)) (u v : Shared S A) → IsQuiet count u → Calls machine count u calls v → IsQuiet count v
   calls_quiet [] u v q h = subst (λ (x : Shared S A). IsQuiet count x) (sym h) q
   calls_quiet (c ∷ cs) u v q h = calls_quiet cs h.0 v (call_quiet u c h.0 q h.1) h.2
 

@@ -74,7 +74,7 @@ module _ {S A : Type 0} (machine : Machine S A) (law : Lawful machine) (i : ℕ)
     does_along (Meet j x ∷ ss) u v w r isw priv f h = absurd h
     does_along (Commit b ∷ ss) u v w r isw priv f h = absurd h
 
-module _ {S A : Type 0} (machine : Machine S A) (law : Lawful machine) (i : ℕ) (e : Exchange A) (is : IsSound machine e) (ls : ℕ → Lease S A) (lease : IsLease machine i (ls i)) (match : Matches machine i (e.stub i) (ls i)) (w : World S A) (whole : IsWhole machine e ls w) (isw : IsWorld machine w) where
+module _ {S A : Type 0} (machine : Machine S A) (law : Lawful machine) {count : ℕ} (i : ℕ) (e : Exchange A) (is : IsSound machine count e) (ls : ℕ → Lease S A) (lease : IsLease machine i (ls i)) (match : Matches machine i (e.stub i) (ls i)) (w : World S A) (whole : IsWhole machine e ls w) (isw : IsWorld machine w) where
   -- what the lease does by itself leads the whole world to the new whole, by the same steps
   pub does_whole : (ss : List (Step A)) (u : World S A) → WalksAlone machine i (alone machine i (ls i)) ss u → (v : World S A) × Leads machine w ss v × IsWhole machine e (put_lease i (lease_of i (ls i).floor u) ls) v
   does_whole ss u h =

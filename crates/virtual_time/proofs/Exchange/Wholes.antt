@@ -66,7 +66,7 @@ module _ {S A : Type 0} (machine : Machine S A) (law : Lawful machine) where
       here (inl l) = let z = h x.key x.action l in let o = hit_self machine law x in absurd (omega arith)
       here (inr l) = l
 
-  module _ (e : Exchange A) (is : IsSound machine e) (ls : ℕ → Lease S A) (leases : (j : ℕ) → IsLease machine j (ls j)) (match : (j : ℕ) → Matches machine j (e.stub j) (ls j)) (w : World S A) (whole : IsWhole machine e ls w) where
+  module _ {count : ℕ} (e : Exchange A) (is : IsSound machine count e) (ls : ℕ → Lease S A) (leases : (j : ℕ) → IsLease machine j (ls j)) (match : (j : ℕ) → Matches machine j (e.stub j) (ls j)) (w : World S A) (whole : IsWhole machine e ls w) where
     pub can : (b : ℕ) → e.bound ≤ b → IsClear machine e b → CanCommit machine w b
     can b up clear =
         record {
@@ -285,7 +285,7 @@ module _ {S A : Type 0} (machine : Machine S A) (law : Lawful machine) where
               minus = λ j k a. let x = whole.minus j k a in let o = (out_parts j k a).1 in let b = met.by_minus j k a in let t = (tray_in j k a (cases_eq j i)).1 in let h = g.minus j k a in omega arith;
             }
 
-  pub commit_leads : (e e' : Exchange A) (ls : ℕ → Lease S A) (w : World S A) → IsSound machine e → ((j : ℕ) → IsLease machine j (ls j)) → ((j : ℕ) → Matches machine j (e.stub j) (ls j)) → IsWhole machine e ls w → IsWorld machine w → IsCommit machine e e'
+  pub commit_leads : {count : ℕ} (e e' : Exchange A) (ls : ℕ → Lease S A) (w : World S A) → IsSound machine count e → ((j : ℕ) → IsLease machine j (ls j)) → ((j : ℕ) → Matches machine j (e.stub j) (ls j)) → IsWhole machine e ls w → IsWorld machine w → IsCommit machine e e'
       → (v : World S A) × Leads machine w (Commit e'.bound ∷ []) v × IsWhole machine e' ls v
   commit_leads e e' ls w is leases match whole isw c =
       let up = c.most e.bound (record { end = is.end; floor = is.floor; plus = is.plus; minus = is.minus }) in

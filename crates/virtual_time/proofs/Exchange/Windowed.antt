@@ -338,7 +338,7 @@ module _ {S A : Type 0} (machine : Machine S A) (law : Lawful machine) where
       sends_is machine es k a i ∙ rw r
 
   -- A meeting keeps the window.
-  module _ (v count i : ℕ) (e : Exchange A) (is : IsSound machine e) (l : Lease S A) (lease : IsLease machine i l) (match : Matches machine i (e.stub i) l) (e' : Exchange A) (l' : Lease S A) (met : Met machine i e l e' l')
+  module _ (v count i : ℕ) (e : Exchange A) (is : IsSound machine count e) (l : Lease S A) (lease : IsLease machine i l) (match : Matches machine i (e.stub i) l) (e' : Exchange A) (l' : Lease S A) (met : Met machine i e l e' l')
       (low : i < count) (within : IsExchangeWithin machine v count e) (mine : IsWithin v count (record_of l.part)) where
     pub meet_lease : IsWithin v count (record_of l'.part)
     meet_lease =
@@ -354,7 +354,7 @@ module _ {S A : Type 0} (machine : Machine S A) (law : Lawful machine) where
     abbrev sents : ℕ → List (Entry A)
     sents j = (within.stubs j).sent
 
-    sound : IsSound machine e'
+    sound : IsSound machine count e'
     sound = meet_sound machine law i e is l lease match e' l' met
 
     -- what it has taken is what is standing of the others
@@ -427,7 +427,7 @@ module _ {S A : Type 0} (machine : Machine S A) (law : Lawful machine) where
         apart j k a (inl o) = inl (ap (λ (n : ℕ). times machine (e'.stub n).plus k a) o ∙ ap (λ (xs : List (Item A)). times machine xs k a) met.inbox_plus)
         apart j k a (inr ne) = subst (λ (st : Stub A). (times machine st.plus k a ≡ 0) ⊎ (times machine st.minus k a ≡ 0)) (sym (met.others j ne)) (met.apart j k a)
 
-  pub none_low : (e : Exchange A) → IsSound machine e → (xs : List (Item A)) (k : ℕ) (a : A) → AllFrom e.bound xs → k < e.bound → times machine xs k a ≡ 0
+  pub none_low : {count : ℕ} (e : Exchange A) → IsSound machine count e → (xs : List (Item A)) (k : ℕ) (a : A) → AllFrom e.bound xs → k < e.bound → times machine xs k a ≡ 0
   none_low e is [] k a p l = refl
   none_low e is (x ∷ xs) k a p l =
       let h = none_low e is xs k a p.1 l in
@@ -436,7 +436,7 @@ module _ {S A : Type 0} (machine : Machine S A) (law : Lawful machine) where
       omega arith
 
   -- All inboxes together.
-  module _ (v count : ℕ) (e : Exchange A) (is : IsSound machine e) (within : IsExchangeWithin machine v count e) where
+  module _ (v count : ℕ) (e : Exchange A) (is : IsSound machine count e) (within : IsExchangeWithin machine v count e) where
     plus_part : (j k : ℕ) (a : A) → times machine (e.stub j).plus k a ≤ times machine (gathered (λ n. (within.stubs n).sent) e.bound j count) k a
     plus_part j k a = go (cases_lt k e.bound) (cases_lt (machine.owner k) count)
       where

@@ -20,26 +20,26 @@ pub data Call (Action : Type 0) : Type 0 where
   CallChunk : Call Action
   CallAlone : ℕ → List (Step Action) → Call Action
 
--- What a call does.
-abbrev pub Called : {S A : Type 0} → Machine S A → Shared S A → Call A → Shared S A → Type 0
-Called {S} {A} machine u (CallMeet i) v = (e : Exchange A) × (l : Lease S A) × Met machine i u.exchange (u.lease i) e l × (v ≡ record { exchange = e; lease = put_lease i l u.lease })
-Called {S} {A} machine u CallCommit v = (e : Exchange A) × IsCommit machine u.exchange e × (v ≡ record { exchange = e; lease = u.lease })
-Called {S} {A} machine u CallChunk v = (b : ℕ) × (e : Exchange A) × (ts : List (Turn A)) × IsChunk u.exchange b e ts × (v ≡ record { exchange = e; lease = u.lease })
-Called {S} {A} machine u (CallAlone i steps) v =
+-- What a call does, where there are count components.
+abbrev pub Called : {S A : Type 0} → Machine S A → ℕ → Shared S A → Call A → Shared S A → Type 0
+Called {S} {A} machine count u (CallMeet i) v = (e : Exchange A) × (l : Lease S A) × Met machine i u.exchange (u.lease i) e l × (v ≡ record { exchange = e; lease = put_lease i l u.lease })
+Called {S} {A} machine count u CallCommit v = (e : Exchange A) × IsCommit machine u.exchange e × (v ≡ record { exchange = e; lease = u.lease })
+Called {S} {A} machine count u CallChunk v = (b : ℕ) × (e : Exchange A) × (ts : List (Turn A)) × IsChunk machine count u.exchange b e ts × (v ≡ record { exchange = e; lease = u.lease })
+Called {S} {A} machine count u (CallAlone i steps) v =
     (w : World S A) × Does machine i (alone machine i (u.lease i)) steps w × (v ≡ record { exchange = u.exchange; lease = put_lease i (lease_of i (u.lease i).floor w) u.lease })
 
--- These calls, one after the other, lead from u to v.
-abbrev pub Calls : {S A : Type 0} → Machine S A → Shared S A → List (Call A) → Shared S A → Type 0
-Calls machine u [] v = v ≡ u
-Calls {S} {A} machine u (c ∷ cs) v = (mid : Shared S A) × Called machine u c mid × Calls machine mid cs v
+-- These calls of count components, one after the other, lead from u to v.
+abbrev pub Calls : {S A : Type 0} → Machine S A → ℕ → Shared S A → List (Call A) → Shared S A → Type 0
+Calls machine count u [] v = v ≡ u
+Calls {S} {A} machine count u (c ∷ cs) v = (mid : Shared S A) × Called machine count u c mid × Calls machine count mid cs v
 
 -- The exchange and the leases at the start.
 abbrev pub start_shared : {S A : Type 0} → Machine S A → Shared S A
 start_shared machine = record { exchange = start_exchange machine; lease = start_lease machine }
 
 -- All is sound, each lease matches its stub, and the whole is a world that core steps reach from the start.
-pub record IsShared {S A : Type 0} (machine : Machine S A) (u : Shared S A) : Type 0 where
-  pub sound : IsSound machine u.exchange
+pub record IsShared {S A : Type 0} (machine : Machine S A) (count : ℕ) (u : Shared S A) : Type 0 where
+  pub sound : IsSound machine count u.exchange
   pub leases : (i : ℕ) → IsLease machine i (u.lease i)
   pub match : (i : ℕ) → Matches machine i (u.exchange.stub i) (u.lease i)
   pub steps : List (Step A)

@@ -1,5 +1,5 @@
 -- What the exchange does: a meeting with a lease, a commit, a chunk.
-use Rattle.std.specs.Prelude.{◌≡◌, ℕ, ◌+◌, ◌≤◌, ◌==◌, ◌&&◌, ◌⊎◌, cond, nat_lt, nat_le, List, [], ◌∷◌, length}
+use Rattle.std.specs.Prelude.{◌≡◌, ℕ, ◌+◌, ◌<◌, ◌≤◌, ◌==◌, ◌&&◌, ◌⊎◌, cond, nat_lt, nat_le, List, [], ◌∷◌, length}
 use Rattle.virtual_time.specs.Exchange.Leases.{IsFloor, Lease, Matches}
 use Rattle.virtual_time.specs.Entries.{Item, below, from, number, replay, turn_at}
 use Rattle.virtual_time.specs.Machine.{Machine}
@@ -70,10 +70,11 @@ abbrev pub turns_from : {A : Type 0} → ℕ → List (Turn A) → List (Turn A)
 turns_from b [] = []
 turns_from b (t ∷ ts) = cond (nat_lt t.key b) [] (t ∷ turns_from b ts)
 
--- A chunk: b is the least base, the turns held below it are given, and the others stay.
-pub record IsChunk {A : Type 0} (e : Exchange A) (b : ℕ) (e' : Exchange A) (chunk : List (Turn A)) : Type 0 where
-  -- b is the least base
-  pub low : (j : ℕ) → b ≤ (e.stub j).base
-  pub most : (c : ℕ) → ((j : ℕ) → c ≤ (e.stub j).base) → c ≤ b
+-- A chunk: b is the least base of the first count components, or the end where there are none; the turns held below it are given, and
+-- the others stay.
+pub record IsChunk {S A : Type 0} (machine : Machine S A) (count : ℕ) (e : Exchange A) (b : ℕ) (e' : Exchange A) (chunk : List (Turn A)) : Type 0 where
+  pub end : b ≤ machine.top
+  pub low : (j : ℕ) → j < count → b ≤ (e.stub j).base
+  pub most : (c : ℕ) → c ≤ machine.top → ((j : ℕ) → j < count → c ≤ (e.stub j).base) → c ≤ b
   pub turns : chunk ≡ turns_below b e.held
   pub rest : e' ≡ record { stub = e.stub; bound = e.bound; held = turns_from b e.held; given = e.given + length chunk }

@@ -45,16 +45,20 @@ pub record HasRun {S A : Type 0} (machine : Machine S A) (i : ℕ) (st : Stub A)
   pub ins : (k : ℕ) (a : A) → st.base ≤ k → k < st.floor → inputs machine es k a ≡ st.taken k a
   pub outs : (k : ℕ) (a : A) (j : ℕ) → machine.owner k ≡ i → st.base ≤ k → k < st.floor → sends machine es k a j ≡ st.standing k a j
 
--- The turns held are the reference's from b on, of each component those below its base; those before b are given.
-pub record IsHeld {S A : Type 0} (machine : Machine S A) (e : Exchange A) (b : ℕ) : Type 0 where
-  pub low : (j : ℕ) → b ≤ (e.stub j).base
+-- The turns held are the reference's from b on, of each component those below its base; those before b are given. The base of a
+-- component that has a turn is not below b, nor is that of one of the first count components.
+pub record IsHeld {S A : Type 0} (machine : Machine S A) (count : ℕ) (e : Exchange A) (b : ℕ) : Type 0 where
+  pub end : b ≤ machine.top
+  pub low : (j : ℕ) → machine.key j 0 < machine.top → b ≤ (e.stub j).base
+  pub counted : (j : ℕ) → j < count → b ≤ (e.stub j).base
   pub given : e.given ≡ length (reference_below machine b)
   pub falls : Falls e.held
   pub turns : (k : ℕ) → outcome_at k e.held ≡ cond (nat_le b k && nat_lt k (e.stub (machine.owner k)).base) (reference_turn machine k) None
 
 -- A sound exchange: its bound lies between bases and floors and below all inboxes; what senders have standing is what receivers
--- have taken or will; below the bound both are what the reference sends; each stub has a run; and the turns held are the reference's.
-pub record IsSound {S A : Type 0} (machine : Machine S A) (e : Exchange A) : Type 0 where
+-- have taken or will; below the bound both are what the reference sends; each stub has a run; and the turns held are the reference's,
+-- given as far as the bases of the first count components allow.
+pub record IsSound {S A : Type 0} (machine : Machine S A) (count : ℕ) (e : Exchange A) : Type 0 where
   pub end : e.bound ≤ machine.top
   pub base : (j : ℕ) → (e.stub j).base ≤ e.bound
   pub floor : (j : ℕ) → e.bound ≤ (e.stub j).floor
@@ -68,7 +72,7 @@ pub record IsSound {S A : Type 0} (machine : Machine S A) (e : Exchange A) : Typ
   pub one_standing : (j k : ℕ) (a : A) → (e.stub (machine.owner k)).standing k a j ≤ 1
   pub low_taken : (j k : ℕ) (a : A) → k < (e.stub j).base → (e.stub j).taken k a ≡ 0
   pub low_standing : (j k : ℕ) (a : A) → k < (e.stub (machine.owner k)).base → (e.stub (machine.owner k)).standing k a j ≡ 0
-  pub held : (b : ℕ) × IsHeld machine e b
+  pub held : (b : ℕ) × IsHeld machine count e b
 
 -- A stub at the start: its floor is the key of its first turn.
 abbrev pub start_stub : {S A : Type 0} → Machine S A → ℕ → Stub A

@@ -41,10 +41,10 @@ IsCallWithin machine v count u (CallAlone i steps) = IsAhead machine v i u steps
 -- These calls, each within the window, lead from u to w.
 abbrev pub CallsWithin : {S A : Type 0} → Machine S A → ℕ → ℕ → Shared S A → List (Call A) → Shared S A → Type 0
 CallsWithin machine v count u [] w = w ≡ u
-CallsWithin {S} {A} machine v count u (c ∷ cs) w = (mid : Shared S A) × IsCallWithin machine v count u c × Called machine u c mid × CallsWithin machine v count mid cs w
+CallsWithin {S} {A} machine v count u (c ∷ cs) w = (mid : Shared S A) × IsCallWithin machine v count u c × Called machine count u c mid × CallsWithin machine v count mid cs w
 
 -- All is sound, and the exchange and each lease are within the window.
 pub record IsWindowed {S A : Type 0} (machine : Machine S A) (v count : ℕ) (u : Shared S A) : Type 0 where
-  pub shared : IsShared machine u
+  pub shared : IsShared machine count u
   pub exchange : IsExchangeWithin machine v count u.exchange
   pub leases : (i : ℕ) → IsWithin v count (record_of (u.lease i).part)

@@ -15,7 +15,7 @@ returns-clause-first g c machine i law = meet_start machine law i
 
 pub returns-clause-always : goal.returns-clause-always
 returns-clause-always g c machine count i calls shared law counted h =
-    let is = calls_kept machine law calls (start_shared machine) shared (start_is_shared machine law) h in
+    let is = calls_kept machine law count counted calls (start_shared machine) shared (start_is_shared machine law count) h in
     let q = calls_quiet machine law count counted calls (start_shared machine) shared (start_quiet machine law count counted) h in
     let r = meet_exists machine law count counted i shared.exchange is.sound (shared.lease i) (is.leases i) (is.match i) q.inbox (q.bag i) in
     (record { exchange = r.0; lease = put_lease i r.1 shared.lease }, (r.0, r.1, r.2, refl))

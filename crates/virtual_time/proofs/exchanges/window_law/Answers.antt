@@ -39,4 +39,4 @@ pub returns-clause-first : goal.returns-clause-first
 returns-clause-first g c machine v count law = start_windowed machine law v count
 
 pub returns-clause-calls : goal.returns-clause-calls
-returns-clause-calls g c machine v count calls u w law is h = calls_within machine law v count calls u w is h
+returns-clause-calls g c machine v count calls u w law counted is h = calls_within machine law v count counted calls u w is h
