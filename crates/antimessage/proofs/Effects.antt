@@ -103,7 +103,7 @@ meet_others x m bag f g =
     ]
 
 -- an order by parts is not Greater where its first part is
-first_part : (o p : Ordering) → is_gt (ordering_then o p) ≡ false → is_gt o ≡ false
+pub first_part : (o p : Ordering) → is_gt (ordering_then o p) ≡ false → is_gt o ≡ false
 first_part Less p e = refl
 first_part Equal p e = refl
 first_part Greater p e = e

@@ -3,3 +3,5 @@ pub mod Sorted
 pub mod Meeting
 pub mod Pairs
 pub mod Effects
+pub mod Below
+pub mod Placed

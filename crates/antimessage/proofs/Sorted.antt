@@ -4,12 +4,12 @@ use Rattle.std.specs.declared.cmp.Ordering.{Ordering}
 use Rattle.std.specs.declared.cmp.Ordering.TheVariants.{Less, Equal, Greater}
 use Rattle.std.specs.Ordering.{is_gt, ordering_reverse}
 use Rattle.std.specs.Cmp.{IsTotalOrder}
-use Rattle.raw_events.specs.Around.{insert_sorted, without_where}
+use Rattle.raw_events.specs.Around.{insert_sorted, tail, without_where}
 use Rattle.event_keys.specs.declared.message.Signed.{Signed}
 use Rattle.event_keys.specs.contracts.message.SignedOrd.TheImpl.Laws.{total-law}
 use Rattle.antimessage.specs.Counts.{Each, IsRising, IsSorted, signed_cmp}
 use Rattle.antimessage.specs.Order.{Fits, IsInOrder}
-use Rattle.antimessage.specs.Bags.{insert}
+use Rattle.antimessage.specs.Bags.{insert, insert_all}
 
 module _ {A : Type 0} where
   -- what holds of each item holds of each that is left
@@ -91,3 +91,11 @@ order_left test xs o = record {
   sorted = signed_left test xs o.sorted;
   fits = each_left Fits test xs o.fits;
 }
+
+pub order_tail : (xs : List Signed) → IsInOrder xs → IsInOrder (tail xs)
+order_tail [] o = o
+order_tail (x ∷ xs) o = record { sorted = o.sorted.1; fits = o.fits.1 }
+
+pub order_all : (more bag : List Signed) → IsInOrder more → IsInOrder bag → IsInOrder (insert_all more bag)
+order_all [] bag p o = o
+order_all (x ∷ more) bag p o = order_all more (insert x bag) (record { sorted = p.sorted.1; fits = p.fits.1 }) (order_inserted x bag p.fits.0 o)

@@ -3,12 +3,12 @@ ghost use Rattle.std.specs.Prelude.{◌≡◌, [], not};
 ghost use Rattle.std.specs.Cmp.Lexicographic.{pointwise, lists_per, lists_equiv};
 ghost use Rattle.event_keys.specs.contracts.message.SignedPartialEq.TheImpl.Laws.{laws-law as signed_laws};
 ghost use Rattle.event_keys.specs.contracts.message.SignedEq.TheImpl.Laws.{laws-law as signed_equivalence};
-ghost use Rattle.raw_events.specs.Around.{is_nonempty, first_where, without_where};
+ghost use Rattle.raw_events.specs.Around.{head, tail, is_nonempty, first_where, without_where};
 ghost use Rattle.antimessage.specs.Order.{IsInOrder};
 ghost use Rattle.antimessage.specs.Meetings.{IsAllMet, IsPairCount};
-ghost use Rattle.antimessage.specs.Bags.{insert, is_to, is_one, remove, has_pair, met, least_of};
+ghost use Rattle.antimessage.specs.Bags.{insert, is_to, is_one, remove, has_pair, met, least_of, insert_all, without_below};
 
-use crate::walks;
+use crate::{merge, walks};
 use event_keys::{Bound, Message, Sign, Signed};
 use raw_events::{EventCell, EventList, Iter};
 use std::marker::Model;
@@ -66,6 +66,15 @@ impl Bag {
         walks::take_to(&mut self.events, to)
     }
 
+    /// Takes the least of all; `None` only where the bag is empty.
+    #[tactic(auto, using(crate::proofs::Sorted::order_tail))]
+    pub fn take_first(&mut self) -> Option<EventCell<Signed>>
+        ensures taken { result ≡ head self.old }
+        ensures rest { self.new ≡ tail self.old }
+    {
+        self.events.take_first()
+    }
+
     /// Takes one that equals `signed`; `None` only where there is none.
     #[tactic(auto, using(crate::proofs::Sorted::order_left))]
     pub fn take_equal(&mut self, signed: &Signed) -> Option<EventCell<Signed>>
@@ -91,6 +100,23 @@ impl Bag {
         ensures pairs { IsPairCount self.old self.new result }
     {
         walks::meet_all(&mut self.events)
+    }
+
+    /// Moves all messages of `other` into this bag, each to its place. `other` is left empty.
+    #[tactic(auto, using(crate::proofs::Sorted::order_all))]
+    pub fn append(&mut self, other: &mut Bag)
+        ensures all { self.new ≡ insert_all other.old self.old }
+        ensures empty { other.new ≡ [] }
+    {
+        merge::append(&mut self.events, &mut other.events);
+    }
+
+    /// Drops all messages whose keys are below the bound.
+    #[tactic(auto, using(crate::proofs::Below::order_from))]
+    pub fn drop_below(&mut self, bound: Bound)
+        ensures { self.new ≡ without_below bound self.old }
+    {
+        merge::drop_below(&mut self.events, bound);
     }
 
     /// The least key of all, or the end where the bag is empty.

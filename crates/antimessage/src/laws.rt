@@ -4,12 +4,13 @@ ghost use Rattle.std.specs.Ordering.{is_gt};
 ghost use Rattle.std.specs.Bool.{Decides};
 ghost use Rattle.event_keys.specs.declared.message.Message.{Message as MessageValue};
 ghost use Rattle.event_keys.specs.declared.message.Signed.{Signed as SignedValue};
+ghost use Rattle.event_keys.specs.declared.key.Bound.{Bound as BoundValue};
 ghost use Rattle.event_keys.specs.declared.key.Bound.TheVariants.{At};
 ghost use Rattle.event_keys.specs.Orders.{bound_order};
 ghost use Rattle.antimessage.specs.Order.{IsInOrder};
 ghost use Rattle.antimessage.specs.Counts.{Each, IsSorted, signed_cmp, plus, minus, count};
 ghost use Rattle.raw_events.specs.Around.{first_where, without_where};
-ghost use Rattle.antimessage.specs.Bags.{insert, is_one, has_pair, met, least_of};
+ghost use Rattle.antimessage.specs.Bags.{insert, insert_all, is_one, has_pair, met, least_of, is_below, without_below};
 
 use crate::bag::Bag;
 
@@ -51,6 +52,18 @@ pub fn take_law()
 pub fn take_equal_law()
     ensures same { (x s : SignedValue) (bag : List SignedValue) → first_where (is_one x) bag ≡ Some s → s ≡ x }
     ensures none { (x : SignedValue) (bag : List SignedValue) → first_where (is_one x) bag ≡ None → count x bag ≡ 0 }
+{}
+
+/// To append adds the two counts of each signed message, and what is in order stays so.
+pub fn append_law()
+    ensures counts { (x : SignedValue) (more bag : List SignedValue) → count x (insert_all more bag) ≡ count x more + count x bag }
+    ensures sorted { (more bag : List SignedValue) → IsSorted bag → IsSorted (insert_all more bag) }
+{}
+
+/// To drop below a bound leaves the count of each message at or above the bound, and none of one below it.
+pub fn drop_below_law()
+    ensures kept { (bound : BoundValue) (x : SignedValue) (bag : List SignedValue) → is_below bound x ≡ false → count x (without_below bound bag) ≡ count x bag }
+    ensures dropped { (bound : BoundValue) (x : SignedValue) (bag : List SignedValue) → is_below bound x ≡ true → count x (without_below bound bag) ≡ 0 }
 {}
 
 /// To meet takes one off both counts of a message, and leaves all others; without a pair the bag stays.

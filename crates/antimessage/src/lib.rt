@@ -6,6 +6,7 @@
 
 pub mod bag;
 pub mod laws;
+pub(crate) mod merge;
 pub(crate) mod walks;
 
 pub use bag::Bag;

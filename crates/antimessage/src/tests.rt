@@ -166,3 +166,48 @@ fn the_order_of_posts_makes_no_difference(rt: HostRuntime) -> Result<(), Fail> {
     assert!(rt; signs.next() == Some(Sign::Plus));
     Ok(())
 }
+
+#[test]
+fn the_first_is_the_least(rt: HostRuntime) -> Result<(), Fail> {
+    let mut flight = bag(&rt, vec![in rt.alloc(); plus(&rt, 6, 1), minus(&rt, 3, 4)]?)?;
+    assert_took(&rt, flight.take_first(), Some(minus(&rt, 3, 4)));
+    assert_took(&rt, flight.take_first(), Some(plus(&rt, 6, 1)));
+    assert_took(&rt, flight.take_first(), None);
+    Ok(())
+}
+
+#[test]
+fn one_bag_goes_into_another(rt: HostRuntime) -> Result<(), Fail> {
+    let mut flight = bag(&rt, vec![in rt.alloc(); plus(&rt, 6, 1), plus(&rt, 3, 1)]?)?;
+    let mut more = bag(
+        &rt,
+        vec![in rt.alloc(); plus(&rt, 9, 1), plus(&rt, 6, 1), minus(&rt, 2, 1)]?,
+    )?;
+    let all = bag(
+        &rt,
+        vec![in rt.alloc();
+            minus(&rt, 2, 1),
+            plus(&rt, 3, 1),
+            plus(&rt, 6, 1),
+            plus(&rt, 6, 1),
+            plus(&rt, 9, 1),
+        ]?,
+    )?;
+    flight.append(&mut more);
+    assert!(rt; flight == all);
+    assert!(rt; more.is_empty());
+    Ok(())
+}
+
+#[test]
+fn what_is_below_is_dropped(rt: HostRuntime) -> Result<(), Fail> {
+    let mut flight = bag(
+        &rt,
+        vec![in rt.alloc(); plus(&rt, 6, 1), minus(&rt, 3, 1), plus(&rt, 9, 1)]?,
+    )?;
+    flight.drop_below(Bound::At(key(6)));
+    assert!(rt; flight == bag(&rt, vec![in rt.alloc(); plus(&rt, 6, 1), plus(&rt, 9, 1)]?)?);
+    flight.drop_below(Bound::End);
+    assert!(rt; flight.is_empty());
+    Ok(())
+}

@@ -9,7 +9,7 @@ ghost use Rattle.antimessage.specs.Meetings.{IsAllMet, IsPairCount, can_meet};
 use event_keys::{Message, Sign, Signed};
 use raw_events::{EventCell, EventList};
 
-fn take_next(events: &mut EventList<Signed>) -> Option<EventCell<Signed>>
+pub(crate) fn take_next(events: &mut EventList<Signed>) -> Option<EventCell<Signed>>
     ensures taken { result ≡ head events.old.after }
     ensures rest { events.new ≡ record events.old { after = tail events.old.after } }
 {
@@ -19,7 +19,7 @@ fn take_next(events: &mut EventList<Signed>) -> Option<EventCell<Signed>>
     events.take_last()
 }
 
-fn rewind(events: &mut EventList<Signed>)
+pub(crate) fn rewind(events: &mut EventList<Signed>)
     ensures { events.new ≡ record { before = []; after = reverse events.old.before ++ events.old.after } }
 {
     let mut rewound = EventList::new();
