@@ -127,6 +127,28 @@ impl<T: Turns> Setup<T> {
         })
     }
 
+    /// The key of the first turn of component `i`, if it has one. One question to the turns.
+    pub fn first_key(&self, i: u16) -> Option<Key>
+        ensures { result ≡ key_of (system T.turn_of self.now) i 0 }
+    {
+        self.key(i, 0)
+    }
+
+    /// The key of the turn of component `i` after the one of this key, if there is one. One question to the turns.
+    pub fn key_after(&self, i: u16, key: Key) -> Option<Key>
+        requires there { Some key ≡ key_of (system T.turn_of self.now) i key.number }
+        requires small { key.number < 4294967296 }
+        ensures value { result ≡ key_of (system T.turn_of self.now) i (key.number + 1) }
+        ensures bounded { IfSome result (λ next. next.number < 4294967296) }
+    {
+        let tick = self.next_tick(i, key.number + 1, key.tick)?;
+        Some(Key {
+            tick,
+            component: i,
+            number: key.number + 1,
+        })
+    }
+
     /// Turn `n` of component `i`, if it exists, its task below the number of the component's tasks (0
     /// where it has none). The work grows with `n`.
     pub fn turn(&self, i: u16, n: u64) -> Option<Turn>

@@ -62,11 +62,14 @@ fn undoes_to_each_mark(rt: HostRuntime) -> Result<(), Fail> {
     store.mark(alloc)?;
     store.set(0, number(8))?;
     assert_eq!(rt; shown(&store), Some(Scalar::Int(8)));
+    assert_eq!(rt; store.marks(), 2);
     assert!(rt; store.undo());
     assert_eq!(rt; shown(&store), Some(Scalar::Int(7)));
+    assert_eq!(rt; store.marks(), 1);
     assert!(rt; store.undo());
     assert_eq!(rt; shown(&store), Some(Scalar::Int(5)));
     assert!(rt; !store.undo());
+    assert_eq!(rt; store.marks(), 0);
     Ok(())
 }
 
