@@ -1,26 +1,27 @@
 -- What a component keeps where it drops its done entries below a bound.
-use Rattle.std.proofs.Common.{◌≡◌, ℕ, suc, ◌+◌, ◌-◌, ◌<◌, ◌≤◌, Bool, true, false, cond, Option, None, Some, List, [], ◌∷◌, ◌++◌, length, map, take, refl, ap, sym, subst, ◌∙◌, arith}
+use Rattle.std.proofs.Common.{◌≡◌, ℕ, ◌+◌, ◌-◌, ◌<◌, Bool, true, false, cond, Option, List, [], ◌∷◌, length, map, take, refl, ap, sym, subst, ◌∙◌, arith}
 use Rattle.std.specs.Prelude.{IfSome}
-use Rattle.std.proofs.lemmas.List.{length-append}
 use Rattle.terms.specs.Datum.{Datum}
 use Rattle.terms.specs.Named.{Named}
 use Rattle.event_keys.specs.declared.key.Key.{Key}
 use Rattle.event_keys.specs.declared.message.Signed.{Signed}
-use Rattle.event_keys.specs.declared.outcome.Turned.{Turned}
 use Rattle.raw_events.specs.Around.{Around}
 use Rattle.undo_records.specs.First.{oldest}
 use Rattle.undo_records.specs.States.{States, without_first}
-use Rattle.virtual_time.specs.Entries.{Entry, Own, Input as Received, below, from, number, replay}
+use Rattle.virtual_time.specs.Entries.{Entry, below, from, number, replay}
 use Rattle.virtual_time.specs.Records.{cut_of, turns_among}
 use Rattle.task_seed.specs.Turning.{System, key_of}
 use Rattle.task_seed.specs.Machines.{machine}
 use Rattle.rollback.specs.declared.done.Done.{Done}
 use Rattle.rollback.specs.declared.done.Done.TheVariants.{Turn, Input}
 use Rattle.rollback.specs.Dropped.{turn_of, is_done_below, dones_below, dones_from, turns_in, newest_key, number_after}
+use Rattle.rollback.specs.Falling.{IsFalling}
+use Rattle.rollback.specs.Flight.{items_of}
+use Rattle.rollback.proofs.Falling.{falling_from}
 use Rattle.rollback.specs.Kept.{entry_of, entries_of, IsReady, AllReady, base_state, record_of, IsReplayed, IsKept, onto}
 use Rattle.rollback.specs.Replays.{replays_below}
 use Rattle.rollback.proofs.Keeping.{depth_is, number_is}
-use Rattle.rollback.proofs.Replays.{from_below, number_cut, oldest_replay, replay_cut, replays_cut}
+use Rattle.rollback.proofs.Replays.{number_cut, oldest_replay, replay_cut, replays_cut}
 
 pub entries_below : (c : ℕ) (ds : List Done) → entries_of (dones_below c ds) ≡ below c (entries_of ds)
 entries_below c [] = refl
@@ -149,6 +150,7 @@ module _ (s : System) (i : ℕ) where
           small = kept.small;
           waiting = kept.waiting;
           owing = kept.owing;
+          falling = subst (λ (es : List (Entry Named)). IsFalling es (items_of pending.after) own) (sym (entries_from c done.before)) (falling_from c (entries_of done.before) (items_of pending.after) own kept.falling);
         }
 
     pub dropped_record : record_of (without_first (length (dones_below c done.before)) states) (number first (entries_of (dones_below c done.before))) (record { before = dones_from c done.before; after = [] }) pending owed ≡ cut_of (machine s) i c (record_of states first done pending owed)

@@ -1,5 +1,5 @@
 -- What the fields of two components tell of their equality.
-use Rattle.std.proofs.Common.{◌≡◌, ℕ, ◌+◌, ◌&&◌, nat_eq, ◌<◌, Bool, true, false, Option, None, Some, List, [], ◌∷◌, ◌++◌, reverse, refl, ap, sym, subst, ◌∙◌, arith, rules, if◌then◌else◌}
+use Rattle.std.proofs.Common.{◌≡◌, ℕ, ◌+◌, ◌&&◌, nat_eq, Bool, true, false, Option, None, Some, List, [], ◌∷◌, ◌++◌, reverse, refl, ap, sym, subst, ◌∙◌, arith, rules, if◌then◌else◌}
 use Rattle.std.proofs.lemmas.Grind.{reverse_onto}
 use Rattle.std.specs.Bool.{Decides, one_answer}
 use Rattle.std.specs.Ordering.{is_eq}
@@ -29,11 +29,11 @@ use Rattle.antimessage.specs.Counts.{Each, is_same}
 use Rattle.antimessage.specs.Order.{Fits}
 use Rattle.undo_records.specs.First.{same_state}
 use Rattle.undo_records.specs.States.{States}
-use Rattle.virtual_time.specs.Entries.{Entry, Own, Input as Received, entry_key, number}
+use Rattle.virtual_time.specs.Entries.{Entry, Own, entry_key, number}
 use Rattle.task_seed.specs.Turning.{System, has_turns, ticks, key_at, key_of}
 use Rattle.rollback.specs.declared.done.Done.{Done}
 use Rattle.rollback.specs.declared.done.Done.TheVariants.{Turn, Input}
-use Rattle.rollback.specs.Flight.{item_of, items_of, AllGo}
+use Rattle.rollback.specs.Flight.{items_of, AllGo}
 use Rattle.rollback.specs.Kept.{entry_of, entries_of, IsSmall, IsReady, AllReady, base_state, record_of, IsQueue, IsKept}
 use Rattle.rollback.specs.Same.{same_item, same_entry, same_events, same_held, same_done}
 use Rattle.rollback.specs.SameLaws.{entry_decides}

@@ -167,7 +167,7 @@ module _ (s : System) (sign : Sign) (j : ℕ) where
         go rest true = refl
         go rest false = ap (λ zs. item_of y ∷ zs) rest
 
-  hit_same : (x y : Signed) → Fits x → Fits y → goes sign j x ≡ true → goes sign j y ≡ true → hit (machine s) (item_of x) (rank y.message.key) y.message.action ≡ (if is_same x y then 1 else 0)
+  pub hit_same : (x y : Signed) → Fits x → Fits y → goes sign j x ≡ true → goes sign j y ≡ true → hit (machine s) (item_of x) (rank y.message.key) y.message.action ≡ (if is_same x y then 1 else 0)
   unfolding hit
   hit_same x y f g p q = ap (λ (b : Bool). if b then 1 else 0) (item_same x y f g p q)
 

@@ -1,5 +1,5 @@
 -- What the fields of a component keep through its steps.
-use Rattle.std.proofs.Common.{◌≡◌, ℕ, suc, ◌+◌, ◌<◌, ◌==◌, ◌&&◌, ◌||◌, is_some, Bool, true, false, Option, None, Some, List, [], ◌∷◌, refl, ap, sym, subst, ◌∙◌, arith, ltb}
+use Rattle.std.proofs.Common.{◌≡◌, ℕ, suc, ◌+◌, ◌<◌, ◌≤◌, ◌==◌, ◌&&◌, ◌||◌, is_some, Bool, true, false, Option, None, Some, List, [], ◌∷◌, refl, ap, sym, subst, ◌∙◌, arith}
 use Rattle.std.specs.Prelude.{cond, if◌then◌else◌, nat_lt, IfSome, length}
 use Rattle.std.proofs.lemmas.Bool.{lt-ltb, le-ltb}
 use Rattle.terms.specs.Datum.{Datum}
@@ -12,26 +12,27 @@ use Rattle.event_keys.specs.declared.message.Signed.{Signed}
 use Rattle.event_keys.specs.declared.outcome.Turned.{Turned}
 use Rattle.event_keys.specs.Entries.{action_of}
 use Rattle.event_keys.specs.Ranks.{rank}
-use Rattle.raw_events.specs.Around.{Around, head, tail, is_nonempty, first_where}
+use Rattle.raw_events.specs.Around.{Around, head, first_where}
 use Rattle.std.specs.Ordering.{is_gt}
 use Rattle.antimessage.specs.Counts.{Each, signed_cmp}
 use Rattle.antimessage.specs.Bags.{insert, remove, is_one}
 use Rattle.antimessage.specs.Order.{Fits, IsInOrder}
 use Rattle.virtual_time.specs.Bags.{insert as theory_insert, remove as theory_remove, has as theory_has}
-use Rattle.rollback.proofs.Flight.{order_insert, order_remove, order_tail, go_insert, go_remove, items_insert, items_remove, items_has}
-use Rattle.virtual_time.specs.Bags.{inputs}
+use Rattle.rollback.proofs.Flight.{order_insert, order_remove, order_tail, go_insert, go_remove, items_insert, items_remove, items_has, items_sorted}
+use Rattle.virtual_time.specs.Bags.{IsSorted, inputs}
 use Rattle.virtual_time.specs.Records.{is_input}
 use Rattle.event_keys.specs.contracts.message.MessagePartialEq.TheImpl as message_eq
 use Rattle.antimessage.specs.Counts.{is_same}
 use Rattle.rollback.specs.Kept.{is_entry_input, is_any_input}
 use Rattle.rollback.proofs.Flight.{item_same}
+use Rattle.rollback.specs.Falling.{IsFalling}
+use Rattle.rollback.proofs.Falling.{rises, falling_none, falling_input, falling_turn, falling_back_turn, falling_back_input, falling_insert, falling_remove}
 use Rattle.rollback.proofs.Unwinding.{inputs_more}
 use Rattle.rollback.proofs.Replays.{length_replays, oldest_replay}
 use Rattle.rollback.specs.Post.{opposite, opposed}
 use Rattle.undo_records.specs.States.{States, undone}
 use Rattle.compose.specs.Steps.{applied}
-use Rattle.virtual_time.specs.Machine.{Machine}
-use Rattle.virtual_time.specs.Entries.{Entry, Own, Input as Received, Item, by_own, number, replay}
+use Rattle.virtual_time.specs.Entries.{Entry, Own, Input as Received, Item, by_own, latest, number, replay}
 use Rattle.virtual_time.specs.Records.{Record, own_next, least_of, next_of}
 use Rattle.task_seed.specs.Turning.{System, has_turns, ticks, key_at, key_of}
 use Rattle.task_seed.specs.Machines.{machine, turn_rank, turn_outcome, end_rank}
@@ -39,9 +40,8 @@ use Rattle.rollback.specs.declared.done.Done.{Done}
 use Rattle.rollback.specs.declared.done.Done.TheVariants.{Turn, Input}
 use Rattle.rollback.specs.Flight.{goes, is_sign, item_of, items_of, AllGo}
 use Rattle.rollback.specs.Replays.{replays_below}
-use Rattle.rollback.specs.Kept.{entry_of, entries_of, signed_of, IsSmall, IsReady, AllReady, IsTimed, base_state, record_of, IsReplayed, IsQueue, IsKept}
-use Rattle.rollback.specs.Held.{is_receiving}
-use Rattle.rollback.specs.Coming.{is_before_own, received, turning, coming_of}
+use Rattle.rollback.specs.Kept.{entry_of, entries_of, signed_of, IsSmall, AllReady, IsTimed, base_state, record_of, IsReplayed, IsQueue, IsKept}
+use Rattle.rollback.specs.Coming.{is_before_own, turning, coming_of}
 
 -- the rank of a key, or the end where there is none
 abbrev rank_or_end : Option Key → ℕ
@@ -166,11 +166,23 @@ module _ (s : System) (i : ℕ) where
       let timed : Each IsTimed (x ∷ xs) = subst (λ (l : List Signed). Each IsTimed l) h q.timed in
       (go.0, order.fits.0, timed.0, record { front = q.front; order = order_tail x xs order; go = go.1; timed = timed.1 })
 
+  pub queue_items_insert : (sign : Sign) (queue : Around Signed) (x : Signed) → IsQueue sign i queue → Fits x → goes sign i x ≡ true
+      → items_of (insert x queue.after) ≡ theory_insert (machine s) (item_of x) (items_of queue.after)
+  queue_items_insert sign queue x q fits go = items_insert s sign i x queue.after q.order fits q.go go
+
+  pub queue_items_remove : (sign : Sign) (queue : Around Signed) (x : Signed) → IsQueue sign i queue → Fits x → goes sign i x ≡ true
+      → items_of (remove x queue.after) ≡ theory_remove (machine s) (item_of x) (items_of queue.after)
+  queue_items_remove sign queue x q fits go = items_remove s sign i x queue.after q.order.fits fits q.go go
+
+  pub queue_items_has : (sign : Sign) (queue : Around Signed) (x : Signed) → IsQueue sign i queue → Fits x → goes sign i x ≡ true
+      → is_some (first_where (is_one x) queue.after) ≡ theory_has (machine s) (item_of x) (items_of queue.after)
+  queue_items_has sign queue x q fits go = items_has s sign i x queue.after q.order.fits fits q.go go
+
   -- the first pending input is done
   pub kept_input : (first : ℕ) (states : States) (done : Around Done) (pending owed : Around Signed) (own : Option Key) (x : Signed) (xs : List Signed)
-      → IsKept s i first states done pending owed own → pending.after ≡ x ∷ xs
+      → IsKept s i first states done pending owed own → pending.after ≡ x ∷ xs → is_before_own (head pending.after) own ≡ true
       → IsKept s i first (record { current = applied s.composition i x.message.action states.current; below = states.current ∷ states.below }) (record done { before = Input x ∷ done.before }) (record pending { after = xs }) owed own
-  kept_input first states done pending owed own x xs kept h =
+  kept_input first states done pending owed own x xs kept h before =
       let t = queue_tail Plus pending x xs h kept.waiting in
       record {
         there = kept.there;
@@ -181,13 +193,15 @@ module _ (s : System) (i : ℕ) where
         small = kept.small;
         waiting = t.3;
         owing = kept.owing;
+        falling = falling_input (machine s) (entries_of done.before) x xs own (subst (λ (l : List Signed). IsFalling (entries_of done.before) (items_of l) own) h kept.falling)
+            (subst (λ (l : List Signed). IsSorted (machine s) (items_of l)) h (items_sorted s Plus i pending.after kept.waiting.order kept.waiting.go)) (sym (ap (λ l. is_before_own (head l) own) h) ∙ before);
       }
 
   -- the own turn is done
   pub kept_turn : (first : ℕ) (states : States) (done : Around Done) (pending owed : Around Signed) (own next : Option Key) (turned : Turned)
-      → IsKept s i first states done pending owed own → own ≡ Some turned.key → next ≡ key_of s i (turned.key.number + 1) → IfSome next IsSmall
+      → IsKept s i first states done pending owed own → own ≡ Some turned.key → next ≡ key_of s i (turned.key.number + 1) → IfSome next IsSmall → is_before_own (head pending.after) own ≡ false
       → IsKept s i first (record { current = by_own (machine s) i (action_of turned.outcome) states.current; below = states.current ∷ states.below }) (record done { before = Turn turned (record { before = signed_of s Minus i turned.key turned.outcome; after = [] }) ∷ done.before }) pending owed next
-  kept_turn first states done pending owed own next turned kept h is small =
+  kept_turn first states done pending owed own next turned kept h is small before =
       let n = number first (entries_of done.before) in
       let there : Some turned.key ≡ key_of s i n = sym h ∙ kept.next in
       let same : turned.key.number ≡ n = number_is n turned.key there in
@@ -200,6 +214,9 @@ module _ (s : System) (i : ℕ) where
         small = small;
         waiting = kept.waiting;
         owing = kept.owing;
+        falling = falling_turn (machine s) (entries_of done.before) pending.after turned.key (action_of turned.outcome) next (subst (λ (o : Option Key). IsFalling (entries_of done.before) (items_of pending.after) o) h kept.falling)
+            (items_sorted s Plus i pending.after kept.waiting.order kept.waiting.go) (sym (ap (is_before_own (head pending.after)) h) ∙ before)
+            (rises s i turned.key.number turned.key next (there ∙ ap (key_of s i) (sym same)) is);
       }
 
   -- the last done entry, a turn, is taken back
@@ -218,6 +235,7 @@ module _ (s : System) (i : ℕ) where
         small = ready.0.1;
         waiting = kept.waiting;
         owing = kept.owing;
+        falling = falling_back_turn (machine s) (entries_of ds) (items_of pending.after) turned.key (action_of turned.outcome) own (subst (λ (l : List Done). IsFalling (entries_of l) (items_of pending.after) own) h kept.falling);
       }
 
   -- the last done entry, an input, is taken back
@@ -236,6 +254,8 @@ module _ (s : System) (i : ℕ) where
         small = kept.small;
         waiting = queue_insert Plus pending x kept.waiting ready.0.1 ready.0.0 ready.0.2;
         owing = kept.owing;
+        falling = subst (λ (l : List (Item Named)). IsFalling (entries_of ds) l own) (sym (queue_items_insert Plus pending x kept.waiting ready.0.1 ready.0.0))
+            (falling_back_input (machine s) (entries_of ds) (item_of x) (items_of pending.after) own (subst (λ (l : List Done). IsFalling (entries_of l) (items_of pending.after) own) h kept.falling));
       }
 
   -- the fields at the start
@@ -251,18 +271,30 @@ module _ (s : System) (i : ℕ) where
         small = small;
         waiting = record { front = refl; order = record { sorted = tt; fits = tt }; go = tt; timed = tt };
         owing = record { front = refl; order = record { sorted = tt; fits = tt }; go = tt; timed = tt };
+        falling = falling_none own;
       }
 
   -- other pending inputs, or other owed antimessages
   pub with_waiting : (first : ℕ) (states : States) (done : Around Done) (pending owed new : Around Signed) (own : Option Key) → IsKept s i first states done pending owed own → IsQueue Plus i new
-      → IsKept s i first states done new owed own
-  with_waiting first states done pending owed new own kept q =
-      record { there = kept.there; replayed = kept.replayed; ready = kept.ready; ahead = kept.ahead; next = kept.next; small = kept.small; waiting = q; owing = kept.owing }
+      → IsFalling (entries_of done.before) (items_of new.after) own → IsKept s i first states done new owed own
+  with_waiting first states done pending owed new own kept q falling =
+      record { there = kept.there; replayed = kept.replayed; ready = kept.ready; ahead = kept.ahead; next = kept.next; small = kept.small; waiting = q; owing = kept.owing; falling = falling }
+
+  module _ (first : ℕ) (states : States) (done : Around Done) (pending owed : Around Signed) (own : Option Key) (kept : IsKept s i first states done pending owed own) where
+    pub waiting_insert : (x : Signed) → Fits x → goes Plus i x ≡ true → latest 0 (entries_of done.before) ≤ rank x.message.key → IsFalling (entries_of done.before) (items_of (insert x pending.after)) own
+    waiting_insert x fits there late =
+        subst (λ (l : List (Item Named)). IsFalling (entries_of done.before) l own) (sym (queue_items_insert Plus pending x kept.waiting fits there))
+        (falling_insert (machine s) (entries_of done.before) (item_of x) (items_of pending.after) own kept.falling late)
+
+    pub waiting_remove : (x : Signed) → Fits x → goes Plus i x ≡ true → IsFalling (entries_of done.before) (items_of (remove x pending.after)) own
+    waiting_remove x fits there =
+        subst (λ (l : List (Item Named)). IsFalling (entries_of done.before) l own) (sym (queue_items_remove Plus pending x kept.waiting fits there))
+        (falling_remove (machine s) (entries_of done.before) (item_of x) (items_of pending.after) own kept.falling)
 
   pub with_owing : (first : ℕ) (states : States) (done : Around Done) (pending owed new : Around Signed) (own : Option Key) → IsKept s i first states done pending owed own → IsQueue Minus i new
       → IsKept s i first states done pending new own
   with_owing first states done pending owed new own kept q =
-      record { there = kept.there; replayed = kept.replayed; ready = kept.ready; ahead = kept.ahead; next = kept.next; small = kept.small; waiting = kept.waiting; owing = q }
+      record { there = kept.there; replayed = kept.replayed; ready = kept.ready; ahead = kept.ahead; next = kept.next; small = kept.small; waiting = kept.waiting; owing = q; falling = kept.falling }
 
   -- as many states as done entries below the current one
   pub depth_is : (states : States) (ds : List Done) → IsReplayed s i states ds → length states.below ≡ length (entries_of ds)
@@ -280,18 +312,6 @@ module _ (s : System) (i : ℕ) where
       go : (t : Sign) → (is_sign Minus t && (x.message.to == i)) ≡ true → (is_sign Plus (opposite t) && (x.message.to == i)) ≡ true
       go Plus e = cc
       go Minus e = e
-
-  pub queue_items_insert : (sign : Sign) (queue : Around Signed) (x : Signed) → IsQueue sign i queue → Fits x → goes sign i x ≡ true
-      → items_of (insert x queue.after) ≡ theory_insert (machine s) (item_of x) (items_of queue.after)
-  queue_items_insert sign queue x q fits go = items_insert s sign i x queue.after q.order fits q.go go
-
-  pub queue_items_remove : (sign : Sign) (queue : Around Signed) (x : Signed) → IsQueue sign i queue → Fits x → goes sign i x ≡ true
-      → items_of (remove x queue.after) ≡ theory_remove (machine s) (item_of x) (items_of queue.after)
-  queue_items_remove sign queue x q fits go = items_remove s sign i x queue.after q.order.fits fits q.go go
-
-  pub queue_items_has : (sign : Sign) (queue : Around Signed) (x : Signed) → IsQueue sign i queue → Fits x → goes sign i x ≡ true
-      → is_some (first_where (is_one x) queue.after) ≡ theory_has (machine s) (item_of x) (items_of queue.after)
-  queue_items_has sign queue x q fits go = items_has s sign i x queue.after q.order.fits fits q.go go
 
   -- messages of one sign are equal where they are the same message
   same_plus : (a b : Message) → message_eq.ghosts.eq a b ≡ is_same (record { message = a; sign = Plus }) (record { message = b; sign = Plus })

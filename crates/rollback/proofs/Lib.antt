@@ -2,6 +2,7 @@ pub mod Flight
 mod Posts
 mod Replays
 mod Sending
+mod Falling
 mod Keeping
 mod Stepping
 mod Unwinding
@@ -9,3 +10,7 @@ mod Dropping
 mod Returning
 mod Nearest
 mod Equality
+mod Searching
+mod Levels
+mod Taken
+mod Standing

@@ -1,6 +1,6 @@
 -- What the steps of a component do to its record.
-use Rattle.std.proofs.Common.{◌≡◌, ℕ, suc, ◌+◌, ◌<◌, Bool, true, false, Option, None, Some, List, [], ◌∷◌, ◌^◌, refl, ap, sym, subst, ◌∙◌, arith}
-use Rattle.std.specs.Prelude.{cond, IfSome, IsSomeAnd}
+use Rattle.std.proofs.Common.{◌≡◌, ℕ, ◌<◌, Bool, true, false, Option, None, Some, List, [], ◌∷◌, ◌^◌, refl, ap, sym, subst, ◌∙◌}
+use Rattle.std.specs.Prelude.{cond}
 use Rattle.terms.specs.Datum.{Datum}
 use Rattle.terms.specs.Named.{Named}
 use Rattle.event_keys.specs.declared.key.Key.{Key}
@@ -20,15 +20,14 @@ use Rattle.rollback.specs.Post.{IsPosted, post_all}
 use Rattle.rollback.proofs.Sending.{posted_outcome}
 use Rattle.undo_records.specs.States.{States, undone}
 use Rattle.compose.specs.Steps.{applied}
-use Rattle.virtual_time.specs.Machine.{Machine}
 use Rattle.virtual_time.specs.Entries.{Entry, Own, Input as Received, by_own, number, replay}
 use Rattle.virtual_time.specs.Records.{Record, next_of, roll_back_of, sent, unsent, without_first, undone as undone_by_theory}
-use Rattle.task_seed.specs.Turning.{System, key_of}
+use Rattle.task_seed.specs.Turning.{System}
 use Rattle.task_seed.specs.Machines.{machine, turn_outcome}
 use Rattle.rollback.specs.declared.done.Done.{Done}
 use Rattle.rollback.specs.declared.done.Done.TheVariants.{Turn, Input}
 use Rattle.rollback.specs.Flight.{item_of, items_of}
-use Rattle.rollback.specs.Kept.{entry_of, entries_of, signed_of, base_state, record_of, IsReplayed, AllReady, IsKept}
+use Rattle.rollback.specs.Kept.{entries_of, record_of, IsReplayed, AllReady, IsKept}
 use Rattle.rollback.specs.Held.{is_receiving, is_turning, last_of, processed, sent_next}
 use Rattle.rollback.specs.Coming.{is_before_own, received, turning, coming_of}
 use Rattle.rollback.proofs.Flight.{items_insert}
@@ -142,6 +141,10 @@ module _ (s : System) (i first : ℕ) (states : States) (done : Around Done) (pe
   -- the own turn comes next, and this is its key
   pub turning_by : (key : Key) → own ≡ Some key → is_turning (next_of (machine s) i now) ≡ true → next_of (machine s) i now ≡ turning (machine s) i now (Some key)
   turning_by key e h = turning_is (not_receiving (next_of (machine s) i now) h) ∙ ap (turning (machine s) i now) e
+
+  -- and then no pending input is before it
+  pub not_before : is_turning (next_of (machine s) i now) ≡ true → is_before_own (head pending.after) own ≡ false
+  not_before h = receiving_by ∙ not_receiving (next_of (machine s) i now) h
 
   -- what is posted where the last done entry, a turn, is taken back
   pub back_turn_sent : (turned : Turned) (minuses : Around Signed) (ds : List Done) (bag : List Signed) → done.before ≡ Turn turned minuses ∷ ds → turned.key.component < 2 ^ 16 → turned.key.number < 2 ^ 64

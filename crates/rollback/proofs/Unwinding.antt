@@ -1,5 +1,5 @@
 -- Roll-backs one after the other, as the coming of a message or of an antimessage asks for them.
-use Rattle.std.proofs.Common.{◌≡◌, ℕ, ◌+◌, ◌||◌, not, Bool, true, false, cond, List, [], ◌∷◌, length, refl, ap, sym, subst, ◌∙◌, arith}
+use Rattle.std.proofs.Common.{◌≡◌, ℕ, ◌+◌, ◌||◌, not, Bool, true, false, cond, List, [], ◌∷◌, length, refl, ap, sym, ◌∙◌, arith}
 use Rattle.virtual_time.specs.Machine.{Machine}
 use Rattle.virtual_time.specs.Entries.{Entry, Own, Input, Item}
 use Rattle.virtual_time.specs.Records.{Record, back_at, undone, roll_back_of, later, not_later, stays, back_until, before_last, is_input, unsent, sent_by, back_by_message, back_by_antimessage}

@@ -1,12 +1,12 @@
 -- What comes next: the first pending input, or the own turn.
-use Rattle.std.specs.Prelude.{◌≡◌, ℕ, Bool, true, false, cond, nat_lt, Option, None, Some}
+use Rattle.std.specs.Prelude.{ℕ, Bool, true, false, cond, nat_lt, Option, None, Some}
 use Rattle.terms.specs.Named.{Named}
 use Rattle.event_keys.specs.declared.key.Key.{Key}
 use Rattle.event_keys.specs.declared.message.Signed.{Signed}
 use Rattle.event_keys.specs.Ranks.{rank}
 use Rattle.virtual_time.specs.Machine.{Machine}
 use Rattle.virtual_time.specs.Entries.{Entry, Own, Input, number, replay}
-use Rattle.virtual_time.specs.Records.{Record, next_of}
+use Rattle.virtual_time.specs.Records.{Record}
 use Rattle.rollback.specs.Flight.{item_of}
 
 -- a pending input is before the own turn

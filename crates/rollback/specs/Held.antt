@@ -5,7 +5,6 @@ use Rattle.terms.specs.Named.{Named}
 use Rattle.event_keys.specs.declared.key.Bound.{Bound}
 use Rattle.event_keys.specs.declared.message.Sign.{Sign}
 use Rattle.event_keys.specs.declared.message.Sign.TheVariants.{Plus, Minus}
-use Rattle.event_keys.specs.declared.message.Signed.{Signed}
 use Rattle.virtual_time.specs.Machine.{Machine}
 use Rattle.virtual_time.specs.Entries.{Entry, Own, Input, Item, entry_key}
 use Rattle.virtual_time.specs.Records.{Record, after_entry, sent_by, message_comes, antimessage_comes, back_by_message, back_by_antimessage, stays, is_input}
@@ -13,7 +12,6 @@ use Rattle.task_seed.specs.declared.turns.Turn.{Turn}
 use Rattle.task_seed.specs.declared.setup.Setup.{Setup}
 use Rattle.task_seed.specs.Setups.{system}
 use Rattle.task_seed.specs.Machines.{machine}
-use Rattle.rollback.specs.Flight.{item_of}
 
 -- a component of a setup: its number, the bound of its base, and its record
 pub record Held (P : Type 0) : Type 0 where

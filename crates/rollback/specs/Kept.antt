@@ -1,5 +1,5 @@
 -- What a component keeps, and the record that it stands for.
-use Rattle.std.specs.Prelude.{◌≡◌, ℕ, ◌<◌, ◌||◌, not, nat_lt, Bool, true, false, List, [], ◌∷◌, map, Option, None, Some, IfSome, length}
+use Rattle.std.specs.Prelude.{◌≡◌, ℕ, ◌<◌, ◌&&◌, ◌||◌, not, nat_lt, Bool, true, false, List, [], ◌∷◌, map, Option, Some, IfSome, length}
 use Rattle.raw_events.specs.Around.{Around}
 use Rattle.terms.specs.Datum.{Datum}
 use Rattle.terms.specs.Named.{Named}
@@ -9,7 +9,6 @@ use Rattle.event_keys.specs.declared.message.Sign.TheVariants.{Plus, Minus}
 use Rattle.event_keys.specs.declared.message.Signed.{Signed}
 use Rattle.event_keys.specs.declared.outcome.Outcome.{Outcome}
 use Rattle.event_keys.specs.declared.outcome.Outcome.TheVariants.{Idle, Did}
-use Rattle.event_keys.specs.declared.outcome.Turned.{Turned}
 use Rattle.event_keys.specs.Entries.{action_of}
 use Rattle.event_keys.specs.Ranks.{rank}
 use Rattle.event_keys.specs.contracts.message.MessagePartialEq.TheImpl as message_eq
@@ -19,12 +18,13 @@ use Rattle.antimessage.specs.Order.{Fits, IsInOrder}
 use Rattle.undo_records.specs.First.{first_state}
 use Rattle.undo_records.specs.States.{States}
 use Rattle.compose.specs.Signatures.{receivers_of}
-use Rattle.virtual_time.specs.Entries.{Entry, Own, Input as Received, number, replay}
+use Rattle.virtual_time.specs.Entries.{Entry, Own, Input as Received, entry_key, number, replay}
 use Rattle.virtual_time.specs.Records.{Record}
 use Rattle.task_seed.specs.Turning.{System, key_of}
 use Rattle.task_seed.specs.Machines.{machine, end_rank}
 use Rattle.rollback.specs.declared.done.Done.{Done}
 use Rattle.rollback.specs.declared.done.Done.TheVariants.{Turn, Input}
+use Rattle.rollback.specs.Falling.{IsFalling}
 use Rattle.rollback.specs.Flight.{goes, item_of, items_of, AllGo}
 use Rattle.rollback.specs.Post.{signed_to}
 use Rattle.rollback.specs.Replays.{replays_below}
@@ -88,6 +88,7 @@ pub record IsKept (s : System) (i first : ℕ) (states : States) (done : Around 
   pub small : IfSome coming IsSmall
   pub waiting : IsQueue Plus i pending
   pub owing : IsQueue Minus i owed
+  pub falling : IsFalling (entries_of done.before) (items_of pending.after) coming
 
 -- an input goes back before all that is pending
 abbrev pub IsGivenBack : Done → Around Signed → Around Signed → Type 0
@@ -108,6 +109,16 @@ is_entry_input x (Input signed) = message_eq.ghosts.eq signed.message x.message
 abbrev pub is_first_another : Signed → List Done → Bool
 is_first_another x [] = false
 is_first_another x (d ∷ ds) = not (is_entry_input x d)
+
+-- there is an entry, and the first one is that input
+abbrev pub is_first_input : Signed → List Done → Bool
+is_first_input x [] = false
+is_first_input x (d ∷ ds) = is_entry_input x d
+
+-- there is an entry, and the first one is neither below the message that x has nor that input
+abbrev pub is_first_passed : Signed → List Done → Bool
+is_first_passed x [] = false
+is_first_passed x (d ∷ ds) = not (nat_lt (entry_key (entry_of d)) (rank x.message.key)) && not (is_entry_input x d)
 
 -- some entry is that input
 abbrev pub is_any_input : Signed → List Done → Bool

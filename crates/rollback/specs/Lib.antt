@@ -2,6 +2,7 @@ pub mod Flight
 pub mod Post
 pub mod Replays
 pub mod Held
+pub mod Falling
 pub mod Kept
 pub mod Refusals
 pub mod Coming
@@ -9,3 +10,5 @@ pub mod Dropped
 pub mod Runs
 pub mod Same
 pub mod SameLaws
+pub mod Levels
+pub mod Matched

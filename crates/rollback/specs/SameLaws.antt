@@ -1,5 +1,5 @@
 -- Comparing numbers, bounds, records and done entries tells exactly whether they are the same.
-use Rattle.std.specs.Prelude.{◌≡◌, ◌==◌, ◌&&◌, Bool as Truth, true, false, nat_eq, Option, None, Some, List, refl}
+use Rattle.std.specs.Prelude.{◌≡◌, ◌==◌, ◌&&◌, Bool as Truth, true, nat_eq, Option, None, Some, List, refl}
 use Rattle.std.specs.Bool.{Decides}
 use Rattle.std.specs.Ordering.{is_eq, eq_of_both, on}
 use Rattle.std.specs.Cmp.{IsEquivalence, IsPartialEquivalence, Equal-is, tied_itself, and_equiv, on_equiv}

@@ -108,6 +108,13 @@ impl<T: Turns> Component<T> {
         &self.setup
     }
 
+    /// The number of the component, from 0.
+    pub fn number(&self) -> u16
+        ensures { result ≡ self.now.number }
+    {
+        self.number
+    }
+
     /// The pending inputs and the owed antimessages are in order. The call does nothing.
     pub fn is_in_order(&self)
         ensures pending { IsSorted (machine_of T.turn_of self.now.setup) self.now.history.pending }
@@ -240,7 +247,7 @@ fn first_key<T: Turns>(setup: &Setup<T>, i: u16) -> Option<Key>
     ensures key { result ≡ key_of (system T.turn_of setup.now) i 0 }
     ensures small { IfSome result IsSmall }
 {
-    let key = setup.key(i, 0)?;
+    let key = setup.first_key(i)?;
     fits(key);
     Some(key)
 }
@@ -252,12 +259,7 @@ fn key_after<T: Turns>(setup: &Setup<T>, i: u16, key: Key) -> Option<Key>
     ensures key { result ≡ key_of (system T.turn_of setup.now) i (key.number + 1) }
     ensures small { IfSome result IsSmall }
 {
-    let tick = setup.next_tick(i, key.number + 1, key.tick)?;
-    let next = Key {
-        tick,
-        component: i,
-        number: key.number + 1,
-    };
+    let next = setup.key_after(i, key)?;
     fits(next);
     Some(next)
 }

@@ -1,19 +1,21 @@
 //! What comes to a component: messages and antimessages.
-ghost use Rattle.std.specs.Prelude.{◌≡◌, [], nat_lt, true, false, is_some, length};
+ghost use Rattle.std.specs.Prelude.{◌≡◌, ◌≤◌, [], nat_lt, true, false, is_some, length};
 ghost use Rattle.event_keys.specs.declared.message.Sign.TheVariants.{Plus, Minus};
 ghost use Rattle.raw_events.specs.Around.{first_where};
 ghost use Rattle.antimessage.specs.Bags.{is_one, insert as insert_one, remove as remove_one};
 ghost use Rattle.antimessage.specs.Order.{Fits, IsInOrder};
 ghost use Rattle.virtual_time.specs.Bags.{insert, remove, has, inputs};
+ghost use Rattle.virtual_time.specs.Entries.{latest};
 ghost use Rattle.virtual_time.specs.Records.{back_at, back_by_message, back_by_antimessage, back_until, before_last, later, not_later, message_comes, antimessage_comes, unsent};
+ghost use Rattle.rollback.specs.Falling.{Falls};
 ghost use Rattle.rollback.specs.Flight.{goes, item_of};
 ghost use Rattle.rollback.specs.Held.{machine_of, comes, back_by, is_last_later, is_last_another};
-ghost use Rattle.rollback.specs.Kept.{IsTimed, is_done_later, is_entry_input, is_first_another, is_any_input, is_first_greater, onto};
+ghost use Rattle.rollback.specs.Kept.{IsTimed, entries_of, is_done_later, is_entry_input, is_first_another, is_first_input, is_first_passed, is_any_input, is_first_greater, onto};
 ghost use Rattle.rollback.specs.Post.{IsPosted, opposite, opposed};
 
 use crate::component::Component;
 use crate::done::Done;
-use crate::keys::{fits, is_below};
+use crate::keys::{fits, is_below, key_of};
 use antimessage::Bag;
 use event_keys::{Sign, Signed};
 use raw_events::{EventCell, EventList};
@@ -170,7 +172,8 @@ impl<T: Turns> Component<T> {
 
     // A message is pending from now on.
     fn wait(&mut self, cell: EventCell<Signed>)
-        requires { goes Plus self.old.number cell ≡ true }
+        requires here { goes Plus self.old.number cell ≡ true }
+        requires late { latest 0 self.old.history.done ≤ (item_of cell).key }
         ensures { self.new ≡ record self.old { history = record self.old.history { pending = insert (machine_of T.turn_of self.old.setup) (item_of cell) self.old.history.pending } } }
     {
         put(&mut self.pending, cell);
@@ -269,16 +272,41 @@ fn is_next_back_another(done: &EventList<Done>, antimessage: &Signed) -> bool
     }
 }
 
-// Whether the message of an antimessage is among the entries, from the last one back.
+// Whether there is an entry before the cursor, and the last one is the message of an antimessage.
+fn is_next_back_input(done: &EventList<Done>, antimessage: &Signed) -> bool
+    ensures { result ≡ is_first_input antimessage.now done.now.before }
+{
+    match done.peek_last() {
+        None => false,
+        Some(last) => is_input_of(last, antimessage),
+    }
+}
+
+// Whether there is an entry before the cursor, and the last one is neither below the message of an antimessage nor that message.
+fn is_next_back_passed(done: &EventList<Done>, antimessage: &Signed) -> bool
+    ensures { result ≡ is_first_passed antimessage.now done.now.before }
+{
+    match done.peek_last() {
+        None => false,
+        Some(last) => {
+            !is_below(key_of(last), antimessage.message.key) && !is_input_of(last, antimessage)
+        }
+    }
+}
+
+// Whether the message of an antimessage is among the entries, from the last one back. Nothing below the message is looked at
+// but the first such entry.
+#[tactic(auto, using(crate::proofs::Searching::found))]
 fn has_input(done: &mut EventList<Done>, antimessage: &Signed) -> bool
-    requires { done.old.after ≡ [] }
+    requires end { done.old.after ≡ [] }
+    requires falling { Falls (entries_of done.old.before) }
     ensures answer { result ≡ is_any_input antimessage.now done.old.before }
     ensures kept { done.new ≡ done.old }
 {
-    while is_next_back_another(done, antimessage) {
+    while is_next_back_passed(done, antimessage) {
         done.pass_back();
     }
-    let found = done.peek_last().is_some();
+    let found = is_next_back_input(done, antimessage);
     pass_to_end(done);
     found
 }

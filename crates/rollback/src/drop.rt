@@ -1,16 +1,16 @@
 //! What a component gives up when it can't be taken back any more.
 ghost use Rattle.std.specs.Prelude.{◌≡◌, ◌<◌, ◌^◌, [], None, IfSome, map, length};
-ghost use Rattle.event_keys.specs.Ranks.{rank, rank_of_bound};
-ghost use Rattle.virtual_time.specs.Entries.{below, entry_key};
+ghost use Rattle.event_keys.specs.Ranks.{rank_of_bound};
+ghost use Rattle.virtual_time.specs.Entries.{below};
 ghost use Rattle.virtual_time.specs.Records.{cut_of, turns_among};
 ghost use Rattle.rollback.specs.Held.{machine_of};
-ghost use Rattle.rollback.specs.Kept.{entry_of, onto};
+ghost use Rattle.rollback.specs.Kept.{onto};
 ghost use Rattle.rollback.specs.Dropped.{turn_of, dones_below, dones_from, is_last_from, key_in, newest_key, number_after, or_else, turn_in, turns_in};
 
 use crate::component::Component;
 use crate::deliver::pass_to_end;
 use crate::done::Done;
-use crate::keys::is_below_bound;
+use crate::keys::{is_below_bound, key_of};
 use event_keys::{Bound, Key, Turned};
 use raw_events::EventList;
 use task_seed::Turns;
@@ -50,15 +50,6 @@ fn number_after(newest: Option<Key>, first: u64) -> u64
     match newest {
         None => first,
         Some(key) => key.number + 1,
-    }
-}
-
-fn key_of(done: &Done) -> Key
-    ensures { rank result ≡ entry_key (entry_of done.now) }
-{
-    match done {
-        Done::Turn(turned, _) => turned.value().key,
-        Done::Input(input) => input.value().message.key,
     }
 }
 

@@ -7,9 +7,10 @@ ghost use Rattle.virtual_time.specs.Records.{roll_back_times, unsent};
 ghost use Rattle.rollback.specs.Flight.{in_flight};
 ghost use Rattle.rollback.specs.Held.{machine_of};
 ghost use Rattle.rollback.specs.Post.{IsPosted};
-ghost use Rattle.rollback.specs.Runs.{IsRun};
+ghost use Rattle.rollback.specs.Runs.{IsRun, IsEnd, IsTrip};
 
 use crate::component::Component;
+use crate::refused::ProcessRefused;
 use antimessage::Bag;
 use std::alloc::Global;
 use task_seed::Turns;
@@ -17,35 +18,55 @@ use task_seed::laws::machine_is_lawful;
 use terms::{Action, State};
 use virtual_time::rolling_back::record_law;
 
+/// How far a component went before it was taken back.
+#[derive(Clone, Copy, Debug, PartialEq, Eq)]
+pub struct Trip {
+    /// The number of the entries that were processed.
+    pub entries: u32,
+    /// What refused the next entry, where there were fewer than asked for.
+    pub stopped: Option<ProcessRefused>,
+}
+
 impl<T: Turns> Component<T> {
     /// Processes entries, at most `most` of them, until nothing is pending or memory is refused, and takes them back again.
-    /// That gives the component back, and of each message the bag has gained as many as antimessages. The answer is the number of the entries.
-    pub fn there_and_back(&mut self, alloc: Global, most: u32, out: &mut Bag) -> u32
+    /// That gives the component back, and of each message the bag has gained as many as antimessages: those that the entries
+    /// sent.
+    pub fn there_and_back(&mut self, alloc: Global, most: u32, out: &mut Bag) -> Trip
         ensures same { self.new ≡ self.old }
+        ensures trip { IsTrip (machine_of T.turn_of self.old.setup) self.old.number self.old.history out.old out.new result.entries most result.stopped }
         ensures balance { (j k : ℕ) (action : Named) → times (machine_of T.turn_of self.old.setup) (in_flight Plus j out.new) k action + times (machine_of T.turn_of self.old.setup) (in_flight Minus j out.old) k action ≡ times (machine_of T.turn_of self.old.setup) (in_flight Minus j out.new) k action + times (machine_of T.turn_of self.old.setup) (in_flight Plus j out.old) k action }
-        ensures most { result ≤ most }
+        ensures most { result.entries ≤ most }
     {
         machine_is_lawful(self.setup());
         record_law::<State, Action>();
         self.is_in_order();
-        let count = self.process_some(alloc, most, out);
-        self.roll_back_some(count, out);
-        count
+        let trip = self.process_some(alloc, most, out);
+        self.roll_back_some(trip.entries, out);
+        trip
     }
 
     // Processes entries, at most `most` of them, until nothing is pending or memory is refused.
-    fn process_some(&mut self, alloc: Global, most: u32, out: &mut Bag) -> u32
+    fn process_some(&mut self, alloc: Global, most: u32, out: &mut Bag) -> Trip
         ensures rest { self.new ≡ record self.old { history = self.new.history } }
-        ensures run { IsRun (machine_of T.turn_of self.old.setup) self.old.number self.old.history self.new.history out.old out.new result }
-        ensures most { result ≤ most }
+        ensures run { IsRun (machine_of T.turn_of self.old.setup) self.old.number self.old.history self.new.history out.old out.new result.entries }
+        ensures end { IsEnd (machine_of T.turn_of self.old.setup) self.old.number self.new.history result.entries most result.stopped }
+        ensures most { result.entries ≤ most }
     {
-        for count in 0..most {
+        for entries in 0..most {
             match self.process(alloc, out) {
                 Ok(_) => {}
-                Err(_) => return count,
+                Err(refused) => {
+                    return Trip {
+                        entries,
+                        stopped: Some(refused),
+                    };
+                }
             }
         }
-        most
+        Trip {
+            entries: most,
+            stopped: None,
+        }
     }
 
     // Takes entries back, as many as are done but at most `count`.

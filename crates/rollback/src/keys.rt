@@ -1,8 +1,11 @@
 //! Keys and bounds as the ranks that they have.
 ghost use Rattle.std.specs.Prelude.{◌≡◌, ◌<◌, ◌^◌, nat_lt};
 ghost use Rattle.event_keys.specs.Ranks.{rank, rank_of_bound};
+ghost use Rattle.virtual_time.specs.Entries.{entry_key};
 ghost use Rattle.task_seed.specs.Machines.{end_rank};
+ghost use Rattle.rollback.specs.Kept.{entry_of};
 
+use crate::done::Done;
 use event_keys::laws::{bound_rank_law, key_rank_law, rank_law};
 use event_keys::{Bound, Key};
 
@@ -14,6 +17,16 @@ pub(crate) fn fits(key: Key)
     ensures timed { rank key < end_rank }
 {
     rank_law(key);
+}
+
+/// The key of a done entry.
+pub(crate) fn key_of(done: &Done) -> Key
+    ensures { rank result ≡ entry_key (entry_of done.now) }
+{
+    match done {
+        Done::Turn(turned, _) => turned.value().key,
+        Done::Input(input) => input.value().message.key,
+    }
 }
 
 pub(crate) fn is_below(a: Key, b: Key) -> bool

@@ -6,13 +6,15 @@ mod deliver;
 mod done;
 mod drop;
 mod growth;
-mod inverse;
+pub mod inverse;
 mod keys;
 pub mod laws;
+mod matching;
 pub mod refused;
 mod same;
 
 pub use component::Component;
+pub use inverse::Trip;
 pub use refused::ProcessRefused;
 
 #[cfg(test)]

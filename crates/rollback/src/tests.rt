@@ -3,9 +3,10 @@ ghost use Rattle.std.specs.Prelude.{◌≡◌, ◌<◌};
 
 mod apart;
 mod given;
+mod matching;
 mod refused;
 
-use crate::ProcessRefused;
+use crate::{ProcessRefused, Trip};
 use antimessage::Bag;
 use event_keys::{Bound, Key, Outcome, Turned};
 use given::{
@@ -129,6 +130,40 @@ fn an_antimessage_takes_back_from_its_message_on(rt: HostRuntime) {
     assert!(rt; out == bag(&rt, key(3, 1, 1), 1, true));
     assert!(rt; second.next() == Bound::At(key(3, 1, 1)));
     assert_same(&rt, second, idled(&rt, 1));
+}
+
+// Component 0 passes the token and then idles.
+fn assert_trip(rt: &(impl Abort + AllocGlobal), most: u32, wanted: Trip) {
+    let mut out = Bag::new();
+    let mut first = node(rt, 0);
+    first.is_in_order();
+    let trip = first.there_and_back(rt.alloc(), most, &mut out);
+    assert!(rt; trip == wanted, "{} entries", trip.entries);
+    assert!(rt; out == bag(rt, key(2, 0, 0), 1, true));
+    assert_same(rt, first, node(rt, 0));
+}
+
+#[test]
+fn what_is_processed_is_taken_back(rt: HostRuntime) {
+    for (most, entries) in [(1, 1), (2, 2)] {
+        let whole = Trip {
+            entries,
+            stopped: None,
+        };
+        assert_trip(&rt, most, whole);
+    }
+    let short = Trip {
+        entries: 2,
+        stopped: Some(ProcessRefused::NothingPending),
+    };
+    assert_trip(&rt, 7, short);
+}
+
+#[test]
+fn a_component_has_its_setup(rt: HostRuntime) {
+    let second = node(&rt, 1);
+    assert!(rt; second.setup().key(1, 1) == Some(key(3, 1, 1)));
+    assert!(rt; second.setup() == node(&rt, 0).setup());
 }
 
 fn idle(key: Key) -> Turned {

@@ -1,4 +1,4 @@
-use Rattle.std.proofs.Common.{◌≡◌, subst, sym, ap, ◌∙◌, List}
+use Rattle.std.proofs.Common.{subst, sym, ap, ◌∙◌, List}
 use Rattle.event_keys.specs.declared.message.Signed.{Signed}
 use Rattle.event_keys.specs.declared.message.Sign.TheVariants.{Plus}
 use Rattle.event_keys.specs.Entries.{action_of}

@@ -1,7 +1,7 @@
-use Rattle.std.proofs.Common.{◌≡◌, ◌+◌, ◌-◌, Bool, not, true, false, refl, length, sym, ap, ◌∙◌, arith}
+use Rattle.std.proofs.Common.{◌≡◌, ◌-◌, true, length, sym, ap, ◌∙◌, arith}
 use Rattle.std.specs.Prelude.{nat_lt}
-use Rattle.virtual_time.specs.Bags.{has, inputs}
-use Rattle.virtual_time.specs.Records.{back_by_antimessage, back_until, before_last}
+use Rattle.virtual_time.specs.Bags.{inputs}
+use Rattle.virtual_time.specs.Records.{back_until, before_last}
 use Rattle.rollback.specs.Flight.{item_of}
 use Rattle.rollback.specs.Held.{Held, machine_of}
 use Rattle.rollback.proofs.Unwinding.{by_antimessage, until_length}

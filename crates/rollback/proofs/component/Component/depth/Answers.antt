@@ -1,4 +1,4 @@
-use Rattle.std.proofs.Common.{sym, ap, length, ◌∙◌}
+use Rattle.std.proofs.Common.{ap, length, ◌∙◌}
 use Rattle.std.specs.Arc.{arc_value}
 use Rattle.task_seed.specs.Setups.{system}
 use Rattle.rollback.specs.Held.{Held}

@@ -12,7 +12,7 @@ use Rattle.rollback.specs.Dropped.{turn_of, dones_below, dones_from, newest_key,
 use Rattle.rollback.specs.Held.{Held, machine_of}
 use Rattle.rollback.specs.Kept.{entries_of, record_of, onto}
 use Rattle.rollback.proofs.Keeping.{depth_is}
-use Rattle.rollback.proofs.Dropping.{dropped_record, dropped_turns, few_dropped, kept_dropped, newest_number, newest_small, parts_length, ready_below}
+use Rattle.rollback.proofs.Dropping.{dropped_record, dropped_turns, few_dropped, kept_dropped, newest_number, newest_small, ready_below}
 use Rattle.rollback.proofs.component.Component.drop_below.Goals as goal
 
 pub take_all-dropped-requires : goal.take_all-dropped-requires

@@ -1,9 +1,7 @@
-use Rattle.std.proofs.Common.{◌≡◌, ◌^◌, IfSome, Option, None, Some, sym, ap, subst, ◌∙◌, arith}
+use Rattle.std.proofs.Common.{◌≡◌, subst}
 use Rattle.std.specs.Arc.{arc_value}
-use Rattle.event_keys.specs.declared.key.Key.{Key}
 use Rattle.task_seed.specs.Setups.{system}
 use Rattle.task_seed.specs.Turning.{key_of}
-use Rattle.rollback.specs.Kept.{IsKept, IsSmall}
 use Rattle.rollback.proofs.Keeping.{kept_new}
 use Rattle.rollback.proofs.component.Component.new.Goals as goal
 

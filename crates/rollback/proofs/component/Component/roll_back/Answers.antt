@@ -2,17 +2,15 @@ use Rattle.std.proofs.Common.{◌≡◌, ◌<◌, ◌^◌, Some, ◌∷◌, List
 use Rattle.std.specs.Arc.{arc_value}
 use Rattle.event_keys.specs.declared.message.Signed.{Signed}
 use Rattle.event_keys.specs.declared.message.Sign.TheVariants.{Minus}
-use Rattle.raw_events.specs.Around.{Around, head, tail}
-use Rattle.undo_records.specs.States.{States}
+use Rattle.raw_events.specs.Around.{tail}
 use Rattle.task_seed.specs.Setups.{system}
 use Rattle.task_seed.specs.Machines.{machine}
 use Rattle.virtual_time.specs.Records.{roll_back_of, unsent}
-use Rattle.rollback.specs.declared.done.Done.{Done}
 use Rattle.rollback.specs.declared.done.Done.TheVariants.{Turn, Input}
 use Rattle.rollback.specs.Held.{Held, machine_of, last_of}
-use Rattle.rollback.specs.Kept.{record_of, IsKept}
-use Rattle.rollback.specs.Post.{IsPosted, post_all}
-use Rattle.rollback.proofs.Keeping.{kept_back_input}
+use Rattle.rollback.specs.Kept.{record_of}
+use Rattle.rollback.specs.Post.{IsPosted}
+use Rattle.rollback.proofs.Keeping.{kept_back_input, kept_back_turn}
 use Rattle.rollback.proofs.Stepping.{back_input_record, back_turn_sent, head_tail}
 use Rattle.rollback.proofs.component.Component.roll_back.Goals as goal
 
@@ -51,3 +49,14 @@ returns-in-Turn-clause-sent g c =
     (subst (λ t. t.key.component < 2 ^ 16) c.value.ensures c.fits.ensures.component) (subst (λ t. t.key.number < 2 ^ 64) c.value.ensures c.fits.ensures.number) c.receivers_law.ensures.once c.receivers_law.ensures.all c.post_all.ensures.order in
     subst (λ (h : Held _). IsPosted Minus (unsent (machine_of g.T.Turns.turn_of h.setup) h.number (last_of h.history.done)) c.args.out.now c.post_all.new.out) c.self.view_is
     (subst (λ (bag : List Signed). IsPosted Minus (unsent (machine s) f.number (last_of (record_of f.store f.first f.done f.pending f.owed).done)) c.args.out.now bag) (sym c.post_all.ensures.posted) sent)
+
+pub invariant_of-self-in-Turn : goal.invariant_of-self-in-Turn
+invariant_of-self-in-Turn g c =
+    let f = c.self.inside in
+    let s = system g.T.Turns.turn_of (arc_value f.setup) in
+    let turned = c.in-Turn.turned in
+    let minuses = c.in-Turn.antimessages in
+    let there : f.done.before ≡ Turn turned minuses ∷ tail f.done.before
+    = head_tail (Turn turned minuses) f.done.before (ap Some (sym c.in-Turn.is ∙ c.into_value.ensures) ∙ sym c.in-Some.is ∙ c.take_last.ensures.taken) in
+    rw (c.undo.ensures.state, c.take_last.ensures.rest, c.value.ensures)
+    (kept_back_turn s f.number f.first f.store f.done f.pending f.owed f.coming turned minuses (tail f.done.before) c.self.invariant there)

@@ -8,14 +8,17 @@ use Rattle.rollback.specs.Flight.{goes, item_of, items_of}
 use Rattle.rollback.specs.Held.{Held, machine_of}
 use Rattle.rollback.specs.Kept.{record_of}
 use Rattle.rollback.specs.Post.{opposed}
-use Rattle.rollback.proofs.Keeping.{with_waiting, queue_remove, queue_items_remove, queue_items_has, opposed_goes}
+use Rattle.rollback.proofs.Keeping.{with_waiting, waiting_remove, queue_remove, queue_items_remove, queue_items_has, opposed_goes}
 use Rattle.rollback.proofs.component.Component.take_pending.Goals as goal
 
 pub invariant_of-self : goal.invariant_of-self
 invariant_of-self g c =
     let f = c.self.inside in
     let s = system g.T.Turns.turn_of (arc_value f.setup) in
-    rw c.take_other.ensures.rest (with_waiting s f.number f.first f.store f.done f.pending f.owed (record f.pending { after = _ }) f.coming c.self.invariant (queue_remove s f.number Plus f.pending (opposed c.args.cell.now) c.self.invariant.waiting))
+    let goes_there : goes Minus f.number c.args.cell.now ≡ true = subst (λ (h : Held _). goes Minus h.number c.args.cell.now ≡ true) (sym c.self.view_is) c.requires in
+    rw c.take_other.ensures.rest (with_waiting s f.number f.first f.store f.done f.pending f.owed (record f.pending { after = _ }) f.coming c.self.invariant
+    (queue_remove s f.number Plus f.pending (opposed c.args.cell.now) c.self.invariant.waiting)
+    (waiting_remove s f.number f.first f.store f.done f.pending f.owed f.coming c.self.invariant (opposed c.args.cell.now) c.take_other.ensures.fits (opposed_goes s f.number Minus c.args.cell.now goes_there)))
 
 pub returns-clause-record : goal.returns-clause-record
 returns-clause-record g c =

@@ -1,0 +1,16 @@
+use Rattle.std.proofs.Common.{◌≡◌, true, subst}
+use Rattle.std.specs.Prelude.{◌↔◌}
+use Rattle.std.specs.Arc.{arc_value}
+use Rattle.task_seed.specs.Setups.{system}
+use Rattle.rollback.specs.declared.matching.Sendings.{Sendings}
+use Rattle.rollback.specs.Held.{Held, machine_of}
+use Rattle.rollback.specs.Matched.{IsStanding}
+use Rattle.rollback.proofs.Standing.{standing_is}
+use Rattle.rollback.proofs.component.Component.has_standing.Goals as goal
+
+pub returns : goal.returns
+returns g c =
+    let f = c.self.inside in
+    let t : Sendings = record { standing = c.args.standing; out = c.args.out; done = record { ref_ptr = c.args.self.ref_ptr; now = f.done } } in
+    subst (λ (h : Held _). (c.is_all_level.result ≡ true) ↔ IsStanding (machine_of g.T.Turns.turn_of h.setup) h.number h.history c.args.standing.now c.args.out.now) c.self.view_is
+    (standing_is (system g.T.Turns.turn_of (arc_value f.setup)) f.number c.is_short.ensures c.receivers_law.ensures.all f.first f.store f.coming f.pending f.owed t c.is_all_level.result c.is_all_level.ensures c.self.invariant c.order_law.ensures c.order_law-2.ensures)
