@@ -1,0 +1,9 @@
+//! Global virtual time: the least of bounds that are taken one after another.
+#![tactic(auto)]
+
+pub mod least;
+
+pub use least::least_bound;
+
+#[cfg(test)]
+mod tests;
