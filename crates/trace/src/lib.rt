@@ -2,8 +2,13 @@
 #![tactic(auto)]
 
 pub mod counted;
+pub mod fault;
+pub mod lines;
+mod words;
 
 pub use counted::Counted;
+pub use fault::WriteFault;
+pub use lines::{Lines, write_turns};
 
 #[cfg(test)]
 mod tests;

@@ -1,6 +1,9 @@
 //! A counted writer over memory, and one that can't be flushed.
 
+mod turns;
+
 use crate::Counted;
+use std::alloc::AllocGlobal;
 use std::io::{self, ErrorKind, Write};
 use std::test::Fail;
 
@@ -55,7 +58,7 @@ impl Write for Narrow {
     }
 }
 
-fn counted_narrow(rt: &HostRuntime, step: usize, room: usize) -> Counted<Narrow> {
+fn counted_narrow(rt: &impl AllocGlobal, step: usize, room: usize) -> Counted<Narrow> {
     Counted::new(Narrow {
         held: Vec::new(rt.alloc()),
         step,

@@ -1,0 +1,118 @@
+//! Lines of turns.
+ghost use Rattle.std.specs.Prelude.{◌≡◌, ◌+◌, ◌<◌, List, IfOk, OnOk, IfErr, OnErr};
+ghost use Rattle.std.specs.Borrow.{Bor};
+ghost use Rattle.std.specs.Iterator.{IsFinite, Drains, Yields};
+ghost use Rattle.std.specs.Io.KnownBytes.{Appends};
+ghost use Rattle.event_keys.specs.declared.outcome.Turned.{Turned};
+ghost use Rattle.trace.specs.Counts.{writer_of, failures_of};
+ghost use Rattle.trace.specs.Lines.{did_external, is_shown, key_text, line_of, shown_text, text_of, turns_at};
+ghost use Rattle.trace.specs.Puts.{Puts, Stops};
+
+use crate::counted::Counted;
+use crate::fault::WriteFault;
+use crate::words::{put, put_number, put_outcome};
+use compose::Plan;
+use event_keys::{Key, Outcome, Turned};
+use std::io::Write;
+
+/// Which turns are written.
+#[derive(Clone, Copy, Debug, PartialEq, Eq)]
+pub enum Lines {
+    /// Every turn.
+    All,
+    /// The turns that took an action that is external: an input or an output of the composition.
+    Trace,
+}
+
+/// Writes a line for each of the turns that are wanted: `tick component number action`, or `idle` for the action, the
+/// numbers in decimal. An action is its name, with its arguments, if it has any, in brackets and with commas between them:
+/// `send(true,-3)`. A name that the plan doesn't have is no text. It takes no memory, and its time grows with the text and
+/// with what `Plan::is_external` costs for each turn.
+///
+/// The iterator may be any that ends, and fewer writes than the greatest `u64` may have failed before. An error comes only
+/// where a write fails: [`WriteFault::WriteFailed`] has the number of the text's bytes, from the front, that had gone out,
+/// one more failure is counted, and no more turns are taken.
+#[tactic(auto, using(crate::proofs::Putting::turns))]
+pub fn write_turns<'a, W: Write, I: Iterator<Item = &'a Turned> + Drop>(
+    plan: &Plan,
+    turns: I,
+    lines: Lines,
+    out: &mut Counted<W>,
+) -> Result<(), WriteFault>
+    requires failures { failures_of out.old < u64.MAX }
+    requires can { I.can_next turns }
+    requires ends { IsFinite (I.remaining turns) }
+    ensures ok { OnOk result ((given : List (Bor Turned)) × Drains I.next_gives turns given × Appends (W.contents (writer_of out.old)) (W.contents (writer_of out.new)) (text_of plan.now lines (turns_at given))) }
+    ensures ok_failures { OnOk result (failures_of out.new ≡ failures_of out.old) }
+    ensures err { IfErr result (λ fault. (given : List (Bor Turned)) × (rest : I) × Yields I.next_gives turns given rest × Stops W.contents out.old out.new 0 (text_of plan.now lines (turns_at given)) fault) }
+    ensures err_failures { OnErr result (failures_of out.new ≡ failures_of out.old + 1) }
+{
+    let mut written = 0;
+    for turned in turns {
+        written = put_shown(out, plan, lines, turned, written)?;
+    }
+    Ok(())
+}
+
+fn put_shown<W: Write>(
+    out: &mut Counted<W>,
+    plan: &Plan,
+    lines: Lines,
+    turned: &Turned,
+    before: u64,
+) -> Result<u64, WriteFault>
+    requires { failures_of out.old < u64.MAX }
+    ensures ok { IfOk result (λ after. Puts W.contents out.old out.new before after (shown_text plan.now lines turned.now)) }
+    ensures err { IfErr result (λ fault. Stops W.contents out.old out.new before (shown_text plan.now lines turned.now) fault) }
+{
+    if is_shown(plan, lines, &turned.outcome) {
+        put_line(out, plan, turned, before)
+    } else {
+        Ok(before)
+    }
+}
+
+fn is_shown(plan: &Plan, lines: Lines, outcome: &Outcome) -> bool
+    ensures { result ≡ is_shown plan.now lines outcome.now }
+{
+    match lines {
+        Lines::All => true,
+        Lines::Trace => did_external(plan, outcome),
+    }
+}
+
+fn did_external(plan: &Plan, outcome: &Outcome) -> bool
+    ensures { result ≡ did_external plan.now outcome.now }
+{
+    match outcome {
+        Outcome::Idle => false,
+        Outcome::Did(action) => plan.is_external(action),
+    }
+}
+
+#[tactic(auto, using(crate::proofs::Putting::steps))]
+fn put_line<W: Write>(
+    out: &mut Counted<W>,
+    plan: &Plan,
+    turned: &Turned,
+    before: u64,
+) -> Result<u64, WriteFault>
+    requires { failures_of out.old < u64.MAX }
+    ensures ok { IfOk result (λ after. Puts W.contents out.old out.new before after (line_of plan.now turned.now)) }
+    ensures err { IfErr result (λ fault. Stops W.contents out.old out.new before (line_of plan.now turned.now) fault) }
+{
+    let written = put_key(out, turned.key, before)?;
+    let written = put_outcome(out, plan, &turned.outcome, written)?;
+    put(out, "\n", written)
+}
+
+#[tactic(auto, using(crate::proofs::Putting::steps))]
+fn put_key<W: Write>(out: &mut Counted<W>, key: Key, before: u64) -> Result<u64, WriteFault>
+    requires { failures_of out.old < u64.MAX }
+    ensures ok { IfOk result (λ after. Puts W.contents out.old out.new before after (key_text key)) }
+    ensures err { IfErr result (λ fault. Stops W.contents out.old out.new before (key_text key) fault) }
+{
+    let written = put_number(out, key.tick, before)?;
+    let written = put_number(out, key.component as u64, written)?;
+    put_number(out, key.number, written)
+}
