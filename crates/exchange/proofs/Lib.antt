@@ -1,0 +1,5 @@
+mod Leasing
+mod Delivering
+mod Passing
+mod Committing
+mod Starting

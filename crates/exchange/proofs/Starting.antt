@@ -1,0 +1,108 @@
+-- At the start all is sound, and each lease matches its stub.
+use Rattle.std.proofs.Common.{◌≡◌, ℕ, zero, suc, ◌+◌, ◌<◌, ◌≤◌, ◌⊎◌, inl, inr, Option, None, Some, [], map, length, refl, ap, sym, subst, ◌∙◌, arith}
+use Rattle.std.specs.Prelude.{slice_get, IfSome}
+use Rattle.std.specs.List.{range_with_len}
+use Rattle.std.proofs.lemmas.List.FromFn.{length-map-range_with_len}
+use Rattle.event_keys.specs.declared.key.Key.{Key}
+use Rattle.event_keys.specs.Ranks.{rank_of_bound}
+use Rattle.antimessage.specs.Counts.{Each}
+use Rattle.event_keys.specs.declared.message.Sign.TheVariants.{Plus, Minus}
+use Rattle.rollback.specs.Flight.{in_flight}
+use Rattle.virtual_time.specs.Exchange.Stubs.{IsSound, start_stub as start_seen, start_exchange}
+use Rattle.virtual_time.specs.Exchange.Leases.{IsLease, Matches, start_lease}
+use Rattle.task_seed.specs.Turning.{System, key_of}
+use Rattle.task_seed.specs.Machines.{machine, turn_rank}
+use Rattle.exchange.specs.declared.stub.Stub.{Stub}
+use Rattle.exchange.specs.Holding.{Holding, IsHolding, lease_of}
+use Rattle.exchange.specs.Shared.{Shared, IsShared, IsStub, stub_of, stub_or_start, turns_of, exchange_of}
+use Rattle.exchange.specs.Start.{first, bound_at, first_bound, start_stub}
+use Rattle.exchange.proofs.Committing.{end_is}
+use Rattle.exchange.proofs.Passing.{number_is, rank_some, rank_none}
+
+module _ (s : System) where
+  floor_is : (i : ℕ) → i < length s.composition → rank_of_bound (first_bound s i) ≡ turn_rank s i 0
+  floor_is i there = go (key_of s i 0) refl
+    where
+      go : (o : Option Key) → key_of s i 0 ≡ o → rank_of_bound (bound_at o) ≡ turn_rank s i 0
+      go None e = sym end_is ∙ sym (rank_none s i 0 (sym e))
+      go (Some key) e = sym (rank_some s i 0 key there (sym e))
+
+  stub_is : (i : ℕ) → i < length s.composition → stub_of (machine s) i (start_stub s i) ≡ start_seen (machine s) i
+  stub_is i there = λ v. record { base = 0; floor = floor_is i there v; taken = λ k a. 0; standing = λ k a l. 0; plus = []; minus = [] }
+
+  -- the stubs of components i to i + n - 1
+  stubs_at : (a n j : ℕ) → (o : Option Stub) → slice_get (map (start_stub s) (range_with_len a n)) j ≡ o → ((stub : Stub) × (o ≡ Some stub) × (j < n) × (stub ≡ start_stub s (a + j))) ⊎ ((o ≡ None) × (n ≤ j))
+  stubs_at a zero j o e = inr (sym e, omega arith)
+  stubs_at a (suc n) zero o e = inl (start_stub s a, sym e, omega arith, ap (start_stub s) (omega arith))
+  stubs_at a (suc n) (suc j) o e = go (stubs_at (a + 1) n j o e)
+    where
+      go : ((stub : Stub) × (o ≡ Some stub) × (j < n) × (stub ≡ start_stub s (a + 1 + j))) ⊎ ((o ≡ None) × (n ≤ j)) → ((stub : Stub) × (o ≡ Some stub) × (suc j < suc n) × (stub ≡ start_stub s (a + suc j))) ⊎ ((o ≡ None) × (suc n ≤ suc j))
+      go (inl h) = let l = h.2 in inl (h.0, h.1, omega (arith, l), h.3 ∙ ap (start_stub s) (omega arith))
+      go (inr h) = let l = h.1 in inr (h.0, omega (arith, l))
+
+  small : (i : ℕ) → IfSome (key_of s i 0) (λ key. key.number < 4294967296)
+  small i = go (key_of s i 0) refl
+    where
+      go : (o : Option Key) → key_of s i 0 ≡ o → IfSome o (λ key. key.number < 4294967296)
+      go None e = tt
+      go (Some key) e = let zero_number = number_is s i 0 key (sym e) in omega (arith, zero_number)
+
+  stub_kept : (i : ℕ) → IsStub s 0 i (start_stub s i)
+  stub_kept i = record { inbox = tt; order = record { sorted = tt; fits = tt }; passed = refl; ahead = refl; small = small i; few = omega arith }
+
+  module _ {P : Type 0} (e : Shared P) (stubs : e.stubs ≡ map (start_stub s) (range_with_len 0 (length s.composition))) (bound : e.bound ≡ first) (held : e.held ≡ []) (given : e.given ≡ 0) where
+    stub_at : (j : ℕ) → stub_or_start (machine s) j (slice_get e.stubs j) ≡ start_seen (machine s) j
+    stub_at j = go (slice_get e.stubs j) (stubs_at 0 (length s.composition) j (slice_get e.stubs j) (ap (λ l. slice_get l j) (sym stubs)))
+      where
+        go : (o : Option Stub) → ((stub : Stub) × (o ≡ Some stub) × (j < length s.composition) × (stub ≡ start_stub s (0 + j))) ⊎ ((o ≡ None) × (length s.composition ≤ j)) → stub_or_start (machine s) j o ≡ start_seen (machine s) j
+        go o (inl h) = ap (stub_or_start (machine s) j) (h.1 ∙ ap (λ x. Some x) (h.3 ∙ ap (start_stub s) (omega arith))) ∙ stub_is j h.2
+        go o (inr h) = ap (stub_or_start (machine s) j) h.0
+
+    seen : exchange_of (machine s) e ≡ start_exchange (machine s)
+    seen = λ v. record { stub = λ j. stub_at j v; bound = (ap rank_of_bound bound) v; held = (ap turns_of held) v; given = given v }
+
+    pub shared_kept : IsSound (machine s) (length s.composition) (start_exchange (machine s)) → IsShared s e
+    shared_kept sound =
+        record {
+          sound = subst (IsSound (machine s) (length s.composition)) (sym seen) sound;
+          many = ap length stubs ∙ length-map-range_with_len (start_stub s) 0 (length s.composition);
+          stubs = λ j stub h. each j stub h (stubs_at 0 (length s.composition) j (slice_get e.stubs j) (ap (λ l. slice_get l j) (sym stubs)));
+        }
+      where
+        each : (j : ℕ) (stub : Stub) → slice_get e.stubs j ≡ Some stub
+            → ((x : Stub) × (slice_get e.stubs j ≡ Some x) × (j < length s.composition) × (x ≡ start_stub s (0 + j))) ⊎ ((slice_get e.stubs j ≡ None) × (length s.composition ≤ j)) → IsStub s (rank_of_bound e.bound) j stub
+        each j stub h (inl x) =
+            let one : Some stub ≡ Some x.0 = sym h ∙ x.1 in
+            let same : x.0 ≡ stub = cc in
+            subst (λ b. IsStub s (rank_of_bound b) j stub) (sym bound) (subst (IsStub s 0 j) (sym (x.3 ∙ ap (start_stub s) (omega arith)) ∙ same) (stub_kept j))
+        each j stub h (inr none) = let both : Some stub ≡ None = sym h ∙ none.0 in cc
+
+  -- a lease at the start
+  pub holding_kept : {P : Type 0} (h : Holding P) → h.component.number < length s.composition → h.component.base ≡ first
+      → h.component.history ≡ record { base = (machine s).start h.component.number; first = 0; done = []; pending = []; owed = [] } → h.tray ≡ [] → h.out ≡ [] → h.floor ≡ first_bound s h.component.number
+      → IsLease (machine s) h.component.number (start_lease (machine s) h.component.number) × Matches (machine s) h.component.number (start_seen (machine s) h.component.number) (start_lease (machine s) h.component.number)
+      → IsHolding (machine s) h
+  holding_kept h there base history tray out floor both =
+      let i = h.component.number in
+      let seen_lease : lease_of h ≡ start_lease (machine s) i
+      = λ v. record {
+        base = (ap rank_of_bound base) v;
+        floor = (ap rank_of_bound floor ∙ floor_is i there) v;
+        part = record {
+          base = (ap (λ r. r.base) history) v;
+          first = (ap (λ r. r.first) history) v;
+          done = (ap (λ r. r.done) history) v;
+          pending = (ap (λ r. r.pending) history) v;
+          owed = (ap (λ r. r.owed) history) v;
+          plus = (ap (in_flight Plus i) tray) v;
+          minus = (ap (in_flight Minus i) tray) v;
+        };
+        out_plus = λ j. (ap (in_flight Plus j) out) v;
+        out_minus = λ j. (ap (in_flight Minus j) out) v;
+      } in
+      record {
+        lease = subst (IsLease (machine s) i) (sym seen_lease) both.0;
+        stub = start_seen (machine s) i;
+        match = subst (Matches (machine s) i (start_seen (machine s) i)) (sym seen_lease) both.1;
+        arrived = subst (λ l. Each (λ y. y.message.to ≡ i) l) (sym tray) tt;
+      }

@@ -1,0 +1,14 @@
+use Rattle.std.proofs.Common.{◌≡◌, map}
+use Rattle.std.specs.Arc.{arc_value}
+use Rattle.std.specs.List.{range_with_len}
+use Rattle.task_seed.specs.Setups.{system}
+use Rattle.exchange.specs.Start.{start_stub, start_holding}
+use Rattle.exchange.proofs.exchange.Exchange.new.Given as goal
+
+abbrev pub invariant-loop-i : goal.invariant-loop-i
+invariant-loop-i g l =
+    let t = g.T.Turns.turn_of in
+    record {
+      stubs : l.stubs.items ≡ map (start_stub (system t (arc_value l.setup))) (range_with_len 0 l.i);
+      leases : l.leases.items ≡ map (start_holding t (arc_value l.setup)) (range_with_len 0 l.i);
+    }

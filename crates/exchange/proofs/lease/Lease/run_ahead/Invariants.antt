@@ -1,0 +1,11 @@
+use Rattle.std.proofs.Common.{◌≡◌}
+use Rattle.rollback.specs.Held.{machine_of}
+use Rattle.exchange.specs.Holding.{IsAhead}
+use Rattle.exchange.proofs.lease.Lease.run_ahead.Given as goal
+
+abbrev pub invariant-loop-count : goal.invariant-loop-count
+invariant-loop-count g l =
+    record {
+      ahead : IsAhead (machine_of g.T.Turns.turn_of l.initial.self.component.setup) l.initial.self l.self l.count;
+      start : l.count ≡ 0 → l.self ≡ l.initial.self;
+    }

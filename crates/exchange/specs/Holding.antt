@@ -1,0 +1,69 @@
+-- What a lease holds, and the lease of the theory that it is.
+use Rattle.std.specs.Prelude.{◌≡◌, ℕ, ◌+◌, ◌-◌, ◌^◌, min, List, [], ◌∷◌, length}
+use Rattle.terms.specs.Datum.{Datum}
+use Rattle.terms.specs.Named.{Named}
+use Rattle.event_keys.specs.declared.key.Bound.{Bound}
+use Rattle.event_keys.specs.declared.message.Sign.TheVariants.{Plus, Minus}
+use Rattle.event_keys.specs.declared.message.Signed.{Signed}
+use Rattle.event_keys.specs.Ranks.{rank_of_bound}
+use Rattle.antimessage.specs.Counts.{Each}
+use Rattle.virtual_time.specs.Machine.{Machine}
+use Rattle.virtual_time.specs.Exchange.Stubs.{Stub}
+use Rattle.virtual_time.specs.Exchange.Leases.{Lease, IsLease, Matches}
+use Rattle.virtual_time.specs.Records.{unsent}
+use Rattle.rollback.specs.Flight.{in_flight, item_of}
+use Rattle.rollback.specs.Held.{Held, comes, back_by}
+use Rattle.rollback.specs.Post.{IsPosted}
+use Rattle.rollback.specs.Runs.{IsRun}
+
+-- a component, its tray of messages that came and are not delivered yet, its outgoing messages, and the floor of its last meeting
+pub record Holding (P : Type 0) : Type 0 where
+  pub component : Held P
+  pub tray : List Signed
+  pub out : List Signed
+  pub floor : Bound
+
+module _ {P : Type 0} where
+  -- as the theory sees it
+  abbrev pub lease_of : Holding P → Lease (List Datum) Named
+  lease_of h =
+      let r = h.component.history in
+      let i = h.component.number in
+      record {
+        base = rank_of_bound h.component.base;
+        floor = rank_of_bound h.floor;
+        part = record { base = r.base; first = r.first; done = r.done; pending = r.pending; owed = r.owed; plus = in_flight Plus i h.tray; minus = in_flight Minus i h.tray };
+        out_plus = λ j. in_flight Plus j h.out;
+        out_minus = λ j. in_flight Minus j h.out;
+      }
+
+  -- it has what each lease of the theory has, and matches some stub
+  pub record IsHolding (m : Machine (List Datum) Named) (h : Holding P) : Type 0 where
+    pub lease : IsLease m h.component.number (lease_of h)
+    pub stub : Stub Named
+    pub match : Matches m h.component.number stub (lease_of h)
+    -- what is in its tray came to it
+    pub arrived : Each (λ s. s.message.to ≡ h.component.number) h.tray
+
+  -- so many entries are processed, and what they send is among the outgoing messages
+  pub record IsAhead (m : Machine (List Datum) Named) (old new : Holding P) (count : ℕ) : Type 0 where
+    pub run : IsRun m old.component.number old.component.history new.component.history old.out new.out count
+    pub rest : new ≡ record old { component = record old.component { history = new.component.history }; out = new.out }
+
+  -- the least signed message of the tray comes to the component; an antimessage of each message that is taken back goes out
+  pub record IsDelivered (m : Machine (List Datum) Named) (old new : Holding P) (s : Signed) : Type 0 where
+    pub tray : old.tray ≡ s ∷ new.tray
+    pub history : new.component.history ≡ comes m s.sign (item_of s) old.component.history
+    pub sent : IsPosted Minus (unsent m old.component.number (back_by m s.sign (item_of s) old.component.history)) old.out new.out
+    pub rest : new ≡ record old { component = record old.component { history = new.component.history }; tray = new.tray; out = new.out }
+
+  -- these come, one after the other
+  abbrev pub AllDelivered : Machine (List Datum) Named → Holding P → List Signed → Holding P → Type 0
+  AllDelivered m old [] new = new ≡ old
+  AllDelivered m old (s ∷ ss) new = (mid : Holding P) × IsDelivered m old mid s × AllDelivered m mid ss new
+
+-- so many left a list of which these are left, up to the greatest u64
+pub record IsCount {A : Type 0} (old new : List A) (answer : ℕ) : Type 0 where
+  pub many : ℕ
+  pub left : length old ≡ many + length new
+  pub is : answer ≡ min many (2 ^ 64 - 1)

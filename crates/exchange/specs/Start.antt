@@ -1,0 +1,38 @@
+-- What workers share, and the leases, at the start.
+use Rattle.std.specs.Prelude.{ℕ, Option, None, Some, [], map, length}
+use Rattle.std.specs.List.{range_with_len}
+use Rattle.event_keys.specs.declared.key.Key.{Key}
+use Rattle.event_keys.specs.declared.key.Bound.{Bound}
+use Rattle.event_keys.specs.declared.key.Bound.TheVariants.{At, End}
+use Rattle.compose.specs.Plans.{composition}
+use Rattle.task_seed.specs.declared.setup.Setup.{Setup}
+use Rattle.task_seed.specs.declared.turns.Turn.{Turn}
+use Rattle.task_seed.specs.Setups.{system, plan_of}
+use Rattle.task_seed.specs.Turning.{System, key_of}
+use Rattle.rollback.specs.Held.{machine_of, start_record}
+use Rattle.exchange.specs.declared.stub.Stub.{Stub}
+use Rattle.exchange.specs.Holding.{Holding}
+use Rattle.exchange.specs.Shared.{Shared}
+
+-- below it there is no key
+abbrev pub first : Bound
+first = At (record { tick = 0; component = 0; number = 0 })
+
+-- the bound at a key, or the end where there is none
+abbrev pub bound_at : Option Key → Bound
+bound_at None = End
+bound_at (Some key) = At key
+
+-- the key of the first turn of component i, or the end where it has none
+abbrev pub first_bound : System → ℕ → Bound
+first_bound s i = bound_at (key_of s i 0)
+
+abbrev pub start_stub : System → ℕ → Stub
+start_stub s i = record { base = first; floor = first_bound s i; taken = []; standing = []; inbox = []; passed = 0; ahead = key_of s i 0 }
+
+module _ {T : Type 0} (turn_of : T → ℕ → ℕ → Option Turn) (setup : Setup T) where
+  abbrev pub start_holding : ℕ → Holding (Setup T)
+  start_holding i = record { component = record { setup = setup; number = i; base = first; history = start_record (machine_of turn_of setup) i }; tray = []; out = []; floor = first_bound (system turn_of setup) i }
+
+  abbrev pub start_shared : Shared (Setup T)
+  start_shared = record { setup = setup; stubs = map (start_stub (system turn_of setup)) (range_with_len 0 (length (composition (plan_of setup)))); bound = first; held = []; given = 0 }

@@ -1,0 +1,148 @@
+//! What workers share.
+ghost use Rattle.std.specs.Prelude.{◌≡◌, ℕ, ◌≤◌, ◌<◌, ◌+◌, ◌↔◌, true, Some, IfOk, length, map, slice_get, option_map};
+ghost use Rattle.std.specs.Arc.{arc_value};
+ghost use Rattle.event_keys.specs.declared.key.Bound.TheVariants.{At, End};
+ghost use Rattle.event_keys.specs.Ranks.{rank_of_bound};
+ghost use Rattle.virtual_time.specs.Reference.{reference_below, point, turns_of};
+ghost use Rattle.virtual_time.specs.Exchange.Meetings.{IsCommit};
+ghost use Rattle.compose.specs.Plans.{composition};
+ghost use Rattle.task_seed.specs.Setups.{system, plan_of};
+ghost use Rattle.task_seed.specs.Machines.{end_rank};
+ghost use Rattle.rollback.specs.Held.{machine_of};
+ghost use Rattle.gvt.specs.Least.{IsLeast};
+ghost use Rattle.exchange.specs.declared.stub.Stub.{Stub as StubValue};
+ghost use Rattle.exchange.specs.Shared.{exchange_of, clear_until, is_end, is_ended, passing, IsPassing};
+ghost use Rattle.std.specs.List.{list_all};
+
+use crate::stub::Stub;
+use event_keys::laws::rank_law;
+use event_keys::{Bound, Turned};
+use gvt::least_bound;
+use raw_events::EventList;
+use std::marker::Model;
+use std::sync::Arc;
+use task_seed::laws::machine_is_lawful;
+use task_seed::{Setup, Turns};
+use terms::{Action, State};
+use virtual_time::exchanges::exchange_is_sound;
+use virtual_time::reference::reference_is_counted;
+
+/// What workers share: for each component a stub, the committed bound, the turns taken in and not yet given, and how many were given.
+#[derive(Drop)]
+pub struct Exchange<T: Turns> {
+    pub(crate) setup: Arc<Setup<T>>,
+    pub(crate) stubs: Vec<Stub>,
+    pub(crate) bound: Bound,
+    // All after the cursor, in the order of keys.
+    pub(crate) held: EventList<Turned>,
+    pub(crate) given: u64,
+}
+
+impl<T: Turns> Model for Exchange<T> {
+    ghost use Rattle.std.specs.Prelude.{◌≡◌, []};
+    ghost use Rattle.std.specs.Arc.{arc_value};
+    ghost use Rattle.task_seed.specs.declared.setup.Setup.{Setup};
+    ghost use Rattle.task_seed.specs.Setups.{system};
+    ghost use Rattle.exchange.specs.Shared.{Shared, IsShared};
+    ghost use Rattle.std.specs.Coded.{codes};
+    ghost use Rattle.terms.specs.Datum.{datum_code};
+    ghost use Rattle.terms.specs.contracts.scalar.Shape as shape;
+    ghost use Rattle.terms.specs.contracts.term.Term as term;
+    ghost use Rattle.terms.specs.contracts.effect.Effect as effect;
+
+    ghost Value = { Shared (Setup T) };
+
+    ghost coded = { Prim.hlevel (codes, shape.the_row.coded, term.the_row.coded, effect.the_row.coded, datum_code) };
+
+    ghost view = { λ e. record { setup = arc_value e.setup; stubs = e.stubs.items; bound = e.bound; held = e.held.after; given = e.given } };
+
+    ghost invariant = { λ e. (e.held.before ≡ []) × IsShared (system T.turn_of (arc_value e.setup)) (record { setup = arc_value e.setup; stubs = e.stubs.items; bound = e.bound; held = e.held.after; given = e.given }) };
+}
+
+impl<T: Turns> Exchange<T> {
+    /// The setup.
+    pub fn setup(&self) -> &Setup<T>
+        ensures { result.now ≡ self.now.setup }
+    {
+        &self.setup
+    }
+
+    /// Whether every base is the end: then all turns that there are lie below the bases.
+    pub fn finished(&self) -> bool
+        ensures { result ≡ list_all is_ended self.now.stubs }
+    {
+        all_ended(&self.stubs)
+    }
+
+    /// Raises the bound to the least of all floors and of all keys in inboxes: nothing below it can come any more. The answer is the
+    /// number of the turns with keys below it. It takes no memory; its time grows with the number of the components and with that of the
+    /// turns that were passed.
+    pub fn commit(&mut self) -> u64
+        ensures commit { IsCommit (machine_of T.turn_of self.old.setup) (exchange_of (machine_of T.turn_of self.old.setup) self.old) (exchange_of (machine_of T.turn_of self.old.setup) self.new) }
+        ensures rest { self.new ≡ record self.old { bound = self.new.bound; stubs = self.new.stubs } }
+        ensures stubs { (j : ℕ) → slice_get self.new.stubs j ≡ option_map (passing (system T.turn_of self.old.setup) (rank_of_bound self.new.bound) j) (slice_get self.old.stubs j) }
+        ensures count { result ≡ length (reference_below (machine_of T.turn_of self.old.setup) (rank_of_bound self.new.bound)) }
+    {
+        machine_is_lawful(&self.setup);
+        exchange_is_sound::<State, Action>();
+        reference_is_counted::<State, Action>();
+        let bound = least_clear(&self.stubs);
+        is_bounded(bound);
+        let count = pass_all(&self.setup, &mut self.stubs, bound);
+        self.bound = bound;
+        count
+    }
+}
+
+fn is_end(bound: Bound) -> bool
+    ensures { result ≡ is_end bound }
+{
+    match bound {
+        Bound::At(_) => false,
+        Bound::End => true,
+    }
+}
+
+fn all_ended(stubs: &[Stub]) -> bool
+    ensures { result ≡ list_all is_ended stubs.now }
+{
+    stubs.iter().all(|stub| is_end(stub.base))
+}
+
+// The least of all floors and of all keys in inboxes.
+fn least_clear(stubs: &[Stub]) -> Bound
+    ensures { IsLeast (map clear_until stubs.now) result }
+{
+    least_bound(stubs.iter().map(|stub| stub.clear_until()))
+}
+
+// The rank of a bound is at most the end's.
+#[tactic(auto, using(crate::proofs::Committing::end_is))]
+fn is_bounded(bound: Bound)
+    ensures { rank_of_bound bound ≤ end_rank }
+{
+    if let Bound::At(key) = bound {
+        rank_law(key);
+    }
+}
+
+// Counts all turns below a bound.
+fn pass_all<T: Turns>(setup: &Setup<T>, stubs: &mut [Stub], bound: Bound) -> u64
+    requires many { length stubs.old ≡ length (composition (plan_of setup.now)) }
+    requires passing { (j : ℕ) (stub : StubValue) → slice_get stubs.old j ≡ Some stub → IsPassing (system T.turn_of setup.now) (rank_of_bound bound) j stub }
+    requires end { rank_of_bound bound ≤ end_rank }
+    ensures stubs { (j : ℕ) → slice_get stubs.new j ≡ option_map (passing (system T.turn_of setup.now) (rank_of_bound bound) j) (slice_get stubs.old j) }
+    ensures many { length stubs.new ≡ length stubs.old }
+    ensures passed { (j : ℕ) (stub : StubValue) → slice_get stubs.new j ≡ Some stub → IsPassing (system T.turn_of setup.now) (rank_of_bound bound) j stub }
+    ensures count { result ≡ turns_of (point (machine_of T.turn_of setup.now) (rank_of_bound bound)) (length (composition (plan_of setup.now))) }
+{
+    machine_is_lawful(setup);
+    reference_is_counted::<State, Action>();
+    let mut count = 0;
+    for i in 0..setup.plan().components() {
+        let stub = &mut stubs[usize::from(i)];
+        stub.pass_turns(setup, i, bound);
+        count += stub.passed;
+    }
+    count
+}

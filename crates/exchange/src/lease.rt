@@ -1,0 +1,123 @@
+//! Leases: components that workers hold, away from what they share.
+ghost use Rattle.std.specs.Prelude.{◌≡◌, ◌≤◌, ◌<◌, ◌-◌, ◌^◌, [], length, min, true, false, None, IfOk, OnOk, OnErr, IfErr, IsErrOf, IsSomeAnd, ◌↔◌, ◌⊎◌};
+ghost use Rattle.event_keys.specs.declared.message.Sign.TheVariants.{Plus};
+ghost use Rattle.event_keys.specs.Ranks.{rank};
+ghost use Rattle.virtual_time.specs.Entries.{entry_key};
+ghost use Rattle.virtual_time.specs.Records.{next_of};
+ghost use Rattle.rollback.specs.Held.{machine_of, processed, sent_next};
+ghost use Rattle.rollback.specs.Post.{IsPosted};
+ghost use Rattle.event_keys.specs.declared.message.Signed.{Signed as SignedValue};
+ghost use Rattle.exchange.specs.Holding.{IsAhead, IsDelivered, AllDelivered};
+
+use antimessage::Bag;
+use event_keys::{Bound, Key};
+use rollback::laws::run_law;
+use rollback::{Component, ProcessRefused};
+use std::alloc::Global;
+use std::marker::Model;
+use task_seed::Turns;
+use task_seed::laws::machine_is_lawful;
+use terms::{Action, NoMemory, State};
+use virtual_time::exchanges::{exchange_is_sound, lease_law};
+
+/// A component that a worker holds, away from what workers share: with its tray of messages that came to it and aren't delivered
+/// yet, its outgoing messages, and its floor, the least key that it had to do at its last meeting. It can't be cloned.
+#[derive(Drop)]
+pub struct Lease<T: Turns> {
+    pub(crate) component: Component<T>,
+    pub(crate) tray: Bag,
+    pub(crate) out: Bag,
+    pub(crate) floor: Bound,
+}
+
+impl<T: Turns> Model for Lease<T> {
+    ghost use Rattle.task_seed.specs.declared.setup.Setup.{Setup};
+    ghost use Rattle.exchange.specs.Holding.{Holding, IsHolding};
+    ghost use Rattle.rollback.specs.Held.{machine_of};
+    ghost use Rattle.std.specs.Coded.{codes};
+    ghost use Rattle.terms.specs.Datum.{datum_code};
+    ghost use Rattle.terms.specs.contracts.scalar.Shape as shape;
+    ghost use Rattle.terms.specs.contracts.term.Term as term;
+    ghost use Rattle.terms.specs.contracts.effect.Effect as effect;
+
+    ghost Value = { Holding (Setup T) };
+
+    ghost coded = { Prim.hlevel (codes, shape.the_row.coded, term.the_row.coded, effect.the_row.coded, datum_code) };
+
+    ghost view = { λ l. record { component = l.component; tray = l.tray; out = l.out; floor = l.floor } };
+
+    ghost invariant = { λ l. IsHolding (machine_of T.turn_of l.component.setup) (record { component = l.component; tray = l.tray; out = l.out; floor = l.floor }) };
+}
+
+impl<T: Turns> Lease<T> {
+    /// The number of the component, from 0.
+    pub fn number(&self) -> u16
+        ensures { result ≡ self.now.component.number }
+    {
+        self.component.number()
+    }
+
+    /// Processes entries, at most `budget` of them, and answers how many. It stops short where nothing is pending and no turn is
+    /// left, and where memory is refused; that is an error only where the first entry was refused, and then nothing has changed.
+    pub fn run_ahead(&mut self, alloc: Global, budget: u32) -> Result<u32, NoMemory>
+        ensures ahead { IfOk result (λ count. IsAhead (machine_of T.turn_of self.old.component.setup) self.old self.new count) }
+        ensures most { IfOk result (λ count. count ≤ budget) }
+        ensures none { IfOk result (λ count. count ≡ 0 → (budget ≡ 0) ⊎ (next_of (machine_of T.turn_of self.old.component.setup) self.old.component.number self.old.component.history ≡ None)) }
+        ensures kept { OnErr result (self.new ≡ self.old) }
+    {
+        run_law::<State>();
+        for count in 0..budget {
+            match self.process_next(alloc) {
+                Ok(_) => {}
+                Err(ProcessRefused::NoMemory) if count == 0 => return Err(NoMemory),
+                Err(_) => return Ok(count),
+            }
+        }
+        Ok(budget)
+    }
+
+    /// Delivers the whole tray, from the least message on, and answers how many messages that were, or the greatest `u64` where
+    /// there were more. It takes no memory.
+    pub fn settle(&mut self) -> u64
+        ensures delivered { AllDelivered (machine_of T.turn_of self.old.component.setup) self.old self.old.tray self.new }
+        ensures tray { self.new.tray ≡ [] }
+        ensures count { result ≡ min (length self.old.tray) (2 ^ 64 - 1) }
+    {
+        let mut count: u64 = 0;
+        while self.deliver_next() {
+            count = count.saturating_add(1);
+        }
+        count
+    }
+
+    // The least message of the tray comes to the component; false where there is none.
+    fn deliver_next(&mut self) -> bool
+        ensures delivered { result ≡ true → (signed : SignedValue) × IsDelivered (machine_of T.turn_of self.old.component.setup) self.old self.new signed }
+        ensures none { result ≡ false → (self.old.tray ≡ []) × (self.new ≡ self.old) }
+    {
+        machine_is_lawful(self.component.setup());
+        exchange_is_sound::<State, Action>();
+        lease_law::<State, Action>();
+        let Some(cell) = self.tray.take(self.component.number()) else {
+            return false;
+        };
+        self.component.deliver(cell, &mut self.out);
+        true
+    }
+
+    // Does the component's next entry.
+    fn process_next(&mut self, alloc: Global) -> Result<Key, ProcessRefused>
+        ensures key { IfOk result (λ key. IsSomeAnd (next_of (machine_of T.turn_of self.old.component.setup) self.old.component.number self.old.component.history) (λ entry. entry_key entry ≡ rank key)) }
+        ensures record { OnOk result (self.new.component.history ≡ processed (next_of (machine_of T.turn_of self.old.component.setup) self.old.component.number self.old.component.history) self.old.component.history) }
+        ensures sent { OnOk result (IsPosted Plus (sent_next (machine_of T.turn_of self.old.component.setup) self.old.component.number (next_of (machine_of T.turn_of self.old.component.setup) self.old.component.number self.old.component.history)) self.old.out self.new.out) }
+        ensures rest { self.new ≡ record self.old { component = record self.old.component { history = self.new.component.history }; out = self.new.out } }
+        ensures nothing { IsErrOf result ProcessRefused.NothingPending ↔ (next_of (machine_of T.turn_of self.old.component.setup) self.old.component.number self.old.component.history ≡ None) }
+        ensures kept { OnErr result (self.new ≡ self.old) }
+    {
+        machine_is_lawful(self.component.setup());
+        exchange_is_sound::<State, Action>();
+        lease_law::<State, Action>();
+        let key = self.component.process(alloc, &mut self.out)?;
+        Ok(key)
+    }
+}

@@ -1,0 +1,97 @@
+//! The exchange and its leases at the start.
+ghost use Rattle.std.specs.Prelude.{◌≡◌, ◌<◌, IfOk, length, map};
+ghost use Rattle.std.specs.List.{range_with_len};
+ghost use Rattle.std.specs.Arc.{arc_value};
+ghost use Rattle.compose.specs.Plans.{composition};
+ghost use Rattle.task_seed.specs.Setups.{system, plan_of};
+ghost use Rattle.rollback.specs.Held.{machine_of};
+ghost use Rattle.exchange.specs.Start.{first_bound, start_stub, start_holding, start_shared};
+
+use crate::exchange::Exchange;
+use crate::lease::Lease;
+use crate::stub::Stub;
+use antimessage::Bag;
+use event_keys::{Bound, Key};
+use raw_events::EventList;
+use rollback::Component;
+use std::alloc::Global;
+use std::sync::Arc;
+use task_seed::laws::machine_is_lawful;
+use task_seed::{Setup, Turns};
+use terms::{Action, NoMemory, State};
+use virtual_time::exchanges::exchange_is_sound;
+
+// Below it there is no key.
+const FIRST: Bound = Bound::At(Key {
+    tick: 0,
+    component: 0,
+    number: 0,
+});
+
+// The key of a component's first turn, or the end where it has none.
+fn first_bound<T: Turns>(setup: &Setup<T>, i: u16) -> Bound
+    ensures { result ≡ first_bound (system T.turn_of setup.now) i }
+{
+    match setup.first_key(i) {
+        None => Bound::End,
+        Some(key) => Bound::At(key),
+    }
+}
+
+fn start_stub<T: Turns>(setup: &Setup<T>, i: u16) -> Stub
+    ensures { result ≡ start_stub (system T.turn_of setup.now) i }
+{
+    Stub {
+        base: FIRST,
+        floor: first_bound(setup, i),
+        taken: Bag::new(),
+        standing: Bag::new(),
+        inbox: Bag::new(),
+        passed: 0,
+        ahead: setup.first_key(i),
+    }
+}
+
+fn start_lease<T: Turns>(alloc: Global, setup: Arc<Setup<T>>, i: u16) -> Result<Lease<T>, NoMemory>
+    requires { i < length (composition (plan_of (arc_value setup))) }
+    ensures { IfOk result (λ lease. lease ≡ start_holding T.turn_of (arc_value setup) i) }
+{
+    machine_is_lawful(&setup);
+    exchange_is_sound::<State, Action>();
+    let floor = first_bound(&setup, i);
+    let component = Component::new(alloc, setup, i)?;
+    Ok(Lease {
+        component,
+        tray: Bag::new(),
+        out: Bag::new(),
+        floor,
+    })
+}
+
+impl<T: Turns> Exchange<T> {
+    /// The exchange of a setup at its start, with a lease for each component, in order.
+    pub fn new(
+        alloc: Global,
+        setup: Arc<Setup<T>>,
+    ) -> Result<(Exchange<T>, Vec<Lease<T>>), NoMemory>
+        ensures exchange { IfOk result (λ both. both.0 ≡ start_shared T.turn_of (arc_value setup)) }
+        ensures leases { IfOk result (λ both. both.1.items ≡ map (start_holding T.turn_of (arc_value setup)) (range_with_len 0 (length (composition (plan_of (arc_value setup)))))) }
+    {
+        machine_is_lawful(&setup);
+        exchange_is_sound::<State, Action>();
+        let mut stubs = Vec::new(alloc);
+        let mut leases = Vec::new(alloc);
+        for i in 0..setup.plan().components() {
+            stubs.push(start_stub(&setup, i))?;
+            leases.push(start_lease(alloc, Arc::try_clone(&setup)?, i)?)?;
+        }
+        let exchange = Exchange {
+            setup,
+            stubs,
+            bound: FIRST,
+            held: EventList::new(),
+            given: 0,
+        };
+        Ok((exchange, leases))
+    }
+}
