@@ -110,9 +110,17 @@ impl<T: Turns> Component<T> {
 
     /// The number of the component, from 0.
     pub fn number(&self) -> u16
-        ensures { result ≡ self.now.number }
+        ensures number { result ≡ self.now.number }
+        ensures there { result < length (composition (plan_of self.now.setup)) }
     {
         self.number
+    }
+
+    /// The bound of the base: nothing done below it is kept.
+    pub fn base(&self) -> Bound
+        ensures { result ≡ self.now.base }
+    {
+        self.base
     }
 
     /// The pending inputs and the owed antimessages are in order. The call does nothing.
