@@ -3,3 +3,5 @@ mod Delivering
 mod Passing
 mod Committing
 mod Starting
+mod Chunking
+mod Knowing

@@ -118,7 +118,7 @@ fn least_clear(stubs: &[Stub]) -> Bound
 
 // The rank of a bound is at most the end's.
 #[tactic(auto, using(crate::proofs::Committing::end_is))]
-fn is_bounded(bound: Bound)
+pub(crate) fn is_bounded(bound: Bound)
     ensures { rank_of_bound bound ≤ end_rank }
 {
     if let Bound::At(key) = bound {

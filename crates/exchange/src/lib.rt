@@ -1,12 +1,16 @@
 //! What workers share, and what each of them holds away from it.
 #![tactic(auto)]
 
+pub mod chunk;
 pub mod exchange;
+pub mod judging;
 pub mod lease;
 mod start;
 pub mod stub;
 
+pub use chunk::Chunk;
 pub use exchange::Exchange;
+pub use judging::MeetRefused;
 pub use lease::Lease;
 pub use stub::Stub;
 

@@ -14,7 +14,7 @@ pub invariant_of-self : goal.invariant_of-self
 invariant_of-self g c =
     let f = c.self.inside in
     let i = f.component.number in
-    let empty : f.tray ≡ [] = none_to i f.tray c.self.invariant.arrived (ap (λ n. first_where (is_to n) f.tray) (sym c.number.ensures) ∙ sym c.in_default.ensures.taken) in
+    let empty : f.tray ≡ [] = none_to i f.tray c.self.invariant.arrived (ap (λ n. first_where (is_to n) f.tray) (sym c.number.ensures.number) ∙ sym c.in_default.ensures.taken) in
     let left : c.take.new.self ≡ f.tray = c.in_default.ensures.rest ∙ ap (without_where (is_to c.number.result)) empty ∙ sym empty in
     subst (λ t. IsHolding (machine_of g.T.Turns.turn_of f.component.setup) (record { component = f.component; tray = t; out = f.out; floor = f.floor })) (sym left) c.self.invariant
 
@@ -22,7 +22,7 @@ pub returns-in_default-clause-none : goal.returns-in_default-clause-none
 returns-in_default-clause-none g c = λ no.
     let f = c.self.inside in
     let i = f.component.number in
-    let empty : f.tray ≡ [] = none_to i f.tray c.self.invariant.arrived (ap (λ n. first_where (is_to n) f.tray) (sym c.number.ensures) ∙ sym c.in_default.ensures.taken) in
+    let empty : f.tray ≡ [] = none_to i f.tray c.self.invariant.arrived (ap (λ n. first_where (is_to n) f.tray) (sym c.number.ensures.number) ∙ sym c.in_default.ensures.taken) in
     let left : c.take.new.self ≡ f.tray = c.in_default.ensures.rest ∙ ap (without_where (is_to c.number.result)) empty ∙ sym empty in
     (ap (λ (h : Holding _). h.tray) (sym c.self.view_is) ∙ empty, ap (λ t. record { component = f.component; tray = t; out = f.out; floor = f.floor }) left ∙ c.self.view_is)
 
@@ -32,7 +32,7 @@ deliver-requires-after_bounds g c = λ _ _.
     let i = f.component.number in
     let s = c.in-Some.cell in
     let there : f.tray ≡ s ∷ without_where (is_to i) f.tray
-    = first_to i f.tray s c.self.invariant.arrived (ap (λ n. first_where (is_to n) f.tray) (sym c.number.ensures) ∙ sym c.in-Some.ensures.taken) in
+    = first_to i f.tray s c.self.invariant.arrived (ap (λ n. first_where (is_to n) f.tray) (sym c.number.ensures.number) ∙ sym c.in-Some.ensures.taken) in
     (subst (λ ys. Each (λ y. y.message.to ≡ i) ys) there c.self.invariant.arrived).0
 
 pub invariant_of-self-2 : goal.invariant_of-self-2
@@ -44,8 +44,8 @@ invariant_of-self-2 g c =
     let law : Lawful m = subst (λ p. Lawful (machine_of t p)) c.setup.ensures c.machine_is_lawful.ensures.lawful in
     let s = c.in-Some.cell in
     let there : f.tray ≡ s ∷ without_where (is_to i) f.tray
-    = first_to i f.tray s c.self.invariant.arrived (ap (λ n. first_where (is_to n) f.tray) (sym c.number.ensures) ∙ sym c.in-Some.ensures.taken) in
-    let left : c.take.new.self ≡ without_where (is_to i) f.tray = c.in-Some.ensures.rest ∙ ap (λ n. without_where (is_to n) f.tray) c.number.ensures in
+    = first_to i f.tray s c.self.invariant.arrived (ap (λ n. first_where (is_to n) f.tray) (sym c.number.ensures.number) ∙ sym c.in-Some.ensures.taken) in
+    let left : c.take.new.self ≡ without_where (is_to i) f.tray = c.in-Some.ensures.rest ∙ ap (λ n. without_where (is_to n) f.tray) c.number.ensures.number in
     subst (λ (x : Held _). IsHolding (machine_of t x.setup) (record { component = x; tray = c.take.new.self; out = c.deliver.new.out; floor = f.floor })) (sym c.deliver.ensures.record)
     (subst (λ tray. IsHolding m (record { component = record f.component { history = comes m s.sign (item_of s) f.component.history }; tray = tray; out = c.deliver.new.out; floor = f.floor })) (sym left)
     (deliver_kept m law (record { component = f.component; tray = f.tray; out = f.out; floor = f.floor }) c.self.invariant (c.exchange_is_sound.ensures.alone m) (c.lease_law.ensures.message m) (c.lease_law.ensures.antimessage m) s (without_where (is_to i) f.tray) there s.sign refl c.deliver.new.out
@@ -59,8 +59,8 @@ returns-clause-delivered g c = λ yes.
     let m = machine_of t f.component.setup in
     let s = c.in-Some.cell in
     let there : f.tray ≡ s ∷ without_where (is_to i) f.tray
-    = first_to i f.tray s c.self.invariant.arrived (ap (λ n. first_where (is_to n) f.tray) (sym c.number.ensures) ∙ sym c.in-Some.ensures.taken) in
-    let left : c.take.new.self ≡ without_where (is_to i) f.tray = c.in-Some.ensures.rest ∙ ap (λ n. without_where (is_to n) f.tray) c.number.ensures in
+    = first_to i f.tray s c.self.invariant.arrived (ap (λ n. first_where (is_to n) f.tray) (sym c.number.ensures.number) ∙ sym c.in-Some.ensures.taken) in
+    let left : c.take.new.self ≡ without_where (is_to i) f.tray = c.in-Some.ensures.rest ∙ ap (λ n. without_where (is_to n) f.tray) c.number.ensures.number in
     let came : c.deliver.new.self.history ≡ comes m s.sign (item_of s) f.component.history = ap (λ (x : Held _). x.history) c.deliver.ensures.record in
     subst (λ (old : Holding _). (x : Signed) × IsDelivered (machine_of t old.component.setup) old (record { component = c.deliver.new.self; tray = c.take.new.self; out = c.deliver.new.out; floor = f.floor }) x) c.self.view_is (
       s,

@@ -1,0 +1,112 @@
+//! Turns that are committed for good, on their way out.
+ghost use Rattle.std.specs.Prelude.{◌≡◌, ◌<◌, ◌+◌, ◌++◌, ◌^◌, ℕ, [], length, map};
+ghost use Rattle.event_keys.specs.Ranks.{rank_of_bound};
+ghost use Rattle.virtual_time.specs.Reference.{reference_below};
+ghost use Rattle.virtual_time.specs.Exchange.Meetings.{IsChunk};
+ghost use Rattle.compose.specs.Plans.{composition};
+ghost use Rattle.task_seed.specs.Setups.{plan_of};
+ghost use Rattle.rollback.specs.Held.{machine_of};
+ghost use Rattle.rollback.specs.Kept.{onto};
+ghost use Rattle.gvt.specs.Least.{IsLeast};
+ghost use Rattle.exchange.specs.Shared.{exchange_of, turns_of};
+ghost use Rattle.exchange.specs.Chunks.{base_of, is_first_below, first_below, first_from, IsGiven};
+
+use crate::exchange::{Exchange, is_bounded};
+use crate::stub::Stub;
+use event_keys::laws::bound_rank_law;
+use event_keys::{Bound, Turned};
+use gvt::least_bound;
+use raw_events::EventList;
+use task_seed::Turns;
+use task_seed::laws::machine_is_lawful;
+use terms::{Action, State};
+use virtual_time::exchanges::exchange_is_sound;
+use virtual_time::reference::reference_is_counted;
+
+/// Turns that no chunk has given yet.
+#[derive(Drop)]
+pub struct Chunk {
+    /// The number of the turns that were given before.
+    pub first: u64,
+    /// The turns, in the order of keys, all after the cursor.
+    pub turns: EventList<Turned>,
+}
+
+// Turns, the last one nearest before the cursor, and their number.
+#[derive(Drop)]
+struct Taken {
+    turns: EventList<Turned>,
+    count: u64,
+}
+
+// A number of components fits its type.
+fn is_few(count: u16)
+    ensures { count < 65536 }
+{
+    let _ = count;
+}
+
+fn least_base(stubs: &[Stub]) -> Bound
+    ensures { IsLeast (map base_of stubs.now) result }
+{
+    least_bound(stubs.iter().map(|stub| stub.base))
+}
+
+fn is_first_below(held: &EventList<Turned>, bound: Bound) -> bool
+    ensures { result ≡ is_first_below (rank_of_bound bound) held.now.after }
+{
+    match held.peek_next() {
+        None => false,
+        Some(turned) => {
+            bound_rank_law(Bound::At(turned.key), bound);
+            Bound::At(turned.key) < bound
+        }
+    }
+}
+
+// Takes the first turns, as long as they are below a bound.
+fn take_below(held: &mut EventList<Turned>, bound: Bound) -> Taken
+    requires front { held.old.before ≡ [] }
+    requires few { length (first_below (rank_of_bound bound) held.old.after) < 2 ^ 64 }
+    ensures rest { held.new ≡ record { before = []; after = first_from (rank_of_bound bound) held.old.after } }
+    ensures turns { result.turns ≡ record { before = onto (first_below (rank_of_bound bound) held.old.after) []; after = [] } }
+    ensures count { result.count ≡ length (first_below (rank_of_bound bound) held.old.after) }
+{
+    let mut taken = Taken {
+        turns: EventList::new(),
+        count: 0,
+    };
+    while is_first_below(held, bound) {
+        let Some(cell) = held.take_first() else {
+            unreachable!();
+        };
+        taken.turns.push_last(cell);
+        taken.count += 1;
+    }
+    taken
+}
+
+impl<T: Turns> Exchange<T> {
+    /// Gives the turns below the least base that no chunk has given yet, in the order of keys. It takes no memory; its time grows with
+    /// the number of these turns and of the components.
+    pub fn take_chunk(&mut self) -> Chunk
+        ensures chunk { (b : ℕ) × IsChunk (machine_of T.turn_of self.old.setup) (length (composition (plan_of self.old.setup))) (exchange_of (machine_of T.turn_of self.old.setup) self.old) b (exchange_of (machine_of T.turn_of self.old.setup) self.new) (turns_of result.turns.after) }
+        ensures given { IsGiven (machine_of T.turn_of self.old.setup) result.first (turns_of result.turns.after) }
+        ensures front { result.turns.before ≡ [] }
+        ensures first { result.first ≡ self.old.given }
+        ensures rest { self.new ≡ record self.old { held = self.new.held; given = self.new.given } }
+    {
+        machine_is_lawful(&self.setup);
+        exchange_is_sound::<State, Action>();
+        reference_is_counted::<State, Action>();
+        is_few(self.setup.plan().components());
+        let bound = least_base(&self.stubs);
+        is_bounded(bound);
+        let first = self.given;
+        let mut taken = take_below(&mut self.held, bound);
+        self.given += taken.count;
+        let mut turns = EventList::new();
+        turns.append_all(&mut taken.turns);
+        Chunk { first, turns }
+    }
+}

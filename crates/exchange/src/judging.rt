@@ -1,0 +1,95 @@
+//! Whether a lease can meet what workers share.
+ghost use Rattle.std.specs.Prelude.{◌≡◌, ◌==◌, ◌↔◌, true, false, IsOk, IsErrOf, None};
+ghost use Rattle.event_keys.specs.Ranks.{rank_of_bound};
+ghost use Rattle.virtual_time.specs.Exchange.Leases.{Matches};
+ghost use Rattle.rollback.specs.Held.{machine_of};
+ghost use Rattle.exchange.specs.Holding.{lease_of};
+ghost use Rattle.exchange.specs.Shared.{exchange_of};
+ghost use Rattle.exchange.specs.Known.{IsKnown};
+
+use crate::exchange::Exchange;
+use crate::lease::Lease;
+use crate::stub::Stub;
+use event_keys::Bound;
+use event_keys::laws::bound_rank_law;
+use task_seed::laws::equal_setup_law;
+use task_seed::{Setup, Turns};
+use terms::Refusal;
+use thiserror::Error;
+
+/// Why a lease can't meet the exchange; neither changes.
+#[derive(Clone, Copy, Debug, PartialEq, Eq, Error)]
+pub enum MeetRefused {
+    /// The lease is of another setup.
+    #[error("another setup")]
+    OtherSetup,
+    /// Base, floor, taken messages or standing sends aren't those that are kept of the lease's component.
+    #[error("a stranger")]
+    Stranger,
+}
+
+impl Refusal for MeetRefused {
+    ghost use Rattle.std.specs.Prelude.{None};
+    ghost use Rattle.exchange.specs.Refusals.{meet_number};
+
+    ghost number_of = { meet_number };
+
+    ghost place_of = { λ _. None };
+
+    fn number(&self) -> u8 {
+        match self {
+            MeetRefused::OtherSetup => 40,
+            MeetRefused::Stranger => 41,
+        }
+    }
+
+    fn place(&self) -> Option<usize> {
+        None
+    }
+}
+
+fn is_same_bound(a: Bound, b: Bound) -> bool
+    ensures { result ≡ (rank_of_bound a == rank_of_bound b) }
+{
+    bound_rank_law(a, b);
+    a.cmp(&b).is_eq()
+}
+
+// Whether what is kept of a component is what the lease has.
+fn is_known<T: Turns>(stub: &Stub, lease: &Lease<T>) -> bool
+    ensures { (result ≡ true) ↔ IsKnown (machine_of T.turn_of lease.now.component.setup) stub.now lease.now }
+{
+    if !is_same_bound(lease.component.base(), stub.base) {
+        return false;
+    }
+    if !is_same_bound(lease.floor, stub.floor) {
+        return false;
+    }
+    if !lease.component.has_taken(&stub.taken, &lease.tray) {
+        return false;
+    }
+    lease.component.has_standing(&stub.standing, &lease.out)
+}
+
+impl<T: Turns> Exchange<T> {
+    /// Whether a lease can meet the exchange: exactly where its setup is the exchange's (else 40), and base, floor, taken messages and
+    /// standing sends are those that are kept of its component (else 41).
+    pub fn judge(&self, lease: &Lease<T>) -> Result<(), MeetRefused>
+        ensures ok { IsOk result ↔ ((⟦<Setup<T> as PartialEq>⟧.eq self.now.setup lease.now.component.setup ≡ true) × Matches (machine_of T.turn_of self.now.setup) lease.now.component.number ((exchange_of (machine_of T.turn_of self.now.setup) self.now).stub lease.now.component.number) (lease_of lease.now)) }
+        ensures other { IsErrOf result MeetRefused.OtherSetup ↔ (⟦<Setup<T> as PartialEq>⟧.eq self.now.setup lease.now.component.setup ≡ false) }
+    {
+        let setup = lease.component.setup();
+        equal_setup_law(&self.setup, setup);
+        if *self.setup != *setup {
+            return Err(MeetRefused::OtherSetup);
+        }
+        let Some(stub) = self.stubs.get(usize::from(lease.component.number())) else {
+            return Err(MeetRefused::Stranger);
+        };
+        if is_known(stub, lease) {
+            Ok(())
+        } else {
+            Err(MeetRefused::Stranger)
+        }
+    }
+}
