@@ -16,5 +16,8 @@ pub mod Windowed
 pub mod Leased
 pub mod Called
 pub mod WindowKept
+pub mod Pairs
+pub mod Moved
 pub mod Exists
 pub mod Quiet
+pub mod Merging

@@ -1,18 +1,19 @@
 //! The exchange of several workers, and the leases that they hold.
-ghost use Rattle.std.specs.Prelude.{List, Some, [], length, ◌*◌, ◌+◌, ◌++◌, ◌-◌, ◌<◌, ◌∷◌, ◌≡◌, ◌≤◌, ℕ};
+ghost use Rattle.std.specs.Prelude.{List, None, Option, Some, [], length, ◌*◌, ◌+◌, ◌++◌, ◌-◌, ◌<◌, ◌∷◌, ◌≡◌, ◌≤◌, ℕ};
 ghost use Rattle.virtual_time.specs.Inverses.{meets_of};
 ghost use Rattle.virtual_time.specs.Bags.{inputs, times};
-ghost use Rattle.virtual_time.specs.Entries.{Entry, Item};
+ghost use Rattle.virtual_time.specs.Entries.{Entry, Item, below};
 ghost use Rattle.virtual_time.specs.Exchange.Calls.{Call, CallMeet, Called, Calls, IsShared, Shared, start_shared};
 ghost use Rattle.virtual_time.specs.Exchange.WindowCalls.{CallsWithin, IsWindowed};
 ghost use Rattle.virtual_time.specs.Exchange.Windows.{HasRoom, IsExchangeWithin, IsWithin, inboxes, own_turns};
-ghost use Rattle.virtual_time.specs.Records.{Record, after_entry, antimessage_comes, back_by_antimessage, back_by_message, message_comes, next_of, sent_by, unsent};
+ghost use Rattle.virtual_time.specs.Records.{Record, after_entry, antimessage_comes, back_by_antimessage, back_by_message, message_comes, next_of, sent_by, turns_among, unsent};
 ghost use Rattle.virtual_time.specs.Exchange.Stubs.{Exchange, IsSound, start_exchange};
 ghost use Rattle.virtual_time.specs.Exchange.Leases.{Does, IsLease, Lease, Matches, alone, lease_after, lease_of, start_lease};
 ghost use Rattle.virtual_time.specs.Worlds.{Commit, Reaches, Step, World, deliver_antimessage, deliver_message, process, put_back, record_of, same, start_world, taken_at};
 ghost use Rattle.virtual_time.specs.Rules.{IsWorld};
-ghost use Rattle.virtual_time.specs.Reference.{IsReference, Turn, reference_below};
+ghost use Rattle.virtual_time.specs.Reference.{Falls, IsReference, Turn, outcome_at, reference_below};
 ghost use Rattle.virtual_time.specs.Exchange.Meetings.{IsChunk, IsCommit, Met};
+ghost use Rattle.virtual_time.specs.Exchange.Moved.{IsMoved};
 ghost use Rattle.virtual_time.specs.Exchange.Wholes.{IsWhole, put_lease};
 ghost use Rattle.virtual_time.specs.Machine.{HasCount, Lawful, Machine};
 
@@ -36,6 +37,15 @@ pub fn meeting_exists<S, A>()
     ensures met { (machine : Machine S A) (count i : ℕ) (exchange : Exchange A) (lease : Lease S A) → Lawful machine → HasCount machine count → IsSound machine count exchange → IsLease machine i lease → Matches machine i (exchange.stub i) lease → ((j : ℕ) → count ≤ j → (exchange.stub j).plus ≡ []) → ((j : ℕ) → count ≤ j → lease.out_plus j ≡ []) → (new_exchange : Exchange A) × (new_lease : Lease S A) × Met machine i exchange lease new_exchange new_lease }
     ensures always { (machine : Machine S A) (count i : ℕ) (calls : List (Call A)) (shared : Shared S A) → Lawful machine → HasCount machine count → Calls machine count (start_shared machine) calls shared → (new_shared : Shared S A) × Called machine count shared (CallMeet i) new_shared }
     ensures first { (machine : Machine S A) (i : ℕ) → Lawful machine → Met machine i (start_exchange machine) (start_lease machine i) (start_exchange machine) (start_lease machine i) }
+{}
+
+/// What a meeting moves, told by counts, is a meeting: where beyond the components nobody has a message in an inbox or from the lease.
+/// The turns that it takes in fall, and none of their keys is held.
+pub fn meeting_law<S, A>()
+    ensures met { (machine : Machine S A) (count i : ℕ) (exchange new_exchange : Exchange A) (lease new_lease : Lease S A) → Lawful machine → IsSound machine count exchange → IsLease machine i lease → Matches machine i (exchange.stub i) lease → ((j : ℕ) → count ≤ j → (exchange.stub j).plus ≡ []) → ((j : ℕ) → count ≤ j → lease.out_plus j ≡ []) → IsMoved machine i exchange lease new_exchange new_lease → Met machine i exchange lease new_exchange new_lease }
+    ensures falls { (machine : Machine S A) (count i : ℕ) (exchange : Exchange A) (lease : Lease S A) → Lawful machine → IsSound machine count exchange → IsLease machine i lease → Matches machine i (exchange.stub i) lease → Falls (turns_among (below exchange.bound lease.part.done)) }
+    ensures apart { (machine : Machine S A) (count i : ℕ) (exchange : Exchange A) (lease : Lease S A) → Lawful machine → IsSound machine count exchange → IsLease machine i lease → Matches machine i (exchange.stub i) lease → (k : ℕ) (o : Option A) → outcome_at k (turns_among (below exchange.bound lease.part.done)) ≡ Some o → outcome_at k exchange.held ≡ None }
+    ensures between { (machine : Machine S A) (count i : ℕ) (exchange : Exchange A) (lease : Lease S A) → Lawful machine → IsSound machine count exchange → IsLease machine i lease → Matches machine i (exchange.stub i) lease → (lease.base ≤ exchange.bound) × (exchange.bound ≤ lease.floor) }
 {}
 
 /// A lease's own step is that of its record, put back, with its tray and its outgoing bag changed; and the lease so changed, alone, is

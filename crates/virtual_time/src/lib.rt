@@ -6,6 +6,7 @@
 
 pub mod examples;
 pub mod exchanges;
+pub mod merging;
 pub mod reference;
 pub mod rolling_back;
 pub mod worlds;
