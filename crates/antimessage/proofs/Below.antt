@@ -40,11 +40,14 @@ module _ {A : Type 0} (test : A → Bool) where
   all_pass [] e = refl
   all_pass (x ∷ xs) e = rw (e.0, all_pass xs e.1)
 
-pub order_from : (bound : Bound) (bag : List Signed) → IsInOrder bag → IsInOrder (without_below bound bag)
-order_from bound bag o = record {
-  sorted = rising_filtered (λ s. not (is_below bound s)) signed_cmp bag o.sorted;
-  fits = each_filtered (λ s. not (is_below bound s)) Fits bag o.fits;
+pub order_filtered : (test : Signed → Bool) (bag : List Signed) → IsInOrder bag → IsInOrder (filter test bag)
+order_filtered test bag o = record {
+  sorted = rising_filtered test signed_cmp bag o.sorted;
+  fits = each_filtered test Fits bag o.fits;
 }
+
+pub order_from : (bound : Bound) (bag : List Signed) → IsInOrder bag → IsInOrder (without_below bound bag)
+order_from bound = order_filtered (λ s. not (is_below bound s))
 
 -- keys in order, the second before a third: so is the first
 less_chained : (o p q : Ordering) → is_gt o ≡ false → is_lt p ≡ true → (o ≡ Less → p ≡ Less → q ≡ Less) → (o ≡ Equal → q ≡ p) → is_lt q ≡ true

@@ -5,3 +5,5 @@ pub mod Pairs
 pub mod Effects
 pub mod Below
 pub mod Placed
+pub mod Cancelling
+pub mod Splitting

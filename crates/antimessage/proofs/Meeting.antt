@@ -164,13 +164,13 @@ of_minus : (m : Message) (s : Sign) → is_minus s ≡ true → record { message
 of_minus m Plus e = cc
 of_minus m Minus e = refl
 
-one_each : (k m : Message) → one_of (plus k) (plus m) ≡ one_of (minus k) (minus m)
+pub one_each : (k m : Message) → one_of (plus k) (plus m) ≡ one_of (minus k) (minus m)
 one_each k m = refl
 
 pub one_minus : (k m : Message) → one_of (minus k) (plus m) ≡ 0
 one_minus k m = one_no (minus k) (plus m) (unlike (minus k) (plus m) (λ e. plus_not_minus m k (sym e)))
 
-one_plus : (k m : Message) → one_of (plus k) (minus m) ≡ 0
+pub one_plus : (k m : Message) → one_of (plus k) (minus m) ≡ 0
 one_plus k m = one_no (plus k) (minus m) (unlike (plus k) (minus m) (plus_not_minus k m))
 
 balanced_pair : (old before after : List Signed) (k m : Message) (x y : Signed) → x ≡ plus k → y ≡ minus k

@@ -11,6 +11,11 @@ pub record IsAllMet (old new : List Signed) : Type 0 where
   pub pluses : (m : Message) → count (plus m) new ≡ count (plus m) old - count (minus m) old
   pub minuses : (m : Message) → count (minus m) new ≡ count (minus m) old - count (plus m) old
 
+-- of each message as many are gone as there are antimessages of it among the others, where there were so many; antimessages stay
+pub record IsCancelled (others old new : List Signed) : Type 0 where
+  pub pluses : (m : Message) → count (plus m) new ≡ count (plus m) old - count (minus m) others
+  pub minuses : (m : Message) → count (minus m) new ≡ count (minus m) old
+
 -- the number of the pairs that left, up to the greatest u64
 pub record IsPairCount (old new : List Signed) (answer : ℕ) : Type 0 where
   pub pairs : ℕ

@@ -1,11 +1,11 @@
 //! Bags of signed messages.
-ghost use Rattle.std.specs.Prelude.{◌≡◌, [], not};
+ghost use Rattle.std.specs.Prelude.{◌≡◌, [], filter, not};
 ghost use Rattle.std.specs.Cmp.Lexicographic.{pointwise, lists_per, lists_equiv};
 ghost use Rattle.event_keys.specs.contracts.message.SignedPartialEq.TheImpl.Laws.{laws-law as signed_laws};
 ghost use Rattle.event_keys.specs.contracts.message.SignedEq.TheImpl.Laws.{laws-law as signed_equivalence};
 ghost use Rattle.raw_events.specs.Around.{head, tail, is_nonempty, first_where, without_where};
 ghost use Rattle.antimessage.specs.Order.{IsInOrder};
-ghost use Rattle.antimessage.specs.Meetings.{IsAllMet, IsPairCount};
+ghost use Rattle.antimessage.specs.Meetings.{IsAllMet, IsCancelled, IsPairCount};
 ghost use Rattle.antimessage.specs.Bags.{insert, is_to, is_one, remove, has_pair, met, least_of, insert_all, without_below};
 
 use crate::{merge, walks};
@@ -53,7 +53,7 @@ impl Bag {
     {
         // They are read so that the proof knows that they fit.
         let key = &cell.value().message.key;
-        let (_component, _number) = (key.component, key.number);
+        let (_component, _number, _tick) = (key.component, key.number, key.tick);
         self.events.insert_sorted(cell);
     }
 
@@ -100,6 +100,25 @@ impl Bag {
         ensures pairs { IsPairCount self.old self.new result }
     {
         walks::meet_all(&mut self.events)
+    }
+
+    /// Takes one message out for each antimessage of it in `others`, as far as there are so many. The antimessages of this
+    /// bag stay.
+    pub fn cancel(&mut self, others: &Bag)
+        ensures { IsCancelled others.now self.old self.new }
+    {
+        walks::cancel(&mut self.events, others.iter());
+    }
+
+    /// Takes all that is sent to the component `to` (its number, from 0), each as often as it is there.
+    #[tactic(auto, using(crate::proofs::Below::order_filtered))]
+    pub fn split_to(&mut self, to: u16) -> Bag
+        ensures taken { result ≡ filter (is_to to) self.old }
+        ensures rest { self.new ≡ filter (λ s. not (is_to to s)) self.old }
+    {
+        Bag {
+            events: walks::split_to(&mut self.events, to),
+        }
     }
 
     /// Moves all messages of `other` into this bag, each to its place. `other` is left empty.

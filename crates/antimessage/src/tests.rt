@@ -211,3 +211,64 @@ fn what_is_below_is_dropped(rt: HostRuntime) -> Result<(), Fail> {
     assert!(rt; flight.is_empty());
     Ok(())
 }
+
+#[test]
+fn each_antimessage_of_others_takes_one(rt: HostRuntime) -> Result<(), Fail> {
+    let mut flight = bag(
+        &rt,
+        vec![in rt.alloc();
+            plus(&rt, 6, 1),
+            plus(&rt, 6, 1),
+            minus(&rt, 6, 1),
+            plus(&rt, 3, 1),
+            plus(&rt, 9, 1),
+        ]?,
+    )?;
+    let others = bag(
+        &rt,
+        vec![in rt.alloc();
+            minus(&rt, 6, 1),
+            plus(&rt, 3, 1),
+            minus(&rt, 8, 1),
+            minus(&rt, 9, 1),
+            minus(&rt, 9, 1),
+        ]?,
+    )?;
+    let left = bag(
+        &rt,
+        vec![in rt.alloc(); plus(&rt, 6, 1), minus(&rt, 6, 1), plus(&rt, 3, 1)]?,
+    )?;
+    flight.cancel(&others);
+    assert!(rt; flight == left);
+    Ok(())
+}
+
+#[test]
+fn a_bag_goes_apart_by_receivers(rt: HostRuntime) -> Result<(), Fail> {
+    let mut flight = bag(
+        &rt,
+        vec![in rt.alloc();
+            plus(&rt, 9, 1),
+            minus(&rt, 3, 4),
+            minus(&rt, 6, 1),
+            plus(&rt, 6, 1),
+            plus(&rt, 6, 1),
+        ]?,
+    )?;
+    assert!(rt; flight.split_to(2).is_empty());
+    let mut to_one = flight.split_to(1);
+    assert!(rt; flight == bag(&rt, vec![in rt.alloc(); minus(&rt, 3, 4)]?)?);
+    let wanted = bag(
+        &rt,
+        vec![in rt.alloc();
+            plus(&rt, 6, 1),
+            plus(&rt, 6, 1),
+            minus(&rt, 6, 1),
+            plus(&rt, 9, 1),
+        ]?,
+    )?;
+    assert!(rt; to_one == wanted);
+    assert!(rt; to_one.split_to(1) == wanted);
+    assert!(rt; to_one.is_empty());
+    Ok(())
+}

@@ -1,13 +1,13 @@
 //! Walks along a list of signed messages, from its front and back to it.
-ghost use Rattle.std.specs.Prelude.{◌≡◌, ◌++◌, [], reverse};
+ghost use Rattle.std.specs.Prelude.{◌≡◌, ◌++◌, [], reverse, filter, not};
 ghost use Rattle.raw_events.specs.Around.{head, tail, is_nonempty, first_where, without_where};
 ghost use Rattle.antimessage.specs.Bags.{is_to, is_one, has_pair, met};
 ghost use Rattle.antimessage.specs.Counts.{IsSorted};
 ghost use Rattle.antimessage.specs.Order.{IsInOrder};
-ghost use Rattle.antimessage.specs.Meetings.{IsAllMet, IsPairCount, can_meet};
+ghost use Rattle.antimessage.specs.Meetings.{IsAllMet, IsCancelled, IsPairCount, can_meet};
 
 use event_keys::{Message, Sign, Signed};
-use raw_events::{EventCell, EventList};
+use raw_events::{EventCell, EventList, Iter};
 
 pub(crate) fn take_next(events: &mut EventList<Signed>) -> Option<EventCell<Signed>>
     ensures taken { result ≡ head events.old.after }
@@ -104,4 +104,37 @@ pub(crate) fn meet_all(events: &mut EventList<Signed>) -> u64
     }
     rewind(events);
     pairs
+}
+
+// Takes one message out for each antimessage of it among the others, where there is one left.
+pub(crate) fn cancel(events: &mut EventList<Signed>, others: Iter<'_, Signed>)
+    requires { IsInOrder events.old.after }
+    ensures front { events.new.before ≡ events.old.before }
+    ensures order { IsInOrder events.new.after }
+    ensures cancelled { IsCancelled others.entry events.old.after events.new.after }
+{
+    for other in others {
+        if other.sign == Sign::Minus {
+            drop(take_one(events, &other.message, Sign::Plus));
+        }
+    }
+}
+
+// Takes all that are sent to that component into a list of their own. Both lists keep their order.
+pub(crate) fn split_to(events: &mut EventList<Signed>, to: u16) -> EventList<Signed>
+    requires { events.old.before ≡ [] }
+    ensures taken { result ≡ record { before = []; after = filter (is_to to) events.old.after } }
+    ensures rest { events.new ≡ record { before = []; after = filter (λ s. not (is_to to s)) events.old.after } }
+{
+    let mut taken = EventList::new();
+    while let Some(cell) = take_next(events) {
+        if cell.value().message.to == to {
+            taken.push_last(cell);
+        } else {
+            events.push_last(cell);
+        }
+    }
+    rewind(&mut taken);
+    rewind(events);
+    taken
 }

@@ -12,5 +12,6 @@ mod Nearest
 mod Equality
 mod Searching
 mod Levels
+mod Flights
 mod Taken
 mod Standing

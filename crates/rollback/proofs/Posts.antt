@@ -1,5 +1,5 @@
 -- What is posted to each component is what the theory sends.
-use Rattle.std.proofs.Common.{◌≡◌, ℕ, ◌+◌, ◌<◌, ◌≤◌, ◌^◌, ◌==◌, ◌||◌, Bool, true, false, cond, Some, List, [], ◌∷◌, ◌++◌, map, length, drop, get_or, add-one, drop-cons, refl, ap, ◌∙◌, arith}
+use Rattle.std.proofs.Common.{◌≡◌, ℕ, ◌+◌, ◌<◌, ◌≤◌, ◌==◌, ◌||◌, Bool, true, false, cond, Some, List, [], ◌∷◌, ◌++◌, map, length, drop, get_or, add-one, drop-cons, refl, ap, ◌∙◌, arith}
 use Rattle.std.proofs.lemmas.Bool.{and_from, and_left, and_right, or_from, or_parts}
 use Rattle.std.proofs.lemmas.Bool.Decides.{nat_tests}
 use Rattle.terms.specs.Named.{Named}
@@ -10,7 +10,7 @@ use Rattle.event_keys.specs.declared.message.Signed.{Signed}
 use Rattle.event_keys.specs.Ranks.{rank}
 use Rattle.antimessage.specs.Bags.{insert}
 use Rattle.antimessage.specs.Counts.{Each}
-use Rattle.antimessage.specs.Order.{Fits, IsInOrder}
+use Rattle.antimessage.specs.Order.{Fits, IsInOrder, KeyFits}
 use Rattle.compose.specs.Receivers.{IsIn, Rising}
 use Rattle.compose.specs.Signatures.{receives}
 use Rattle.virtual_time.specs.Bags as theory
@@ -96,21 +96,21 @@ module _ (s : System) (sign : Sign) (key : Key) (action : Named) where
       posted_other j ks (insert (signed_to sign key action k) bag)
       ∙ insert_elsewhere s (opposite sign) j (signed_to sign key action k) bag (and_left (is_sign (opposite sign) sign) (k == j) (other_sign sign))
 
-  module _ (component : key.component < 2 ^ 16) (number : key.number < 2 ^ 64) where
+  module _ (fit : KeyFits key) where
     pub posted_order : (js : List ℕ) (bag : List Signed) → IsInOrder bag → IsInOrder (post_all (map (signed_to sign key action) js) bag)
     posted_order [] bag o = o
-    posted_order (k ∷ ks) bag o = posted_order ks (insert (signed_to sign key action k) bag) (order_insert (signed_to sign key action k) bag o (component, number))
+    posted_order (k ∷ ks) bag o = posted_order ks (insert (signed_to sign key action k) bag) (order_insert (signed_to sign key action k) bag o fit)
 
     posted_at : (j b : ℕ) (js : List ℕ) (bag : List Signed) → Rising b js → IsInOrder bag
         → in_flight sign j (post_all (map (signed_to sign key action) js) bag) ≡ cond (IsIn j js) (theory.insert (machine s) (record { key = rank key; action = action }) (in_flight sign j bag)) (in_flight sign j bag)
     posted_at j b [] bag r o = refl
-    posted_at j b (k ∷ ks) bag r o = go (posted_at j (k + 1) ks (insert (signed_to sign key action k) bag) r.1 (order_insert (signed_to sign key action k) bag o (component, number))) (j == k) refl where
+    posted_at j b (k ∷ ks) bag r o = go (posted_at j (k + 1) ks (insert (signed_to sign key action k) bag) r.1 (order_insert (signed_to sign key action k) bag o fit)) (j == k) refl where
       go : in_flight sign j (post_all (map (signed_to sign key action) ks) (insert (signed_to sign key action k) bag)) ≡ cond (IsIn j ks) (theory.insert (machine s) (record { key = rank key; action = action }) (in_flight sign j (insert (signed_to sign key action k) bag))) (in_flight sign j (insert (signed_to sign key action k) bag))
           → (b : Bool) → (j == k) ≡ b
           → in_flight sign j (post_all (map (signed_to sign key action) ks) (insert (signed_to sign key action k) bag)) ≡ cond (b || IsIn j ks) (theory.insert (machine s) (record { key = rank key; action = action }) (in_flight sign j bag)) (in_flight sign j bag)
       go rest true e =
           posted_by j ks (insert (signed_to sign key action k) bag) (not_below j (k + 1) ks (next_above j k e) r.1)
-          ∙ insert_there s sign j (signed_to sign key action k) bag o (component, number) (goes_to j k e)
+          ∙ insert_there s sign j (signed_to sign key action k) bag o fit (goes_to j k e)
       go rest false e =
           rest
           ∙ ap (λ xs. cond (IsIn j ks) (theory.insert (machine s) (record { key = rank key; action = action }) xs) xs) (insert_elsewhere s sign j (signed_to sign key action k) bag (goes_by j k e))

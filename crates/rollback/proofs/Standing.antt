@@ -19,7 +19,7 @@ use Rattle.event_keys.specs.declared.outcome.Turned.{Turned}
 use Rattle.raw_events.specs.Around.{Around}
 use Rattle.antimessage.specs.Bags.{is_one}
 use Rattle.antimessage.specs.Counts.{Each, is_same, plus, minus}
-use Rattle.antimessage.specs.Order.{Fits, IsInOrder}
+use Rattle.antimessage.specs.Order.{Fits, IsInOrder, KeyFits}
 use Rattle.undo_records.specs.States.{States}
 use Rattle.compose.specs.Automata.{Instance}
 use Rattle.compose.specs.Receivers.{IsIn}
@@ -37,6 +37,7 @@ use Rattle.rollback.specs.Levels.{all_of, count_as, is_all_sent, is_sending_of, 
 use Rattle.rollback.specs.Matched.{IsStanding}
 use Rattle.rollback.specs.Post.{signed_to}
 use Rattle.rollback.proofs.Flight.{item_same}
+use Rattle.rollback.proofs.Sending.{end_is}
 use Rattle.rollback.proofs.Levels.{action_is, all_before, all_reversed, both_or, count_next, count_none, count_reversed, each_passes, elsewhere, hit_or, none_or, passes_each, same_or, times_count}
 
 and_true : (a : Bool) → a ≡ (a && true)
@@ -76,24 +77,22 @@ module _ (s : System) (i : ℕ) (small : i < 2 ^ 16) (all : (composition : List 
     go true e = let same : key ≡ key_at i n (ticks s i (n + 1)) = cc in ap (λ k. k.component) same
     go false e = cc
 
-  abbrev IsFit : Key → Type 0
-  IsFit key = (key.component < 2 ^ 16) × (key.number < 2 ^ 64)
-
-  key_fits : (n : ℕ) (key : Key) → Some key ≡ key_of s i n → IsSmall key → IsFit key
+  key_fits : (n : ℕ) (key : Key) → Some key ≡ key_of s i n → IsSmall key → KeyFits key
   key_fits n key h low =
       let component = component_is n key h in
       let number = low.0 in
-      (omega (arith, component, small), omega (arith, number))
+      let low_rank = low.1 in
+      (omega (arith, component, small), omega (arith, number), omega (arith, low_rank, end_is))
 
   module _ (m : Message) (f : Fits (plus m)) where
-    to_one : (key : Key) (b : Named) (j : ℕ) → IsFit key
+    to_one : (key : Key) (b : Named) (j : ℕ) → KeyFits key
         → is_same (signed_to Minus key b j) (minus m) ≡ (same_item (machine s) (record { key = rank key; action = b }) (item_of (minus m)) && (m.to == j))
     to_one key b j g = go (m.to == j) refl where
       go : (c : Bool) → (m.to == j) ≡ c → is_same (signed_to Minus key b j) (minus m) ≡ (same_item (machine s) (record { key = rank key; action = b }) (item_of (minus m)) && c)
       go true h = sym (item_same s Minus m.to (signed_to Minus key b j) (minus m) g f (flipped j m.to ∙ h) (itself m.to)) ∙ and_true _
       go false h = elsewhere Minus m.to (signed_to Minus key b j) (minus m) (itself m.to) (flipped j m.to ∙ h) ∙ and_false _
 
-    has_one : (key : Key) (b : Named) → IsFit key → (js : List ℕ)
+    has_one : (key : Key) (b : Named) → KeyFits key → (js : List ℕ)
         → nat_lt 0 (count_as Minus m (map (signed_to Minus key b) js)) ≡ (same_item (machine s) (record { key = rank key; action = b }) (item_of (minus m)) && IsIn m.to js)
     has_one key b g [] = and_false _
     has_one key b g (j ∷ js) =
@@ -106,7 +105,7 @@ module _ (s : System) (i : ℕ) (small : i < 2 ^ 16) (all : (composition : List 
     goes_there = receives s.composition i m.action m.to
 
     -- a turn sent the message
-    outcome_hit : (key : Key) (o : Outcome) → IsFit key → cond goes_there (hit_own (machine s) (rank key) (action_of o) (rank m.key) m.action) 0 ≡ cond (nat_lt 0 (count_as Minus m (signed_of s Minus i key o))) 1 0
+    outcome_hit : (key : Key) (o : Outcome) → KeyFits key → cond goes_there (hit_own (machine s) (rank key) (action_of o) (rank m.key) m.action) 0 ≡ cond (nat_lt 0 (count_as Minus m (signed_of s Minus i key o))) 1 0
     unfolding hit
     outcome_hit key Idle g = cond_none goes_there
     outcome_hit key (Did b) g =
@@ -160,7 +159,7 @@ module _ (s : System) (i : ℕ) (small : i < 2 ^ 16) (all : (composition : List 
     abbrev IsLevel : ℕ → Named → ℕ → Type 0
     IsLevel k a j = left k a j ≡ right k a j
 
-    own_key : (key : Key) (k : ℕ) → IsFit key → rank key ≡ k → owner_of k ≡ i → (key.component == i) ≡ true
+    own_key : (key : Key) (k : ℕ) → KeyFits key → rank key ≡ k → owner_of k ≡ i → (key.component == i) ≡ true
     own_key key k f same owned = eq-eqb key.component i (sym (rank_owner key f.0 f.1) ∙ ap owner_of same ∙ owned)
 
     -- what a level message shows
@@ -188,7 +187,7 @@ module _ (s : System) (i : ℕ) (small : i < 2 ^ 16) (all : (composition : List 
           go true e in_it here later = ap (λ n. p (made n)) (eqb-true j l e) ∙ here
           go false e in_it here later = later in_it
 
-      outcome_or : (key : Key) (o : Outcome) → IsFit key → receives s.composition i a j ≡ true → list_all (is_sent_if_from t i) (signed_of s Minus i key o) ≡ true
+      outcome_or : (key : Key) (o : Outcome) → KeyFits key → receives s.composition i a j ≡ true → list_all (is_sent_if_from t i) (signed_of s Minus i key o) ≡ true
           → (hit_own (machine s) (rank key) (action_of o) k a ≡ 0) ⊎ IsLevel k a j
       outcome_or key Idle g takes h = inl refl
       outcome_or key (Did b) g takes h =
@@ -237,11 +236,11 @@ module _ (s : System) (i : ℕ) (small : i < 2 ^ 16) (all : (composition : List 
       list_by : (xs : List Signed) → Each Fits xs → list_all (is_sent_if_from t i) xs ≡ true
       list_by xs e = each_passes (is_sent_if_from t i) Fits good_by xs e
 
-      made_by : (key : Key) (b : Named) → IsFit key → (js : List ℕ) → list_all (is_sent_if_from t i) (map (signed_to Minus key b) js) ≡ true
+      made_by : (key : Key) (b : Named) → KeyFits key → (js : List ℕ) → list_all (is_sent_if_from t i) (map (signed_to Minus key b) js) ≡ true
       made_by key b g [] = refl
       made_by key b g (j ∷ js) = let one = good_by (signed_to Minus key b j) g in let rest = made_by key b g js in (λ v. one v && rest v)
 
-      outcome_by : (key : Key) (o : Outcome) → IsFit key → list_all (is_sent_if_from t i) (signed_of s Minus i key o) ≡ true
+      outcome_by : (key : Key) (o : Outcome) → KeyFits key → list_all (is_sent_if_from t i) (signed_of s Minus i key o) ≡ true
       outcome_by key Idle g = refl
       outcome_by key (Did b) g = made_by key b g (receivers_of s.composition b i)
 

@@ -1,5 +1,5 @@
 -- What the steps of a component do to its record.
-use Rattle.std.proofs.Common.{◌≡◌, ℕ, ◌<◌, Bool, true, false, Option, None, Some, List, [], ◌∷◌, ◌^◌, refl, ap, sym, subst, ◌∙◌}
+use Rattle.std.proofs.Common.{◌≡◌, ℕ, Bool, true, false, Option, None, Some, List, [], ◌∷◌, refl, ap, sym, subst, ◌∙◌}
 use Rattle.std.specs.Prelude.{cond}
 use Rattle.terms.specs.Datum.{Datum}
 use Rattle.terms.specs.Named.{Named}
@@ -12,7 +12,7 @@ use Rattle.event_keys.specs.Entries.{action_of}
 use Rattle.event_keys.specs.Ranks.{rank}
 use Rattle.raw_events.specs.Around.{Around, head, tail}
 use Rattle.antimessage.specs.Bags.{insert}
-use Rattle.antimessage.specs.Order.{IsInOrder}
+use Rattle.antimessage.specs.Order.{IsInOrder, KeyFits}
 use Rattle.compose.specs.Automata.{Instance}
 use Rattle.compose.specs.Receivers.{IsIn, Rising}
 use Rattle.compose.specs.Signatures.{receives, receivers_of}
@@ -28,6 +28,7 @@ use Rattle.rollback.specs.declared.done.Done.{Done}
 use Rattle.rollback.specs.declared.done.Done.TheVariants.{Turn, Input}
 use Rattle.rollback.specs.Flight.{item_of, items_of}
 use Rattle.rollback.specs.Kept.{entries_of, record_of, IsReplayed, AllReady, IsKept}
+use Rattle.rollback.specs.Stepped.{IsComingTurn}
 use Rattle.rollback.specs.Held.{is_receiving, is_turning, last_of, processed, sent_next}
 use Rattle.rollback.specs.Coming.{is_before_own, received, turning, coming_of}
 use Rattle.rollback.proofs.Flight.{items_insert}
@@ -100,21 +101,10 @@ module _ (s : System) (i first : ℕ) (states : States) (done : Around Done) (pe
       o ∙ ap (λ n. turn_outcome s i n states.current) (number_is s i (number first now.done) key (sym h ∙ kept.next)) ∙ ap (turn_outcome s i (number first now.done)) kept.replayed.current
 
   -- the record after the own turn
-  pub turn_record : (key : Key) (outcome : Outcome) (minuses : Around Signed) → own ≡ Some key → next_of (machine s) i now ≡ turning (machine s) i now (Some key)
-      → action_of outcome ≡ turn_outcome s i key.number states.current
-      → record_of (record { current = by_own (machine s) i (action_of outcome) states.current; below = states.current ∷ states.below }) first (record done { before = Turn (record { key = key; outcome = outcome }) minuses ∷ done.before }) pending owed
+  pub turn_record : (turned : Turned) (minuses : Around Signed) → IsComingTurn s i now turned
+      → record_of (record { current = by_own (machine s) i (action_of turned.outcome) states.current; below = states.current ∷ states.below }) first (record done { before = Turn turned minuses ∷ done.before }) pending owed
       ≡ processed (next_of (machine s) i now) now
-  turn_record key outcome minuses h e o =
-      sym (ap (λ n. processed n now) e
-      ∙ ap (λ a. record { base = now.base; first = first; done = Own (rank key) a ∷ now.done; pending = now.pending; owed = now.owed }) (sym (outcome_is key outcome h o)))
-
-  -- what the own turn posts
-  pub turn_sent : (key : Key) (outcome : Outcome) (old new : List Signed) → own ≡ Some key → next_of (machine s) i now ≡ turning (machine s) i now (Some key)
-      → action_of outcome ≡ turn_outcome s i key.number states.current
-      → IsPosted Plus (sent (machine s) i (rank key) (action_of outcome)) old new → IsPosted Plus (sent_next (machine s) i (next_of (machine s) i now)) old new
-  turn_sent key outcome old new h e o p =
-      subst (λ n. IsPosted Plus (sent_next (machine s) i n) old new) (sym e)
-      (subst (λ a. IsPosted Plus (sent (machine s) i (rank key) a) old new) (outcome_is key outcome h o) p)
+  turn_record turned minuses is = sym (ap (λ n. processed n now) is.entry)
 
   -- the record after the last done entry was taken back
   pub back_turn_record : (turned : Turned) (minuses : Around Signed) (ds : List Done) → done.before ≡ Turn turned minuses ∷ ds
@@ -142,19 +132,30 @@ module _ (s : System) (i first : ℕ) (states : States) (done : Around Done) (pe
   pub turning_by : (key : Key) → own ≡ Some key → is_turning (next_of (machine s) i now) ≡ true → next_of (machine s) i now ≡ turning (machine s) i now (Some key)
   turning_by key e h = turning_is (not_receiving (next_of (machine s) i now) h) ∙ ap (turning (machine s) i now) e
 
+  -- and this is what comes of it
+  pub turned_is : (turned : Turned) → own ≡ Some turned.key → is_turning (next_of (machine s) i now) ≡ true
+      → action_of turned.outcome ≡ turn_outcome s i turned.key.number states.current → IsComingTurn s i now turned
+  turned_is turned e h o = record {
+    key = sym e ∙ kept.next;
+    entry = turning_by turned.key e h ∙ ap (λ a. Some (Own (rank turned.key) a)) (sym (outcome_is turned.key turned.outcome e o));
+  }
+
+  pub own_is : (turned : Turned) → IsComingTurn s i now turned → own ≡ Some turned.key
+  own_is turned is = kept.next ∙ sym is.key
+
   -- and then no pending input is before it
-  pub not_before : is_turning (next_of (machine s) i now) ≡ true → is_before_own (head pending.after) own ≡ false
-  not_before h = receiving_by ∙ not_receiving (next_of (machine s) i now) h
+  pub not_before : (turned : Turned) → IsComingTurn s i now turned → is_before_own (head pending.after) own ≡ false
+  not_before turned is = receiving_by ∙ ap is_receiving is.entry
 
   -- what is posted where the last done entry, a turn, is taken back
-  pub back_turn_sent : (turned : Turned) (minuses : Around Signed) (ds : List Done) (bag : List Signed) → done.before ≡ Turn turned minuses ∷ ds → turned.key.component < 2 ^ 16 → turned.key.number < 2 ^ 64
+  pub back_turn_sent : (turned : Turned) (minuses : Around Signed) (ds : List Done) (bag : List Signed) → done.before ≡ Turn turned minuses ∷ ds → KeyFits turned.key
       → ((composition : List Instance) (action : Named) (sender : ℕ) → Rising 0 (receivers_of composition action sender))
       → ((composition : List Instance) (action : Named) (sender j : ℕ) → IsIn j (receivers_of composition action sender) ≡ receives composition sender action j)
       → IsInOrder bag
       → IsPosted Minus (unsent (machine s) i (last_of now.done)) bag (post_all minuses.before bag)
-  back_turn_sent turned minuses ds bag h component number once all order =
+  back_turn_sent turned minuses ds bag h fit once all order =
       let ready : AllReady s i first (Turn turned minuses ∷ ds) = subst (λ (l : List Done). AllReady s i first l) h kept.ready in
-      let sent = posted_outcome s Minus i turned.key turned.outcome bag component number once all order in
+      let sent = posted_outcome s Minus i turned.key turned.outcome bag fit once all order in
       subst (λ (l : List Done). IsPosted Minus (unsent (machine s) i (last_of (entries_of l))) bag (post_all minuses.before bag)) (sym h)
       (subst (λ (m : Around Signed). IsPosted Minus (unsent (machine s) i (Own (rank turned.key) (action_of turned.outcome) ∷ [])) bag (post_all m.before bag)) (sym ready.0.2) sent)
 
@@ -162,3 +163,8 @@ module _ (s : System) (i first : ℕ) (states : States) (done : Around Done) (pe
 pub head_tail : {T : Type 0} (x : T) (xs : List T) → Some x ≡ head xs → xs ≡ x ∷ tail xs
 head_tail x [] h = cc
 head_tail x (y ∷ ys) h = let same : x ≡ y = cc in ap (λ z. z ∷ ys) (sym same)
+
+-- what a turn posts is what the next entry sends
+pub turn_sent : (s : System) (i : ℕ) (r : Record (List Datum) Named) (turned : Turned) (old new : List Signed) → IsComingTurn s i r turned
+    → IsPosted Plus (sent (machine s) i (rank turned.key) (action_of turned.outcome)) old new → IsPosted Plus (sent_next (machine s) i (next_of (machine s) i r)) old new
+turn_sent s i r turned old new is p = subst (λ n. IsPosted Plus (sent_next (machine s) i n) old new) (sym is.entry) p

@@ -1,6 +1,9 @@
 -- Signed messages as what is in flight in the theory.
-use Rattle.std.specs.Prelude.{◌≡◌, ℕ, ◌==◌, ◌&&◌, Bool, true, false, List, [], ◌∷◌, if◌then◌else◌}
+use Rattle.std.specs.Prelude.{◌≡◌, ℕ, ◌==◌, ◌&&◌, ⊤, Bool, true, false, List, [], ◌∷◌, if◌then◌else◌}
+use Rattle.antimessage.specs.Order.{KeyFits}
 use Rattle.terms.specs.Named.{Named}
+use Rattle.event_keys.specs.declared.key.Bound.{Bound}
+use Rattle.event_keys.specs.declared.key.Bound.TheVariants.{At, End}
 use Rattle.event_keys.specs.declared.message.Sign.{Sign}
 use Rattle.event_keys.specs.declared.message.Sign.TheVariants.{Plus, Minus}
 use Rattle.event_keys.specs.declared.message.Signed.{Signed}
@@ -35,3 +38,8 @@ items_of (s ∷ ss) = item_of s ∷ items_of ss
 -- each has this sign and is sent to component j
 abbrev pub AllGo : Sign → ℕ → List Signed → Type 0
 AllGo sign j = Each (λ s. goes sign j s ≡ true)
+
+-- the bound's numbers fit their types, so that keys are compared with it as their ranks
+abbrev pub IsComparable : Bound → Type 0
+IsComparable (At key) = KeyFits key
+IsComparable End = ⊤

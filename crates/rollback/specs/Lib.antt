@@ -2,6 +2,7 @@ pub mod Flight
 pub mod Post
 pub mod Replays
 pub mod Held
+pub mod Stepped
 pub mod Falling
 pub mod Kept
 pub mod Refusals

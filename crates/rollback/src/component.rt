@@ -17,6 +17,7 @@ ghost use Rattle.task_seed.specs.Turning.{key_of};
 ghost use Rattle.rollback.specs.Held.{machine_of, processed, sent_next, next_key, last_of, is_receiving, is_turning, start_record};
 ghost use Rattle.rollback.specs.Kept.{IsSmall};
 ghost use Rattle.rollback.specs.Post.{IsPosted};
+ghost use Rattle.rollback.specs.Stepped.{next_entry, HasNextKey, stepped, IsNextSent, IsNextTurn};
 
 use crate::done::Done;
 use crate::growth::{outcome_at, post_all, take_input, take_turn};
@@ -148,7 +149,7 @@ impl<T: Turns> Component<T> {
     }
 
     // Whether the next entry is the first pending input.
-    fn is_input_next(&self) -> bool
+    pub(crate) fn is_input_next(&self) -> bool
         ensures { result ≡ is_receiving (next_of (machine_of T.turn_of self.now.setup) self.now.number self.now.history) }
     {
         match (self.pending.peek_next(), self.coming) {
@@ -178,10 +179,10 @@ impl<T: Turns> Component<T> {
     }
 
     // Takes the first pending input.
-    fn process_input(&mut self, alloc: Global) -> Result<Key, NoMemory>
-        requires { IsTrue (is_receiving (next_of (machine_of T.turn_of self.old.setup) self.old.number self.old.history)) }
-        ensures key { IfOk result (λ key. IsSomeAnd (next_of (machine_of T.turn_of self.old.setup) self.old.number self.old.history) (λ entry. entry_key entry ≡ rank key)) }
-        ensures record { OnOk result (self.new ≡ record self.old { history = processed (next_of (machine_of T.turn_of self.old.setup) self.old.number self.old.history) self.old.history }) }
+    pub(crate) fn process_input(&mut self, alloc: Global) -> Result<Key, NoMemory>
+        requires { IsTrue (is_receiving (next_entry T.turn_of self.old)) }
+        ensures key { IfOk result (HasNextKey T.turn_of self.old) }
+        ensures record { OnOk result (self.new ≡ stepped T.turn_of self.old) }
         ensures kept { OnErr result (self.new ≡ self.old) }
     {
         let Some(first) = self.pending.peek_next() else {
@@ -201,22 +202,49 @@ impl<T: Turns> Component<T> {
 
     // Takes the own turn.
     fn process_turn(&mut self, alloc: Global, out: &mut Bag) -> Result<Key, NoMemory>
-        requires { IsTrue (is_turning (next_of (machine_of T.turn_of self.old.setup) self.old.number self.old.history)) }
-        ensures key { IfOk result (λ key. IsSomeAnd (next_of (machine_of T.turn_of self.old.setup) self.old.number self.old.history) (λ entry. entry_key entry ≡ rank key)) }
-        ensures record { OnOk result (self.new ≡ record self.old { history = processed (next_of (machine_of T.turn_of self.old.setup) self.old.number self.old.history) self.old.history }) }
-        ensures sent { OnOk result (IsPosted Plus (sent_next (machine_of T.turn_of self.old.setup) self.old.number (next_of (machine_of T.turn_of self.old.setup) self.old.number self.old.history)) out.old out.new) }
+        requires { IsTrue (is_turning (next_entry T.turn_of self.old)) }
+        ensures key { IfOk result (HasNextKey T.turn_of self.old) }
+        ensures record { OnOk result (self.new ≡ stepped T.turn_of self.old) }
+        ensures sent { OnOk result (IsNextSent T.turn_of self.old out.old out.new) }
         ensures kept { OnErr result (self.new ≡ self.old) }
         ensures out_kept { OnErr result (out.new ≡ out.old) }
+    {
+        let turned = self.next_turned(alloc)?;
+        self.do_turned(alloc, turned, out)
+    }
+
+    // The own turn that comes next, with what comes of it.
+    pub(crate) fn next_turned(&self, alloc: Global) -> Result<Turned, NoMemory>
+        requires { IsTrue (is_turning (next_entry T.turn_of self.now)) }
+        ensures { IfOk result (IsNextTurn T.turn_of self.now) }
     {
         let Some(key) = self.coming else {
             unreachable!();
         };
         let outcome = outcome_at(alloc, &self.setup, self.number, key.number, &self.store)?;
+        Ok(Turned { key, outcome })
+    }
+
+    // Does the own turn that comes next.
+    pub(crate) fn do_turned(
+        &mut self,
+        alloc: Global,
+        turned: Turned,
+        out: &mut Bag,
+    ) -> Result<Key, NoMemory>
+        requires { IsNextTurn T.turn_of self.old turned }
+        ensures key { IfOk result (HasNextKey T.turn_of self.old) }
+        ensures record { OnOk result (self.new ≡ stepped T.turn_of self.old) }
+        ensures sent { OnOk result (IsNextSent T.turn_of self.old out.old out.new) }
+        ensures kept { OnErr result (self.new ≡ self.old) }
+        ensures out_kept { OnErr result (out.new ≡ out.old) }
+    {
+        let key = turned.key;
         take_turn(
             alloc,
             &self.setup,
             self.number,
-            Turned { key, outcome },
+            turned,
             &mut self.store,
             &mut self.done,
             out,

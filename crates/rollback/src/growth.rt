@@ -119,23 +119,24 @@ fn signed_cells(
     Ok(cells)
 }
 
-// The messages of a turn, and their antimessages.
-fn messages_of<T: Turns>(
+/// Two lists of the messages of a turn, each with its sign.
+pub(crate) fn messages_of<T: Turns>(
     alloc: Global,
     setup: &Setup<T>,
     i: u16,
     turned: &Turned,
+    signs: (Sign, Sign),
 ) -> Result<(EventList<Signed>, EventList<Signed>), NoMemory>
-    ensures messages { IfOk result (λ p. p.0 ≡ record { before = signed_of (system T.turn_of setup.now) Plus i turned.now.key turned.now.outcome; after = [] }) }
-    ensures antimessages { IfOk result (λ p. p.1 ≡ record { before = signed_of (system T.turn_of setup.now) Minus i turned.now.key turned.now.outcome; after = [] }) }
+    ensures first { IfOk result (λ p. p.0 ≡ record { before = signed_of (system T.turn_of setup.now) signs.0 i turned.now.key turned.now.outcome; after = [] }) }
+    ensures second { IfOk result (λ p. p.1 ≡ record { before = signed_of (system T.turn_of setup.now) signs.1 i turned.now.key turned.now.outcome; after = [] }) }
 {
     let Outcome::Did(action) = &turned.outcome else {
         return Ok((EventList::new(), EventList::new()));
     };
     let receivers = setup.plan().receivers(alloc, action, i)?;
-    let messages = signed_cells(alloc, turned.key, action, Sign::Plus, &receivers)?;
-    let antimessages = signed_cells(alloc, turned.key, action, Sign::Minus, &receivers)?;
-    Ok((messages, antimessages))
+    let first = signed_cells(alloc, turned.key, action, signs.0, &receivers)?;
+    let second = signed_cells(alloc, turned.key, action, signs.1, &receivers)?;
+    Ok((first, second))
 }
 
 /// Posts all that stands before the cursor, the nearest first.
@@ -217,7 +218,8 @@ pub(crate) fn take_turn<T: Turns>(
 {
     receivers_law();
     fits(turned.key);
-    let (messages, antimessages) = messages_of(alloc, setup, i, &turned)?;
+    let signs = (Sign::Plus, Sign::Minus);
+    let (messages, antimessages) = messages_of(alloc, setup, i, &turned, signs)?;
     let turned = cell_of(alloc, turned)?;
     advance_turn(alloc, setup, i, &turned.value().outcome, store)?;
     match EventCell::new(alloc, Done::Turn(turned, antimessages)) {

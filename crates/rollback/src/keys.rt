@@ -1,6 +1,7 @@
 //! Keys and bounds as the ranks that they have.
-ghost use Rattle.std.specs.Prelude.{◌≡◌, ◌<◌, ◌^◌, nat_lt};
+ghost use Rattle.std.specs.Prelude.{◌≡◌, ◌<◌, nat_lt};
 ghost use Rattle.event_keys.specs.Ranks.{rank, rank_of_bound};
+ghost use Rattle.antimessage.specs.Order.{KeyFits};
 ghost use Rattle.virtual_time.specs.Entries.{entry_key};
 ghost use Rattle.task_seed.specs.Machines.{end_rank};
 ghost use Rattle.rollback.specs.Kept.{entry_of};
@@ -12,8 +13,7 @@ use event_keys::{Bound, Key};
 /// The numbers of a key fit their types, and its rank is below the end's.
 #[tactic(auto, using(crate::proofs::Sending::end_is))]
 pub(crate) fn fits(key: Key)
-    ensures component { key.component < 2 ^ 16 }
-    ensures number { key.number < 2 ^ 64 }
+    ensures numbers { KeyFits key }
     ensures timed { rank key < end_rank }
 {
     rank_law(key);

@@ -1,15 +1,26 @@
 //! The laws of components. Each function does nothing: its contract is the law.
-ghost use Rattle.std.specs.Prelude.{◌≡◌, ◌+◌, ℕ, List, true, Some};
+ghost use Rattle.std.specs.Prelude.{◌≡◌, ◌+◌, ◌-◌, ◌^◌, ◌<◌, ◌==◌, ℕ, nat_lt, not, cond, List, [], filter, true, Some};
 ghost use Rattle.terms.specs.Named.{Named};
-ghost use Rattle.event_keys.specs.declared.message.Sign.TheVariants.{Plus};
+ghost use Rattle.event_keys.specs.declared.key.Bound.{Bound as BoundValue};
+ghost use Rattle.event_keys.specs.declared.message.Sign.{Sign};
+ghost use Rattle.event_keys.specs.declared.message.Sign.TheVariants.{Plus, Minus};
 ghost use Rattle.event_keys.specs.declared.message.Signed.{Signed};
+ghost use Rattle.event_keys.specs.Ranks.{rank_of_bound};
+ghost use Rattle.antimessage.specs.Bags.{insert_all, is_to, without_below};
+ghost use Rattle.antimessage.specs.Meetings.{IsAllMet, IsCancelled};
+ghost use Rattle.antimessage.specs.Order.{IsInOrder};
+ghost use Rattle.task_seed.specs.Machines.{machine};
+ghost use Rattle.task_seed.specs.Turning.{System};
+ghost use Rattle.virtual_time.specs.Bags.{times};
 ghost use Rattle.virtual_time.specs.Machine.{Machine};
 ghost use Rattle.virtual_time.specs.Entries.{Entry};
 ghost use Rattle.virtual_time.specs.Records.{Record, after_entry, next_of, sent_by};
+ghost use Rattle.rollback.specs.Flight.{IsComparable, in_flight};
 ghost use Rattle.rollback.specs.Post.{IsPosted};
 ghost use Rattle.rollback.specs.Runs.{IsRun};
 
 use crate::component::Component;
+use event_keys::Bound;
 use task_seed::{Setup, Turns};
 
 /// Two components are equal exactly where their setups are, and their numbers, bases and records are the same.
@@ -22,4 +33,21 @@ pub fn equal_law<T: Turns>(a: &Component<T>, b: &Component<T>)
 pub fn run_law<S>()
     ensures none { (machine : Machine S Named) (i : ℕ) (own_record : Record S Named) (bag : List Signed) → IsRun machine i own_record own_record bag bag 0 }
     ensures more { (machine : Machine S Named) (i count : ℕ) (entry : Entry Named) (own_record new_record : Record S Named) (own_bag mid_bag new_bag : List Signed) → IsRun machine i own_record new_record own_bag mid_bag count → next_of machine i new_record ≡ Some entry → IsPosted Plus (sent_by machine i entry) mid_bag new_bag → IsRun machine i own_record (after_entry entry new_record) own_bag new_bag (count + 1) }
+{}
+
+/// The numbers of a bound that a call is given fit their types.
+pub fn comparable_law(bound: Bound)
+    ensures { IsComparable bound }
+{}
+
+/// What the calls of a bag do to what is in flight in the theory, message by message.
+pub fn flight_law()
+    ensures appended { (s : System) (sign : Sign) (j k : ℕ) (a : Named) (more bag : List Signed) → times (machine s) (in_flight sign j (insert_all more bag)) k a ≡ times (machine s) (in_flight sign j more) k a + times (machine s) (in_flight sign j bag) k a }
+    ensures to { (sign : Sign) (j l : ℕ) (bag : List Signed) → in_flight sign j (filter (is_to l) bag) ≡ cond (j == l) (in_flight sign j bag) [] }
+    ensures not_to { (sign : Sign) (j l : ℕ) (bag : List Signed) → in_flight sign j (filter (λ s. not (is_to l s)) bag) ≡ cond (j == l) [] (in_flight sign j bag) }
+    ensures messages_cancelled { (s : System) (j k : ℕ) (a : Named) (others old new : List Signed) → IsInOrder others → IsInOrder old → IsInOrder new → IsCancelled others old new → times (machine s) (in_flight Plus j new) k a ≡ times (machine s) (in_flight Plus j old) k a - times (machine s) (in_flight Minus j others) k a }
+    ensures antimessages_stay { (s : System) (j k : ℕ) (a : Named) (others old new : List Signed) → IsInOrder others → IsInOrder old → IsInOrder new → IsCancelled others old new → times (machine s) (in_flight Minus j new) k a ≡ times (machine s) (in_flight Minus j old) k a }
+    ensures messages_met { (s : System) (j k : ℕ) (a : Named) (old new : List Signed) → IsInOrder old → IsInOrder new → IsAllMet old new → times (machine s) (in_flight Plus j new) k a ≡ times (machine s) (in_flight Plus j old) k a - times (machine s) (in_flight Minus j old) k a }
+    ensures antimessages_met { (s : System) (j k : ℕ) (a : Named) (old new : List Signed) → IsInOrder old → IsInOrder new → IsAllMet old new → times (machine s) (in_flight Minus j new) k a ≡ times (machine s) (in_flight Minus j old) k a - times (machine s) (in_flight Plus j old) k a }
+    ensures dropped { (s : System) (sign : Sign) (j k : ℕ) (a : Named) (bound : BoundValue) (bag : List Signed) → IsComparable bound → IsInOrder bag → times (machine s) (in_flight sign j (without_below bound bag)) k a ≡ cond (nat_lt k (rank_of_bound bound)) 0 (times (machine s) (in_flight sign j bag) k a) }
 {}

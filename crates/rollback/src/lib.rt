@@ -2,6 +2,7 @@
 #![tactic(auto)]
 
 pub mod component;
+pub mod copied;
 mod deliver;
 mod done;
 mod drop;
@@ -14,6 +15,7 @@ pub mod refused;
 mod same;
 
 pub use component::Component;
+pub use copied::Copies;
 pub use inverse::Trip;
 pub use refused::ProcessRefused;
 

@@ -2,6 +2,7 @@
 ghost use Rattle.std.specs.Prelude.{◌≡◌, ◌<◌};
 
 mod apart;
+mod copied;
 mod given;
 mod matching;
 mod refused;

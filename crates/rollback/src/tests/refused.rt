@@ -4,7 +4,7 @@ ghost use Rattle.std.specs.Prelude.{◌≡◌, ◌<◌};
 use super::given::{
     Node, assert_processes, assert_same, cell, key, pass, plus, start, start_sender,
 };
-use crate::ProcessRefused;
+use crate::{Copies, ProcessRefused};
 use antimessage::Bag;
 use event_keys::Key;
 use std::alloc::{AllocGlobal, Global};
@@ -138,4 +138,38 @@ fn a_refused_turn_that_sends_to_two_changes_nothing(rt: HostRuntime) -> Result<(
     let node = made_sender(rt.alloc())?;
     let twin = made_sender(rt.alloc())?;
     Ok(assert_next_served_or_kept(&rt, node, twin, key(1, 0, 0))?)
+}
+
+// The next entry has the key; where it is refused, the component, the bag and the copies stay.
+fn assert_copied_or_kept(
+    rt: &(impl Abort + AllocGlobal),
+    mut node: Node,
+    twin: Node,
+    key: Key,
+) -> Result<(), NoMemory> {
+    let alloc = rt.alloc();
+    let before = made_bag(alloc)?;
+    let mut out = made_bag(alloc)?;
+    let mut copies = Copies {
+        of_sender: made_bag(alloc)?,
+        of_receiver: made_bag(alloc)?,
+    };
+    match node.process_copied(alloc, &mut out, &mut copies) {
+        Ok(done) => assert!(rt; done == key),
+        Err(refused) => {
+            assert!(rt; refused == ProcessRefused::NoMemory);
+            assert!(rt; out == before);
+            assert!(rt; copies.of_sender == before);
+            assert!(rt; copies.of_receiver == before);
+            assert_kept(rt, node, twin, key);
+        }
+    }
+    Ok(())
+}
+
+#[test]
+fn a_refused_turn_that_is_copied_changes_nothing(rt: HostRuntime) -> Result<(), Fail> {
+    let node = made_sender(rt.alloc())?;
+    let twin = made_sender(rt.alloc())?;
+    Ok(assert_copied_or_kept(&rt, node, twin, key(1, 0, 0))?)
 }

@@ -1,4 +1,5 @@
-use Rattle.std.proofs.Common.{◌≡◌, ◌<◌, ◌^◌, Some, ◌∷◌, List, sym, ap, subst, ◌∙◌}
+use Rattle.antimessage.specs.Order.{KeyFits}
+use Rattle.std.proofs.Common.{◌≡◌, Some, ◌∷◌, List, sym, ap, subst, ◌∙◌}
 use Rattle.std.specs.Arc.{arc_value}
 use Rattle.event_keys.specs.declared.message.Signed.{Signed}
 use Rattle.event_keys.specs.declared.message.Sign.TheVariants.{Minus}
@@ -46,7 +47,7 @@ returns-in-Turn-clause-sent g c =
     let there : f.done.before ≡ Turn turned minuses ∷ tail f.done.before
     = head_tail (Turn turned minuses) f.done.before (ap Some (sym c.in-Turn.is ∙ c.into_value.ensures) ∙ sym c.in-Some.is ∙ c.take_last.ensures.taken) in
     let sent = back_turn_sent s f.number f.first f.store f.done f.pending f.owed f.coming c.self.invariant turned minuses (tail f.done.before) c.args.out.now there
-    (subst (λ t. t.key.component < 2 ^ 16) c.value.ensures c.fits.ensures.component) (subst (λ t. t.key.number < 2 ^ 64) c.value.ensures c.fits.ensures.number) c.receivers_law.ensures.once c.receivers_law.ensures.all c.post_all.ensures.order in
+    (subst (λ t. KeyFits t.key) c.value.ensures c.fits.ensures.numbers) c.receivers_law.ensures.once c.receivers_law.ensures.all c.post_all.ensures.order in
     subst (λ (h : Held _). IsPosted Minus (unsent (machine_of g.T.Turns.turn_of h.setup) h.number (last_of h.history.done)) c.args.out.now c.post_all.new.out) c.self.view_is
     (subst (λ (bag : List Signed). IsPosted Minus (unsent (machine s) f.number (last_of (record_of f.store f.first f.done f.pending f.owed).done)) c.args.out.now bag) (sym c.post_all.ensures.posted) sent)
 

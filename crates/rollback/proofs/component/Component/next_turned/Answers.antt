@@ -1,0 +1,24 @@
+use Rattle.std.proofs.Common.{◌≡◌, true, sym, subst}
+use Rattle.std.specs.Arc.{arc_value}
+use Rattle.event_keys.specs.Entries.{action_of}
+use Rattle.task_seed.specs.Machines.{machine, turn_outcome}
+use Rattle.task_seed.specs.Setups.{system}
+use Rattle.virtual_time.specs.Records.{next_of}
+use Rattle.rollback.specs.Held.{Held, machine_of, is_turning}
+use Rattle.rollback.specs.Kept.{record_of}
+use Rattle.rollback.specs.Stepped.{IsNextTurn}
+use Rattle.rollback.proofs.Stepping.{turned_is}
+use Rattle.rollback.proofs.component.Component.next_turned.Goals as goal
+
+pub returns : goal.returns
+returns g c =
+    let f = c.self.inside in
+    let s = system g.T.Turns.turn_of (arc_value f.setup) in
+    let key = c.in-Some.key in
+    let outcome = c.in_ok-outcome.outcome in
+    let turns : is_turning (next_of (machine s) f.number (record_of f.store f.first f.done f.pending f.owed)) ≡ true
+    = subst (λ (h : Held _). is_turning (next_of (machine_of g.T.Turns.turn_of h.setup) h.number h.history) ≡ true) (sym c.self.view_is) c.requires in
+    let came : action_of outcome ≡ turn_outcome s f.number key.number f.store.current
+    = subst (λ u. action_of outcome ≡ turn_outcome (system g.T.Turns.turn_of u) f.number key.number f.store.current) c.deref.ensures c.in_ok-outcome.ensures in
+    subst (λ (h : Held _). IsNextTurn g.T.Turns.turn_of h (record { key = key; outcome = outcome })) c.self.view_is
+    (turned_is s f.number f.first f.store f.done f.pending f.owed f.coming c.self.invariant (record { key = key; outcome = outcome }) c.in-Some.is turns came)

@@ -1,0 +1,105 @@
+//! Steps that copy what they send.
+ghost use Rattle.std.specs.Prelude.{◌≡◌, ◌↔◌, [], None, IfOk, OnOk, OnErr, IsErrOf, IsTrue, IsSomeAnd};
+ghost use Rattle.event_keys.specs.declared.message.Sign.TheVariants.{Plus};
+ghost use Rattle.event_keys.specs.Ranks.{rank};
+ghost use Rattle.virtual_time.specs.Entries.{entry_key};
+ghost use Rattle.virtual_time.specs.Records.{next_of};
+ghost use Rattle.rollback.specs.Held.{machine_of, processed, sent_next, is_turning};
+ghost use Rattle.rollback.specs.Post.{IsPosted};
+ghost use Rattle.rollback.specs.Stepped.{next_entry, HasNextKey, stepped, IsNextSent};
+
+use crate::component::Component;
+use crate::growth::{messages_of, post_all};
+use crate::keys::fits;
+use crate::refused::ProcessRefused;
+use antimessage::Bag;
+use compose::laws::receivers_law;
+use event_keys::{Key, Sign};
+use std::alloc::Global;
+use task_seed::Turns;
+use terms::NoMemory;
+
+/// Copies of messages that are on their way: of each one for what is kept of its sender, and one for what is kept of its
+/// receiver.
+#[derive(Drop)]
+pub struct Copies {
+    /// One of each, for what is kept of its sender.
+    pub of_sender: Bag,
+    /// One of each, for what is kept of its receiver.
+    pub of_receiver: Bag,
+}
+
+impl Copies {
+    /// No copies.
+    pub fn new() -> Copies
+        ensures { result ≡ record { of_sender = []; of_receiver = [] } }
+    {
+        Copies {
+            of_sender: Bag::new(),
+            of_receiver: Bag::new(),
+        }
+    }
+}
+
+impl<T: Turns> Component<T> {
+    /// Does the next entry as `process`, and posts two copies of each message. A refusal leaves the component, the bag and the
+    /// copies.
+    pub fn process_copied(
+        &mut self,
+        alloc: Global,
+        out: &mut Bag,
+        copies: &mut Copies,
+    ) -> Result<Key, ProcessRefused>
+        ensures key { IfOk result (λ key. IsSomeAnd (next_of (machine_of T.turn_of self.old.setup) self.old.number self.old.history) (λ entry. entry_key entry ≡ rank key)) }
+        ensures record { OnOk result (self.new ≡ record self.old { history = processed (next_of (machine_of T.turn_of self.old.setup) self.old.number self.old.history) self.old.history }) }
+        ensures sent { OnOk result (IsPosted Plus (sent_next (machine_of T.turn_of self.old.setup) self.old.number (next_of (machine_of T.turn_of self.old.setup) self.old.number self.old.history)) out.old out.new) }
+        ensures of_sender { OnOk result (IsPosted Plus (sent_next (machine_of T.turn_of self.old.setup) self.old.number (next_of (machine_of T.turn_of self.old.setup) self.old.number self.old.history)) copies.old.of_sender copies.new.of_sender) }
+        ensures of_receiver { OnOk result (IsPosted Plus (sent_next (machine_of T.turn_of self.old.setup) self.old.number (next_of (machine_of T.turn_of self.old.setup) self.old.number self.old.history)) copies.old.of_receiver copies.new.of_receiver) }
+        ensures nothing { IsErrOf result ProcessRefused.NothingPending ↔ (next_of (machine_of T.turn_of self.old.setup) self.old.number self.old.history ≡ None) }
+        ensures kept { OnErr result (self.new ≡ self.old) }
+        ensures out_kept { OnErr result (out.new ≡ out.old) }
+        ensures copies_kept { OnErr result (copies.new ≡ copies.old) }
+    {
+        if self.is_input_next() {
+            return Ok(self.process_input(alloc)?);
+        }
+        if self.coming.is_none() {
+            return Err(ProcessRefused::NothingPending);
+        }
+        Ok(self.process_turn_copied(alloc, out, copies)?)
+    }
+
+    // Takes the own turn.
+    fn process_turn_copied(
+        &mut self,
+        alloc: Global,
+        out: &mut Bag,
+        copies: &mut Copies,
+    ) -> Result<Key, NoMemory>
+        requires { IsTrue (is_turning (next_entry T.turn_of self.old)) }
+        ensures key { IfOk result (HasNextKey T.turn_of self.old) }
+        ensures record { OnOk result (self.new ≡ stepped T.turn_of self.old) }
+        ensures sent { OnOk result (IsNextSent T.turn_of self.old out.old out.new) }
+        ensures of_sender { OnOk result (IsNextSent T.turn_of self.old copies.old.of_sender copies.new.of_sender) }
+        ensures of_receiver { OnOk result (IsNextSent T.turn_of self.old copies.old.of_receiver copies.new.of_receiver) }
+        ensures kept { OnErr result (self.new ≡ self.old) }
+        ensures out_kept { OnErr result (out.new ≡ out.old) }
+        ensures copies_kept { OnErr result (copies.new ≡ copies.old) }
+    {
+        receivers_law();
+        let turned = self.next_turned(alloc)?;
+        fits(turned.key);
+        let signs = (Sign::Plus, Sign::Plus);
+        let (of_sender, of_receiver) = messages_of(
+            alloc,
+            &self.setup,
+            self.number,
+            &turned,
+            signs,
+        )?;
+        let key = self.do_turned(alloc, turned, out)?;
+        post_all(&mut copies.of_sender, of_sender);
+        post_all(&mut copies.of_receiver, of_receiver);
+        Ok(key)
+    }
+}
