@@ -57,12 +57,12 @@ keys_after : (x : Signed) (ys : List Signed) → Fits x → Each Fits ys → Eac
 keys_after x [] f g h = tt
 keys_after x (y ∷ ys) f g h = (key_after x y f g.0 h.0, keys_after x ys f g.1 h.1)
 
-least_low : (xs : List Signed) → IsInOrder xs → Each (λ y. rank_of_bound (least_of xs) ≤ rank y.message.key) xs
+pub least_low : (xs : List Signed) → IsInOrder xs → Each (λ y. rank_of_bound (least_of xs) ≤ rank y.message.key) xs
 least_low [] o = tt
 least_low (x ∷ xs) o = (omega arith, keys_after x xs o.fits.0 o.fits.1 o.sorted.0)
 
 -- what is in flight is among the messages
-flight_from : (b : ℕ) (sign : Sign) (j : ℕ) (xs : List Signed) → Each (λ y. b ≤ rank y.message.key) xs → AllFrom b (in_flight sign j xs)
+pub flight_from : (b : ℕ) (sign : Sign) (j : ℕ) (xs : List Signed) → Each (λ y. b ≤ rank y.message.key) xs → AllFrom b (in_flight sign j xs)
 flight_from b sign j [] h = tt
 flight_from b sign j (x ∷ xs) h = go (flight_from b sign j xs h.1) (goes sign j x)
   where
@@ -71,7 +71,7 @@ flight_from b sign j (x ∷ xs) h = go (flight_from b sign j xs h.1) (goes sign 
     go rest false = rest
 
 -- what no key of the messages to j in flight is below, none of the messages is below, where all are to j
-flight_to : (b j : ℕ) (xs : List Signed) → Each (λ y. y.message.to ≡ j) xs → AllFrom b (in_flight Plus j xs) → AllFrom b (in_flight Minus j xs) → Each (λ y. b ≤ rank y.message.key) xs
+pub flight_to : (b j : ℕ) (xs : List Signed) → Each (λ y. y.message.to ≡ j) xs → AllFrom b (in_flight Plus j xs) → AllFrom b (in_flight Minus j xs) → Each (λ y. b ≤ rank y.message.key) xs
 flight_to b j [] to p m = tt
 flight_to b j (x ∷ xs) to p m = go (flight_to b j xs to.1) x.sign refl
   where
@@ -88,36 +88,36 @@ flight_to b j (x ∷ xs) to p m = go (flight_to b j xs to.1) x.sign refl
         (all.0, more (subst (AllFrom b) none p) all.1)
 
 -- what no message is below, the least is not below
-low_least : (b : ℕ) (xs : List Signed) → b ≤ end_rank → Each (λ y. b ≤ rank y.message.key) xs → b ≤ rank_of_bound (least_of xs)
+pub low_least : (b : ℕ) (xs : List Signed) → b ≤ end_rank → Each (λ y. b ≤ rank y.message.key) xs → b ≤ rank_of_bound (least_of xs)
 low_least b [] e h = subst (λ n. b ≤ n) end_is e
 low_least b (x ∷ xs) e h = h.0
 
-earlier_first : (a b : Bound) → rank_of_bound (earlier a b) ≤ rank_of_bound a
+pub earlier_first : (a b : Bound) → rank_of_bound (earlier a b) ≤ rank_of_bound a
 earlier_first a b = go (nat_lt (rank_of_bound a) (rank_of_bound b)) refl
   where
     go : (t : Bool) → nat_lt (rank_of_bound a) (rank_of_bound b) ≡ t → rank_of_bound (if t then a else b) ≤ rank_of_bound a
     go true h = omega arith
     go false h = ltb-false (rank_of_bound a) (rank_of_bound b) h
 
-earlier_second : (a b : Bound) → rank_of_bound (earlier a b) ≤ rank_of_bound b
+pub earlier_second : (a b : Bound) → rank_of_bound (earlier a b) ≤ rank_of_bound b
 earlier_second a b = go (nat_lt (rank_of_bound a) (rank_of_bound b)) refl
   where
     go : (t : Bool) → nat_lt (rank_of_bound a) (rank_of_bound b) ≡ t → rank_of_bound (if t then a else b) ≤ rank_of_bound b
     go true h = let l = ltb-true (rank_of_bound a) (rank_of_bound b) h in omega (arith, l)
     go false h = omega arith
 
-earlier_both : (d : ℕ) (a b : Bound) → d ≤ rank_of_bound a → d ≤ rank_of_bound b → d ≤ rank_of_bound (earlier a b)
+pub earlier_both : (d : ℕ) (a b : Bound) → d ≤ rank_of_bound a → d ≤ rank_of_bound b → d ≤ rank_of_bound (earlier a b)
 earlier_both d a b p q = go (nat_lt (rank_of_bound a) (rank_of_bound b))
   where
     go : (t : Bool) → d ≤ rank_of_bound (if t then a else b)
     go true = p
     go false = q
 
-each_low : (a b : ℕ) (xs : List Signed) → b ≤ a → Each (λ y. a ≤ rank y.message.key) xs → Each (λ y. b ≤ rank y.message.key) xs
+pub each_low : (a b : ℕ) (xs : List Signed) → b ≤ a → Each (λ y. a ≤ rank y.message.key) xs → Each (λ y. b ≤ rank y.message.key) xs
 each_low a b [] l h = tt
 each_low a b (x ∷ xs) l h = let first = h.0 in (omega (arith, l, first), each_low a b xs l h.1)
 
-slice_get_none : {X : Type 0} (xs : List X) (j : ℕ) → slice_get xs j ≡ None → length xs ≤ j
+pub slice_get_none : {X : Type 0} (xs : List X) (j : ℕ) → slice_get xs j ≡ None → length xs ≤ j
 slice_get_none [] j e = omega arith
 slice_get_none (x ∷ xs) zero e = cc
 slice_get_none (x ∷ xs) (suc j) e = let rest = slice_get_none xs j e in omega (arith, rest)
@@ -211,7 +211,7 @@ module _ {P : Type 0} (s : System) (e : Shared P) (is : IsShared s e) (counted :
             let was = is.stubs j old there in
             let p = passing_all j stub h in
             subst (IsStub s b j) same
-            (record { inbox = was.inbox; order = was.order; passed = refl; ahead = refl; small = (subst (IsPassing s b j) (sym same) p).small; few = (subst (IsPassing s b j) (sym same) p).few })
+            (record { inbox = was.inbox; order = was.order; copied = was.copied; passed = refl; ahead = refl; small = (subst (IsPassing s b j) (sym same) p).small; few = (subst (IsPassing s b j) (sym same) p).few })
 
   -- the counted turns are below the new bound
   pub passing_before : ((i n : ℕ) → n < (point m (rank_of_bound e.bound)).next i → turn_rank s i n < rank_of_bound e.bound) → (j : ℕ) (stub : Stub) → slice_get e.stubs j ≡ Some stub → IsPassing s b j stub

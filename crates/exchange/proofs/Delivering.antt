@@ -1,5 +1,5 @@
 -- What comes from the tray keeps what a lease has by its type.
-use Rattle.std.proofs.Common.{◌≡◌, ℕ, ◌<◌, ◌+◌, ◌==◌, ◌⊎◌, inl, inr, cond, true, false, None, Some, List, [], ◌∷◌, refl, ap, sym, subst, ◌∙◌, arith}
+use Rattle.std.proofs.Common.{◌≡◌, ℕ, ◌<◌, ◌≤◌, ◌+◌, ◌==◌, ◌⊎◌, inl, inr, cond, true, false, None, Some, List, [], ◌∷◌, refl, ap, sym, subst, ◌∙◌, arith}
 use Rattle.std.specs.Prelude.{◌&&◌, ◌-◌, ◌^◌, min, length}
 use Rattle.std.proofs.lemmas.Bool.{eq-eqb, ne_eqb, cases_eq}
 use Rattle.terms.specs.Datum.{Datum}
@@ -8,8 +8,8 @@ use Rattle.event_keys.specs.declared.message.Sign.{Sign}
 use Rattle.event_keys.specs.declared.message.Sign.TheVariants.{Plus, Minus}
 use Rattle.event_keys.specs.declared.message.Signed.{Signed}
 use Rattle.virtual_time.specs.Bags.{hit, times, remove}
-use Rattle.virtual_time.specs.Machine.{Machine, Lawful}
-use Rattle.virtual_time.specs.Entries.{Entry, Item}
+use Rattle.virtual_time.specs.Machine.{Machine, Lawful, HasCount}
+use Rattle.virtual_time.specs.Entries.{Entry, Own, Input, Item}
 use Rattle.virtual_time.specs.Records.{Record, message_comes, antimessage_comes, back_by_message, back_by_antimessage, sent_by, unsent}
 use Rattle.virtual_time.specs.Worlds.{DeliverMessage, DeliverAntimessage, deliver_message, deliver_antimessage, record_of, same, taken_at}
 use Rattle.virtual_time.specs.Exchange.Leases.{Lease, IsLease, Matches, alone, lease_after, lease_of as lease_in}
@@ -64,7 +64,17 @@ module _ (m : Machine (List Datum) Named) (law : Lawful m) where
   none_to_self i [] xs = refl
   none_to_self i (e ∷ es) xs = none_to_self i es (sent_by m i e i xs) ∙ not_to_self m law i e xs
 
-  module _ {P : Type 0} (h : Holding P) (is : IsHolding m h) where
+  -- beyond the components nobody is sent anything
+  none_beyond : (count : ℕ) → HasCount m count → (i j : ℕ) (es : List (Entry Named)) → count ≤ j → unsent m i es j [] ≡ []
+  none_beyond count counted i j [] past = refl
+  none_beyond count counted i j (e ∷ es) past = ap (unsent m i es j) (one e) ∙ none_beyond count counted i j es past
+    where
+      one : (e : Entry Named) → sent_by m i e j [] ≡ []
+      one (Own k None) = refl
+      one (Own k (Some a)) = rw (counted.deaf i a j past) refl
+      one (Input x) = refl
+
+  module _ {P : Type 0} (count : ℕ) (counted : HasCount m count) (h : Holding P) (is : IsHolding m count h) where
     abbrev i : ℕ
     i = h.component.number
 
@@ -158,16 +168,29 @@ module _ (m : Machine (List Datum) Named) (law : Lawful m) where
       minus_goes : s.sign ≡ Minus → (goes Plus i s ≡ false) × (goes Minus i s ≡ true)
       minus_goes e = (rw e refl, rw (e, eq-eqb s.message.to i arrived.0) refl)
 
-      made : (out : List Signed) (q : Record (List Datum) Named) → IsLease m i (lease_of (after q rest out)) × Matches m i is.stub (lease_of (after q rest out)) → IsHolding m (after q rest out)
-      made out q both = record { lease = both.0; stub = is.stub; match = both.1; arrived = arrived.1 }
+      made : (out : List Signed) (q : Record (List Datum) Named) (back : List (Entry Named)) → IsPosted Minus (unsent m i back) h.out out → IsLease m i (lease_of (after q rest out)) × Matches m i is.stub (lease_of (after q rest out)) → IsHolding m count (after q rest out)
+      made out q back sent both =
+          record {
+            lease = both.0;
+            stub = is.stub;
+            match = both.1;
+            arrived = arrived.1;
+            of_sender = λ j. is.of_sender j ∙ sym (sent.other j);
+            of_receiver = λ j. is.of_receiver j ∙ sym (sent.other j);
+            inside = inside;
+          }
+        where
+          inside : (sign : Sign) (j : ℕ) → count ≤ j → in_flight sign j out ≡ []
+          inside Plus j past = sent.other j ∙ is.inside Plus j past
+          inside Minus j past = sent.there j ∙ ap (unsent m i back j) (is.inside Minus j past) ∙ none_beyond count counted i j back past
 
-      pub deliver_kept : (sign : Sign) → s.sign ≡ sign → (out : List Signed) → IsPosted Minus (unsent m i (back_by m sign (item_of s) r)) h.out out → IsHolding m (after (comes m sign (item_of s) r) rest out)
+      pub deliver_kept : (sign : Sign) → s.sign ≡ sign → (out : List Signed) → IsPosted Minus (unsent m i (back_by m sign (item_of s) r)) h.out out → IsHolding m count (after (comes m sign (item_of s) r) rest out)
       deliver_kept Plus e out sent =
           let x = item_of s in
           let goes_on = plus_goes e in
           let there : 0 < times m ((alone m i l).part i).plus x.key x.action
           = subst (λ c. 0 < times m c.plus x.key x.action) (sym here) (subst (λ ys. 0 < times m (in_flight Plus i ys) x.key x.action) (sym tray) (subst (λ ys. 0 < times m ys x.key x.action) (sym (plus_first s rest goes_on.0)) (one_more x (in_flight Plus i rest)))) in
-          made out (message_comes m x r)
+          made out (message_comes m x r) (back_by_message m x r) sent
           (kept m law alone_law i is.stub l (lease_of (after (message_comes m x r) rest out)) (DeliverMessage i x ∷ []) (deliver_message m i x (alone m i l)) is.lease is.match (refl, there, refl)
           (message_law i l x ∙ message_is (back_by_message m x r) out sent s rest tray goes_on.0 goes_on.1 refl))
       deliver_kept Minus e out sent =
@@ -175,7 +198,7 @@ module _ (m : Machine (List Datum) Named) (law : Lawful m) where
           let goes_on = minus_goes e in
           let there : 0 < times m ((alone m i l).part i).minus x.key x.action
           = subst (λ c. 0 < times m c.minus x.key x.action) (sym here) (subst (λ ys. 0 < times m (in_flight Minus i ys) x.key x.action) (sym tray) (rw (goes_on.1) (one_more x (in_flight Minus i rest)))) in
-          made out (antimessage_comes m x r)
+          made out (antimessage_comes m x r) (back_by_antimessage m x r) sent
           (kept m law alone_law i is.stub l (lease_of (after (antimessage_comes m x r) rest out)) (DeliverAntimessage i x ∷ []) (deliver_antimessage m i x (alone m i l)) is.lease is.match (refl, there, refl)
           (antimessage_law i l x ∙ antimessage_is (back_by_antimessage m x r) out sent s rest tray goes_on.0 goes_on.1 refl))
 

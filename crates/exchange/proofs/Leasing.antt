@@ -1,17 +1,19 @@
 -- What a lease does by itself keeps what it has by its type.
-use Rattle.std.proofs.Common.{◌≡◌, ℕ, ◌==◌, ◌⊎◌, inl, inr, cond, Option, None, Some, List, [], ◌∷◌, refl, sym, subst, ◌∙◌}
+use Rattle.std.proofs.Common.{◌≡◌, ℕ, ◌≤◌, ◌==◌, ◌⊎◌, inl, inr, cond, Option, None, Some, List, [], ◌∷◌, refl, ap, sym, subst, ◌∙◌}
 use Rattle.std.proofs.lemmas.Bool.{eq-eqb, ne_eqb, cases_eq}
 use Rattle.std.specs.Prelude.{IsSomeAnd}
 use Rattle.terms.specs.Datum.{Datum}
 use Rattle.terms.specs.Named.{Named}
+use Rattle.event_keys.specs.declared.message.Sign.{Sign}
 use Rattle.event_keys.specs.declared.message.Sign.TheVariants.{Plus, Minus}
 use Rattle.event_keys.specs.declared.message.Signed.{Signed}
-use Rattle.virtual_time.specs.Machine.{Machine, Lawful}
+use Rattle.virtual_time.specs.Machine.{Machine, Lawful, HasCount}
 use Rattle.virtual_time.specs.Entries.{Entry, Own, Input, Item}
 use Rattle.virtual_time.specs.Records.{Record, after_entry, next_of, sent_by}
 use Rattle.virtual_time.specs.Worlds.{World, Step, Process, process, record_of, same}
 use Rattle.virtual_time.specs.Exchange.Stubs.{Stub, Exchange}
 use Rattle.virtual_time.specs.Exchange.Leases.{Lease, IsLease, Matches, Does, alone, lease_after, lease_of as lease_in}
+use Rattle.rollback.specs.declared.copied.Copies.{Copies}
 use Rattle.rollback.specs.Flight.{in_flight}
 use Rattle.rollback.specs.Held.{processed, sent_next}
 use Rattle.rollback.specs.Post.{IsPosted}
@@ -41,7 +43,13 @@ module _ (m : Machine (List Datum) Named) (law : Lawful m) where
   not_to_self i (Own k (Some a)) xs = rw (law.others i a) refl
   not_to_self i (Input x) xs = refl
 
-  module _ {P : Type 0} (h : Holding P) where
+  module _ {P : Type 0} (count : ℕ) (counted : HasCount m count) (h : Holding P) where
+    -- beyond the components nobody is sent anything
+    not_beyond : (i j : ℕ) (e : Entry Named) → count ≤ j → sent_by m i e j [] ≡ []
+    not_beyond i j (Own k None) past = refl
+    not_beyond i j (Own k (Some a)) past = rw (counted.deaf i a j past) refl
+    not_beyond i j (Input x) past = refl
+
     abbrev i : ℕ
     i = h.component.number
 
@@ -49,10 +57,11 @@ module _ (m : Machine (List Datum) Named) (law : Lawful m) where
     r = h.component.history
 
     -- the holding with this record and these outgoing messages
-    abbrev pub with : Record (List Datum) Named → List Signed → Holding P
-    with q out = record h { component = record h.component { history = q }; out = out }
+    abbrev pub with : Record (List Datum) Named → List Signed → Copies → Holding P
+    with q out copies = record h { component = record h.component { history = q }; out = out; copies = copies }
 
-    module _ (is : IsHolding m h) (entry : Entry Named) (out : List Signed) (sent : IsPosted Plus (sent_by m i entry) h.out out) where
+    module _ (is : IsHolding m count h) (entry : Entry Named) (out : List Signed) (copies : Copies) (sent : IsPosted Plus (sent_by m i entry) h.out out)
+        (sender : IsPosted Plus (sent_by m i entry) h.copies.of_sender copies.of_sender) (receiver : IsPosted Plus (sent_by m i entry) h.copies.of_receiver copies.of_receiver) where
       plus_to : (j : ℕ) → (j ≡ i) ⊎ (j ≡ i → ⊥) → cond (j == i) [] (sent_by m i entry j (in_flight Plus j h.out)) ≡ in_flight Plus j out
       plus_to j (inl e) =
           subst (λ n. cond (n == i) [] (sent_by m i entry n (in_flight Plus n h.out)) ≡ in_flight Plus n out) (sym e)
@@ -64,7 +73,7 @@ module _ (m : Machine (List Datum) Named) (law : Lawful m) where
           subst (λ n. cond (n == i) [] (in_flight Minus n h.out) ≡ in_flight Minus n out) (sym e) (rw (eq-eqb i i refl) (sym (sent.other i ∙ is.lease.self_minus)))
       minus_to j (inr ne) = rw (ne_eqb j i ne) (sym (sent.other j))
 
-      processed_is : lease_after i (lease_of h) (after_entry entry r) (sent_by m i entry) same ≡ lease_of (with (after_entry entry r) out)
+      processed_is : lease_after i (lease_of h) (after_entry entry r) (sent_by m i entry) same ≡ lease_of (with (after_entry entry r) out copies)
       processed_is =
           let q = after_entry entry r in
           λ v. record {
@@ -76,13 +85,25 @@ module _ (m : Machine (List Datum) Named) (law : Lawful m) where
           }
 
       -- an entry processed
-      pub process_kept : AloneLaw → ProcessLaw → next_of m i r ≡ Some entry → IsHolding m (with (after_entry entry r) out)
+      pub process_kept : AloneLaw → ProcessLaw → next_of m i r ≡ Some entry → IsHolding m count (with (after_entry entry r) out copies)
       process_kept alone_law process_law next =
-          let both = kept alone_law i is.stub (lease_of h) (lease_of (with (after_entry entry r) out)) (Process i ∷ []) (process m i (alone m i (lease_of h))) is.lease is.match (refl, refl) (process_law i (lease_of h) entry next ∙ processed_is) in
-          record { lease = both.0; stub = is.stub; match = both.1; arrived = is.arrived }
+          let both = kept alone_law i is.stub (lease_of h) (lease_of (with (after_entry entry r) out copies)) (Process i ∷ []) (process m i (alone m i (lease_of h))) is.lease is.match (refl, refl) (process_law i (lease_of h) entry next ∙ processed_is) in
+          record {
+            lease = both.0;
+            stub = is.stub;
+            match = both.1;
+            arrived = is.arrived;
+            of_sender = λ j. sender.there j ∙ ap (sent_by m i entry j) (is.of_sender j) ∙ sym (sent.there j);
+            of_receiver = λ j. receiver.there j ∙ ap (sent_by m i entry j) (is.of_receiver j) ∙ sym (sent.there j);
+            inside = inside;
+          }
+        where
+          inside : (sign : Sign) (j : ℕ) → count ≤ j → in_flight sign j out ≡ []
+          inside Plus j past = sent.there j ∙ ap (sent_by m i entry j) (is.inside Plus j past) ∙ not_beyond i j entry past
+          inside Minus j past = sent.other j ∙ is.inside Minus j past
 
     -- the next entry processed
-    pub next_kept : IsHolding m h → AloneLaw → ProcessLaw → (P : Entry Named → Type 0) (o : Option (Entry Named)) → next_of m i r ≡ o → IsSomeAnd o P → (out : List Signed) → IsPosted Plus (sent_next m i o) h.out out
-        → IsHolding m (with (processed o r) out)
-    next_kept is alone_law process_law P None e none out sent = absurd none
-    next_kept is alone_law process_law P (Some entry) e some out sent = process_kept is entry out sent alone_law process_law e
+    pub next_kept : IsHolding m count h → AloneLaw → ProcessLaw → (P : Entry Named → Type 0) (o : Option (Entry Named)) → next_of m i r ≡ o → IsSomeAnd o P → (out : List Signed) (copies : Copies) → IsPosted Plus (sent_next m i o) h.out out
+        → IsPosted Plus (sent_next m i o) h.copies.of_sender copies.of_sender → IsPosted Plus (sent_next m i o) h.copies.of_receiver copies.of_receiver → IsHolding m count (with (processed o r) out copies)
+    next_kept is alone_law process_law P None e none out copies sent sender receiver = absurd none
+    next_kept is alone_law process_law P (Some entry) e some out copies sent sender receiver = process_kept is entry out copies sent sender receiver alone_law process_law e

@@ -5,3 +5,8 @@ mod Committing
 mod Starting
 mod Chunking
 mod Knowing
+mod TakenIn
+mod Lowest
+mod Receiving
+pub mod Accepting
+mod Spreading

@@ -38,12 +38,12 @@ module _ (s : System) (i n : ℕ) where
       go false true h = refl
       go false false h = refl
 
-get_same : {X : Type 0} (xs : List X) (n : ℕ) (x : X) → n < length xs → slice_get (slice_set xs n x) n ≡ Some x
+pub get_same : {X : Type 0} (xs : List X) (n : ℕ) (x : X) → n < length xs → slice_get (slice_set xs n x) n ≡ Some x
 get_same [] n x h = absurd (omega (arith, h))
 get_same (y ∷ ys) zero x h = refl
 get_same (y ∷ ys) (suc n) x h = get_same ys n x (omega (arith, h))
 
-get_other : {X : Type 0} (xs : List X) (n : ℕ) (x : X) (j : ℕ) → (j ≡ n → ⊥) → slice_get (slice_set xs n x) j ≡ slice_get xs j
+pub get_other : {X : Type 0} (xs : List X) (n : ℕ) (x : X) (j : ℕ) → (j ≡ n → ⊥) → slice_get (slice_set xs n x) j ≡ slice_get xs j
 get_other [] n x j ne = refl
 get_other (y ∷ ys) zero x zero ne = absurd (ne refl)
 get_other (y ∷ ys) zero x (suc j) ne = refl

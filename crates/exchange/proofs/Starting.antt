@@ -7,6 +7,7 @@ use Rattle.event_keys.specs.declared.key.Key.{Key}
 use Rattle.event_keys.specs.Ranks.{rank_of_bound}
 use Rattle.antimessage.specs.Counts.{Each}
 use Rattle.event_keys.specs.declared.message.Sign.TheVariants.{Plus, Minus}
+use Rattle.rollback.specs.declared.copied.Copies.{Copies}
 use Rattle.rollback.specs.Flight.{in_flight}
 use Rattle.virtual_time.specs.Exchange.Stubs.{IsSound, start_stub as start_seen, start_exchange}
 use Rattle.virtual_time.specs.Exchange.Leases.{IsLease, Matches, start_lease}
@@ -48,7 +49,7 @@ module _ (s : System) where
       go (Some key) e = let zero_number = number_is s i 0 key (sym e) in omega (arith, zero_number)
 
   stub_kept : (i : ℕ) → IsStub s 0 i (start_stub s i)
-  stub_kept i = record { inbox = tt; order = record { sorted = tt; fits = tt }; passed = refl; ahead = refl; small = small i; few = omega arith }
+  stub_kept i = record { inbox = tt; order = record { sorted = tt; fits = tt }; copied = λ k a. refl; passed = refl; ahead = refl; small = small i; few = omega arith }
 
   module _ {P : Type 0} (e : Shared P) (stubs : e.stubs ≡ map (start_stub s) (range_with_len 0 (length s.composition))) (bound : e.bound ≡ first) (held : e.held ≡ []) (given : e.given ≡ 0) where
     stub_at : (j : ℕ) → stub_or_start (machine s) j (slice_get e.stubs j) ≡ start_seen (machine s) j
@@ -79,10 +80,10 @@ module _ (s : System) where
 
   -- a lease at the start
   pub holding_kept : {P : Type 0} (h : Holding P) → h.component.number < length s.composition → h.component.base ≡ first
-      → h.component.history ≡ record { base = (machine s).start h.component.number; first = 0; done = []; pending = []; owed = [] } → h.tray ≡ [] → h.out ≡ [] → h.floor ≡ first_bound s h.component.number
+      → h.component.history ≡ record { base = (machine s).start h.component.number; first = 0; done = []; pending = []; owed = [] } → h.tray ≡ [] → h.out ≡ [] → h.copies ≡ record { of_sender = []; of_receiver = [] } → h.floor ≡ first_bound s h.component.number
       → IsLease (machine s) h.component.number (start_lease (machine s) h.component.number) × Matches (machine s) h.component.number (start_seen (machine s) h.component.number) (start_lease (machine s) h.component.number)
-      → IsHolding (machine s) h
-  holding_kept h there base history tray out floor both =
+      → IsHolding (machine s) (length s.composition) h
+  holding_kept h there base history tray out copies floor both =
       let i = h.component.number in
       let seen_lease : lease_of h ≡ start_lease (machine s) i
       = λ v. record {
@@ -105,4 +106,7 @@ module _ (s : System) where
         stub = start_seen (machine s) i;
         match = subst (Matches (machine s) i (start_seen (machine s) i)) (sym seen_lease) both.1;
         arrived = subst (λ l. Each (λ y. y.message.to ≡ i) l) (sym tray) tt;
+        of_sender = λ j. ap (λ (c : Copies). in_flight Plus j c.of_sender) copies ∙ sym (ap (in_flight Plus j) out);
+        of_receiver = λ j. ap (λ (c : Copies). in_flight Plus j c.of_receiver) copies ∙ sym (ap (in_flight Plus j) out);
+        inside = λ sign j past. ap (in_flight sign j) out;
       }

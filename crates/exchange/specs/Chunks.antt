@@ -1,5 +1,5 @@
 -- The turns that a chunk gives.
-use Rattle.std.specs.Prelude.{◌≡◌, ℕ, ◌++◌, Bool, false, if◌then◌else◌, nat_lt, List, [], ◌∷◌, length}
+use Rattle.std.specs.Prelude.{◌≡◌, ℕ, ◌++◌, Bool, false, not, if◌then◌else◌, nat_lt, List, [], ◌∷◌, length}
 use Rattle.terms.specs.Datum.{Datum}
 use Rattle.terms.specs.Named.{Named}
 use Rattle.event_keys.specs.declared.key.Bound.{Bound}
@@ -17,6 +17,11 @@ abbrev pub is_first_below : ℕ → List Turned → Bool
 is_first_below b [] = false
 is_first_below b (t ∷ ts) = nat_lt (rank t.key) b
 
+-- there is a last turn, and it is not below a bound
+abbrev pub is_last_from : ℕ → List Turned → Bool
+is_last_from b [] = false
+is_last_from b (t ∷ ts) = not (nat_lt (rank t.key) b)
+
 -- the first turns, as long as they are below a bound
 abbrev pub first_below : ℕ → List Turned → List Turned
 first_below b [] = []
@@ -27,10 +32,10 @@ abbrev pub first_from : ℕ → List Turned → List Turned
 first_from b [] = []
 first_from b (t ∷ ts) = if nat_lt (rank t.key) b then first_from b ts else t ∷ ts
 
--- after so many turns of the reference these are its next ones, the last one first
-pub record IsGiven (m : Machine (List Datum) Named) (first : ℕ) (turns : List (Turn Named)) : Type 0 where
-  -- below the one bound these were given before, and below the other these too
+-- after so many turns of the reference these are its next ones, up to a bound, the last one first
+pub record IsGiven (m : Machine (List Datum) Named) (first bound : ℕ) (turns : List (Turn Named)) : Type 0 where
+  -- below a bound these were given before
   pub old : ℕ
-  pub new : ℕ
   pub before : first ≡ length (reference_below m old)
-  pub next : reference_below m new ≡ turns ++ reference_below m old
+  -- and below this one these too
+  pub next : reference_below m bound ≡ turns ++ reference_below m old

@@ -1,8 +1,9 @@
 -- What a lease holds, and the lease of the theory that it is.
-use Rattle.std.specs.Prelude.{◌≡◌, ℕ, ◌+◌, ◌-◌, ◌^◌, min, List, [], ◌∷◌, length}
+use Rattle.std.specs.Prelude.{◌≡◌, ℕ, ◌≤◌, ◌+◌, ◌-◌, ◌^◌, min, List, [], ◌∷◌, length}
 use Rattle.terms.specs.Datum.{Datum}
 use Rattle.terms.specs.Named.{Named}
 use Rattle.event_keys.specs.declared.key.Bound.{Bound}
+use Rattle.event_keys.specs.declared.message.Sign.{Sign}
 use Rattle.event_keys.specs.declared.message.Sign.TheVariants.{Plus, Minus}
 use Rattle.event_keys.specs.declared.message.Signed.{Signed}
 use Rattle.event_keys.specs.Ranks.{rank_of_bound}
@@ -10,45 +11,55 @@ use Rattle.antimessage.specs.Counts.{Each}
 use Rattle.virtual_time.specs.Machine.{Machine}
 use Rattle.virtual_time.specs.Exchange.Stubs.{Stub}
 use Rattle.virtual_time.specs.Exchange.Leases.{Lease, IsLease, Matches}
-use Rattle.virtual_time.specs.Records.{unsent}
+use Rattle.virtual_time.specs.Records.{Record, unsent}
+use Rattle.virtual_time.specs.Worlds.{Part}
+use Rattle.rollback.specs.declared.copied.Copies.{Copies}
 use Rattle.rollback.specs.Flight.{in_flight, item_of}
 use Rattle.rollback.specs.Held.{Held, comes, back_by}
 use Rattle.rollback.specs.Post.{IsPosted}
 use Rattle.rollback.specs.Runs.{IsRun}
 
--- a component, its tray of messages that came and are not delivered yet, its outgoing messages, and the floor of its last meeting
+-- a component, its tray of messages that came and are not delivered yet, its outgoing messages with their copies, and the floor of its
+-- last meeting
 pub record Holding (P : Type 0) : Type 0 where
   pub component : Held P
   pub tray : List Signed
   pub out : List Signed
+  pub copies : Copies
   pub floor : Bound
+
+-- the record of component i, with its tray as what is in flight to it
+abbrev pub part_of : ℕ → Record (List Datum) Named → List Signed → Part (List Datum) Named
+part_of i r tray = record { base = r.base; first = r.first; done = r.done; pending = r.pending; owed = r.owed; plus = in_flight Plus i tray; minus = in_flight Minus i tray }
 
 module _ {P : Type 0} where
   -- as the theory sees it
   abbrev pub lease_of : Holding P → Lease (List Datum) Named
   lease_of h =
-      let r = h.component.history in
-      let i = h.component.number in
       record {
         base = rank_of_bound h.component.base;
         floor = rank_of_bound h.floor;
-        part = record { base = r.base; first = r.first; done = r.done; pending = r.pending; owed = r.owed; plus = in_flight Plus i h.tray; minus = in_flight Minus i h.tray };
+        part = part_of h.component.number h.component.history h.tray;
         out_plus = λ j. in_flight Plus j h.out;
         out_minus = λ j. in_flight Minus j h.out;
       }
 
-  -- it has what each lease of the theory has, and matches some stub
-  pub record IsHolding (m : Machine (List Datum) Named) (h : Holding P) : Type 0 where
+  -- it has what each lease of the theory has, and matches some stub; there are so many components
+  pub record IsHolding (m : Machine (List Datum) Named) (count : ℕ) (h : Holding P) : Type 0 where
     pub lease : IsLease m h.component.number (lease_of h)
     pub stub : Stub Named
     pub match : Matches m h.component.number stub (lease_of h)
     -- what is in its tray came to it
     pub arrived : Each (λ s. s.message.to ≡ h.component.number) h.tray
+    -- each outgoing message has its two copies, and goes to a component that exists
+    pub of_sender : (j : ℕ) → in_flight Plus j h.copies.of_sender ≡ in_flight Plus j h.out
+    pub of_receiver : (j : ℕ) → in_flight Plus j h.copies.of_receiver ≡ in_flight Plus j h.out
+    pub inside : (sign : Sign) (j : ℕ) → count ≤ j → in_flight sign j h.out ≡ []
 
   -- so many entries are processed, and what they send is among the outgoing messages
   pub record IsAhead (m : Machine (List Datum) Named) (old new : Holding P) (count : ℕ) : Type 0 where
     pub run : IsRun m old.component.number old.component.history new.component.history old.out new.out count
-    pub rest : new ≡ record old { component = record old.component { history = new.component.history }; out = new.out }
+    pub rest : new ≡ record old { component = record old.component { history = new.component.history }; out = new.out; copies = new.copies }
 
   -- the least signed message of the tray comes to the component; an antimessage of each message that is taken back goes out
   pub record IsDelivered (m : Machine (List Datum) Named) (old new : Holding P) (s : Signed) : Type 0 where

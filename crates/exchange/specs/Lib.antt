@@ -3,4 +3,7 @@ pub mod Shared
 pub mod Start
 pub mod Chunks
 pub mod Known
+pub mod Moving
 pub mod Refusals
+pub mod Same
+pub mod SameLaws

@@ -55,10 +55,11 @@ turns_of held = onto (map turn_of held) []
 abbrev pub exchange_of : {P : Type 0} → Machine (List Datum) Named → Shared P → ExchangeSeen Named
 exchange_of m e = record { stub = λ j. stub_or_start m j (slice_get e.stubs j); bound = rank_of_bound e.bound; held = turns_of e.held; given = e.given }
 
--- the inbox of component i goes to it; its turns below the bound are counted, and the key of the one after them is there
+-- the inbox of component i goes to it, and has a copy of each message; its turns below the bound are counted, and the key of the one after them is there
 pub record IsStub (s : System) (bound i : ℕ) (stub : Stub) : Type 0 where
   pub inbox : Each (λ x. x.message.to ≡ i) stub.inbox
   pub order : IsInOrder stub.inbox
+  pub copied : (k : ℕ) (a : Named) → times (machine s) (in_flight Plus i stub.copies) k a ≡ times (machine s) (in_flight Plus i stub.inbox) k a
   pub passed : stub.passed ≡ (point (machine s) bound).next i
   pub ahead : stub.ahead ≡ key_of s i stub.passed
   pub small : IfSome stub.ahead (λ key. key.number < 4294967296)

@@ -28,11 +28,11 @@ abbrev pub first_bound : System → ℕ → Bound
 first_bound s i = bound_at (key_of s i 0)
 
 abbrev pub start_stub : System → ℕ → Stub
-start_stub s i = record { base = first; floor = first_bound s i; taken = []; standing = []; inbox = []; passed = 0; ahead = key_of s i 0 }
+start_stub s i = record { base = first; floor = first_bound s i; taken = []; standing = []; inbox = []; copies = []; passed = 0; ahead = key_of s i 0 }
 
 module _ {T : Type 0} (turn_of : T → ℕ → ℕ → Option Turn) (setup : Setup T) where
   abbrev pub start_holding : ℕ → Holding (Setup T)
-  start_holding i = record { component = record { setup = setup; number = i; base = first; history = start_record (machine_of turn_of setup) i }; tray = []; out = []; floor = first_bound (system turn_of setup) i }
+  start_holding i = record { component = record { setup = setup; number = i; base = first; history = start_record (machine_of turn_of setup) i }; tray = []; out = []; copies = record { of_sender = []; of_receiver = [] }; floor = first_bound (system turn_of setup) i }
 
   abbrev pub start_shared : Shared (Setup T)
   start_shared = record { setup = setup; stubs = map (start_stub (system turn_of setup)) (range_with_len 0 (length (composition (plan_of setup)))); bound = first; held = []; given = 0 }

@@ -90,8 +90,7 @@ impl<T: Turns> Exchange<T> {
     /// Gives the turns below the least base that no chunk has given yet, in the order of keys. It takes no memory; its time grows with
     /// the number of these turns and of the components.
     pub fn take_chunk(&mut self) -> Chunk
-        ensures chunk { (b : ℕ) × IsChunk (machine_of T.turn_of self.old.setup) (length (composition (plan_of self.old.setup))) (exchange_of (machine_of T.turn_of self.old.setup) self.old) b (exchange_of (machine_of T.turn_of self.old.setup) self.new) (turns_of result.turns.after) }
-        ensures given { IsGiven (machine_of T.turn_of self.old.setup) result.first (turns_of result.turns.after) }
+        ensures chunk { (b : ℕ) × IsChunk (machine_of T.turn_of self.old.setup) (length (composition (plan_of self.old.setup))) (exchange_of (machine_of T.turn_of self.old.setup) self.old) b (exchange_of (machine_of T.turn_of self.old.setup) self.new) (turns_of result.turns.after) × IsGiven (machine_of T.turn_of self.old.setup) result.first b (turns_of result.turns.after) }
         ensures front { result.turns.before ≡ [] }
         ensures first { result.first ≡ self.old.given }
         ensures rest { self.new ≡ record self.old { held = self.new.held; given = self.new.given } }

@@ -12,7 +12,7 @@ ghost use Rattle.exchange.specs.Holding.{IsAhead, IsDelivered, AllDelivered};
 use antimessage::Bag;
 use event_keys::{Bound, Key};
 use rollback::laws::run_law;
-use rollback::{Component, ProcessRefused};
+use rollback::{Component, Copies, ProcessRefused};
 use std::alloc::Global;
 use std::marker::Model;
 use task_seed::Turns;
@@ -21,12 +21,14 @@ use terms::{Action, NoMemory, State};
 use virtual_time::exchanges::{exchange_is_sound, lease_law};
 
 /// A component that a worker holds, away from what workers share: with its tray of messages that came to it and aren't delivered
-/// yet, its outgoing messages, and its floor, the least key that it had to do at its last meeting. It can't be cloned.
+/// yet, its outgoing messages and two copies of each, and its floor, the least key that it had to do at its last meeting. It can't be
+/// cloned.
 #[derive(Drop)]
 pub struct Lease<T: Turns> {
     pub(crate) component: Component<T>,
     pub(crate) tray: Bag,
     pub(crate) out: Bag,
+    pub(crate) copies: Copies,
     pub(crate) floor: Bound,
 }
 
@@ -34,6 +36,9 @@ impl<T: Turns> Model for Lease<T> {
     ghost use Rattle.task_seed.specs.declared.setup.Setup.{Setup};
     ghost use Rattle.exchange.specs.Holding.{Holding, IsHolding};
     ghost use Rattle.rollback.specs.Held.{machine_of};
+    ghost use Rattle.compose.specs.Plans.{composition};
+    ghost use Rattle.task_seed.specs.Setups.{plan_of};
+    ghost use Rattle.std.specs.Prelude.{length};
     ghost use Rattle.std.specs.Coded.{codes};
     ghost use Rattle.terms.specs.Datum.{datum_code};
     ghost use Rattle.terms.specs.contracts.scalar.Shape as shape;
@@ -44,9 +49,9 @@ impl<T: Turns> Model for Lease<T> {
 
     ghost coded = { Prim.hlevel (codes, shape.the_row.coded, term.the_row.coded, effect.the_row.coded, datum_code) };
 
-    ghost view = { λ l. record { component = l.component; tray = l.tray; out = l.out; floor = l.floor } };
+    ghost view = { λ l. record { component = l.component; tray = l.tray; out = l.out; copies = l.copies; floor = l.floor } };
 
-    ghost invariant = { λ l. IsHolding (machine_of T.turn_of l.component.setup) (record { component = l.component; tray = l.tray; out = l.out; floor = l.floor }) };
+    ghost invariant = { λ l. IsHolding (machine_of T.turn_of l.component.setup) (length (composition (plan_of l.component.setup))) (record { component = l.component; tray = l.tray; out = l.out; copies = l.copies; floor = l.floor }) };
 }
 
 impl<T: Turns> Lease<T> {
@@ -110,14 +115,16 @@ impl<T: Turns> Lease<T> {
         ensures key { IfOk result (λ key. IsSomeAnd (next_of (machine_of T.turn_of self.old.component.setup) self.old.component.number self.old.component.history) (λ entry. entry_key entry ≡ rank key)) }
         ensures record { OnOk result (self.new.component.history ≡ processed (next_of (machine_of T.turn_of self.old.component.setup) self.old.component.number self.old.component.history) self.old.component.history) }
         ensures sent { OnOk result (IsPosted Plus (sent_next (machine_of T.turn_of self.old.component.setup) self.old.component.number (next_of (machine_of T.turn_of self.old.component.setup) self.old.component.number self.old.component.history)) self.old.out self.new.out) }
-        ensures rest { self.new ≡ record self.old { component = record self.old.component { history = self.new.component.history }; out = self.new.out } }
+        ensures rest { self.new ≡ record self.old { component = record self.old.component { history = self.new.component.history }; out = self.new.out; copies = self.new.copies } }
         ensures nothing { IsErrOf result ProcessRefused.NothingPending ↔ (next_of (machine_of T.turn_of self.old.component.setup) self.old.component.number self.old.component.history ≡ None) }
         ensures kept { OnErr result (self.new ≡ self.old) }
     {
         machine_is_lawful(self.component.setup());
         exchange_is_sound::<State, Action>();
         lease_law::<State, Action>();
-        let key = self.component.process(alloc, &mut self.out)?;
+        let key = self
+            .component
+            .process_copied(alloc, &mut self.out, &mut self.copies)?;
         Ok(key)
     }
 }

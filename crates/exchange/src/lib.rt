@@ -4,7 +4,11 @@
 pub mod chunk;
 pub mod exchange;
 pub mod judging;
+pub mod laws;
 pub mod lease;
+mod meeting;
+mod merging;
+mod same;
 mod start;
 pub mod stub;
 

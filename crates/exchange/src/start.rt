@@ -13,7 +13,7 @@ use crate::stub::Stub;
 use antimessage::Bag;
 use event_keys::{Bound, Key};
 use raw_events::EventList;
-use rollback::Component;
+use rollback::{Component, Copies};
 use std::alloc::Global;
 use std::sync::Arc;
 use task_seed::laws::machine_is_lawful;
@@ -47,6 +47,7 @@ fn start_stub<T: Turns>(setup: &Setup<T>, i: u16) -> Stub
         taken: Bag::new(),
         standing: Bag::new(),
         inbox: Bag::new(),
+        copies: Bag::new(),
         passed: 0,
         ahead: setup.first_key(i),
     }
@@ -64,6 +65,7 @@ fn start_lease<T: Turns>(alloc: Global, setup: Arc<Setup<T>>, i: u16) -> Result<
         component,
         tray: Bag::new(),
         out: Bag::new(),
+        copies: Copies::new(),
         floor,
     })
 }

@@ -21,12 +21,14 @@ pub struct Stub {
     pub(crate) taken: Bag,
     pub(crate) standing: Bag,
     pub(crate) inbox: Bag,
+    // A copy of each message of the inbox.
+    pub(crate) copies: Bag,
     // The number of its turns below the exchange's bound, and the key of the one after them.
     pub(crate) passed: u64,
     pub(crate) ahead: Option<Key>,
 }
 
-fn earlier(first: Bound, second: Bound) -> Bound
+pub(crate) fn earlier(first: Bound, second: Bound) -> Bound
     ensures { result ≡ earlier first second }
 {
     bound_rank_law(first, second);

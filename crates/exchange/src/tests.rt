@@ -4,6 +4,9 @@ ghost use Rattle.compose.specs.Plans.{composition};
 ghost use Rattle.compose.specs.Ring.{ring_of_two};
 ghost use Rattle.task_seed.specs.Setups.{plan_of};
 
+mod meeting;
+mod same;
+
 use crate::{Exchange, Lease, MeetRefused};
 use compose::ring;
 use std::alloc::{AllocGlobal, Global};

@@ -11,7 +11,7 @@ returns g c =
     let t = g.T.Turns.turn_of in
     let f = c.lease.inside in
     let stub = c.args.stub.now in
-    let h : Holding _ = record { component = f.component; tray = f.tray; out = f.out; floor = f.floor } in
+    let h : Holding _ = record { component = f.component; tray = f.tray; out = f.out; copies = f.copies; floor = f.floor } in
     let m = machine_of t f.component.setup in
     let base = same_number (rank_of_bound f.component.base) (rank_of_bound stub.base)
     (ap (λ x. rank_of_bound x == rank_of_bound stub.base) (sym c.base.ensures) ∙ sym c.is_same_bound.ensures ∙ c.if-not-is_same_bound.false) in

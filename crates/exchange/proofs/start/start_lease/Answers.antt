@@ -1,6 +1,7 @@
-use Rattle.std.proofs.Common.{refl, sym, ap, subst, ◌∙◌}
+use Rattle.std.proofs.Common.{length, refl, sym, ap, subst, ◌∙◌}
 use Rattle.std.specs.Arc.{arc_value}
-use Rattle.task_seed.specs.Setups.{system}
+use Rattle.compose.specs.Plans.{composition}
+use Rattle.task_seed.specs.Setups.{plan_of, system}
 use Rattle.task_seed.specs.Machines.{machine}
 use Rattle.virtual_time.specs.Machine.{Lawful}
 use Rattle.rollback.specs.Held.{Held, machine_of, start_record}
@@ -18,6 +19,6 @@ invariant_of-result g c =
     let start = c.exchange_is_sound.ensures.start (machine s) 0 (subst (λ x. Lawful (machine (system t x))) c.deref.ensures c.machine_is_lawful.ensures.lawful) in
     let is = c.in_ok-component.ensures in
     let own : Held _ = record { setup = p; number = i; base = first; history = start_record (machine_of t p) i } in
-    subst (λ (x : Held _). IsHolding (machine_of t x.setup) (record { component = x; tray = c.new-2.result; out = c.new-3.result; floor = c.first_bound-floor.result })) (sym is)
-    (holding_kept s (record { component = own; tray = c.new-2.result; out = c.new-3.result; floor = c.first_bound-floor.result }) c.requires refl refl c.new-2.ensures c.new-3.ensures
+    subst (λ (x : Held _). IsHolding (machine_of t x.setup) (length (composition (plan_of x.setup))) (record { component = x; tray = c.new-2.result; out = c.new-3.result; copies = c.new-4.result; floor = c.first_bound-floor.result })) (sym is)
+    (holding_kept s (record { component = own; tray = c.new-2.result; out = c.new-3.result; copies = c.new-4.result; floor = c.first_bound-floor.result }) c.requires refl refl c.new-2.ensures c.new-3.ensures c.new-4.ensures
     (c.first_bound-floor.ensures ∙ ap (λ x. first_bound (system t x) i) c.deref-2.ensures) (start.1 i))

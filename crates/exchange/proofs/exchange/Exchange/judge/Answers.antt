@@ -19,7 +19,7 @@ returns-then-is_known-clause-ok g c =
     let p = arc_value f.setup in
     let q = l.component.setup in
     let stub = c.in-Some.stub.now in
-    let h : Holding _ = record { component = l.component; tray = l.tray; out = l.out; floor = l.floor } in
+    let h : Holding _ = record { component = l.component; tray = l.tray; out = l.out; copies = l.copies; floor = l.floor } in
     let e : Shared _ = record { setup = p; stubs = f.stubs.items; bound = f.bound; held = f.held.after; given = f.given } in
     let yes_there = untrue _ (sym c.ne.ensures ∙ c.if-ne.false) in
     let yes : same_setup g.T.PartialEq.eq p q ≡ true = subst (λ x. same_setup g.T.PartialEq.eq p x ≡ true) c.setup-setup.ensures (subst (λ x. same_setup g.T.PartialEq.eq x c.setup-setup.result.now ≡ true) c.deref-2.ensures yes_there) in
@@ -43,7 +43,7 @@ returns-else-is_known-clause-ok g c =
     let p = arc_value f.setup in
     let q = l.component.setup in
     let stub = c.in-Some.stub.now in
-    let h : Holding _ = record { component = l.component; tray = l.tray; out = l.out; floor = l.floor } in
+    let h : Holding _ = record { component = l.component; tray = l.tray; out = l.out; copies = l.copies; floor = l.floor } in
     let e : Shared _ = record { setup = p; stubs = f.stubs.items; bound = f.bound; held = f.held.after; given = f.given } in
     let yes_there = untrue _ (sym c.ne.ensures ∙ c.if-ne.false) in
     let yes : same_setup g.T.PartialEq.eq p q ≡ true = subst (λ x. same_setup g.T.PartialEq.eq p x ≡ true) c.setup-setup.ensures (subst (λ x. same_setup g.T.PartialEq.eq x c.setup-setup.result.now ≡ true) c.deref-2.ensures yes_there) in

@@ -92,30 +92,10 @@ returns-clause-chunk g c =
     = ap (λ l. l.after) c.append_all.ensures.rest ∙ ap (λ l. (l.after ++ reverse c.take_below-taken.result.turns.before) ++ c.take_below-taken.result.turns.after) c.new-turns.ensures
     ∙ ap (λ l. reverse l.before ++ l.after) c.take_below-taken.ensures.turns ∙ reversed_back (first_below b f.held.after) in
     let made = chunk s e is bound least end in
-    subst (λ (old : Shared _). (x : ℕ) × IsChunk (machine_of t old.setup) (length (composition (plan_of old.setup))) (exchange_of (machine_of t old.setup) old) x (exchange_of (machine_of t old.setup) (record e { held = c.take_below-taken.new.held.after; given = f.given + c.take_below-taken.result.count })) (turns_of c.append_all.new.self.after)) c.self.view_is (
+    subst (λ (old : Shared _). (x : ℕ) × IsChunk (machine_of t old.setup) (length (composition (plan_of old.setup))) (exchange_of (machine_of t old.setup) old) x (exchange_of (machine_of t old.setup) (record e { held = c.take_below-taken.new.held.after; given = f.given + c.take_below-taken.result.count })) (turns_of c.append_all.new.self.after) × IsGiven (machine_of t old.setup) f.given x (turns_of c.append_all.new.self.after)) c.self.view_is (
       b,
       subst (λ l. IsChunk (machine s) (length s.composition) (exchange_of (machine s) e) b (exchange_of (machine s) (record e { held = c.take_below-taken.new.held.after; given = f.given + c.take_below-taken.result.count })) (turns_of l)) (sym turns)
           (subst (λ l. IsChunk (machine s) (length s.composition) (exchange_of (machine s) e) b (exchange_of (machine s) (record e { held = l; given = f.given + c.take_below-taken.result.count })) (turns_of (first_below b f.held.after))) (sym (ap (λ l. l.after) c.take_below-taken.ensures.rest))
           (subst (λ n. IsChunk (machine s) (length s.composition) (exchange_of (machine s) e) b (exchange_of (machine s) (record e { held = first_from b f.held.after; given = f.given + n })) (turns_of (first_below b f.held.after))) (sym c.take_below-taken.ensures.count) made)),
+      subst (λ l. IsGiven (machine s) f.given b (turns_of l)) (sym turns) (record { old = given.1; before = given.2; next = given.3 }),
     )
-
-pub returns-clause-given : goal.returns-clause-given
-returns-clause-given g c =
-    let t = g.T.Turns.turn_of in
-    let f = c.self.inside in
-    let p = arc_value f.setup in
-    let s = system t p in
-    let bound = c.least_base-bound.result in
-    let b = rank_of_bound bound in
-    let e : Shared _ = record { setup = p; stubs = f.stubs.items; bound = f.bound; held = f.held.after; given = f.given } in
-    let is = c.self.invariant.1 in
-    let law : Lawful (machine s) = subst (λ x. Lawful (machine (system t x))) c.deref.ensures c.machine_is_lawful.ensures.lawful in
-    let counted : HasCount (machine s) (length s.composition) = subst (λ x. HasCount (machine (system t x)) (length (composition (plan_of x)))) c.deref.ensures c.machine_is_lawful.ensures.counted in
-    let least : IsLeast (map base_of f.stubs.items) bound = subst (λ l. IsLeast (map base_of l) bound) c.deref-3.ensures.value c.least_base-bound.ensures in
-    let end = c.is_bounded.ensures in
-    let given = c.exchange_is_sound.ensures.chunk (machine s) (length s.composition) (exchange_of (machine s) e) (exchange_of (machine s) (after s e is bound least end)) b (turns_of (first_below b f.held.after)) law counted is.sound (chunk s e is bound least end) in
-    let turns : c.append_all.new.self.after ≡ first_below b f.held.after
-    = ap (λ l. l.after) c.append_all.ensures.rest ∙ ap (λ l. (l.after ++ reverse c.take_below-taken.result.turns.before) ++ c.take_below-taken.result.turns.after) c.new-turns.ensures
-    ∙ ap (λ l. reverse l.before ++ l.after) c.take_below-taken.ensures.turns ∙ reversed_back (first_below b f.held.after) in
-    subst (λ (old : Shared _). IsGiven (machine_of t old.setup) f.given (turns_of c.append_all.new.self.after)) c.self.view_is
-    (subst (λ l. IsGiven (machine s) f.given (turns_of l)) (sym turns) (record { old = given.1; new = b; before = given.2; next = given.3 }))

@@ -1,6 +1,8 @@
-use Rattle.std.proofs.Common.{◌≡◌, refl, sym, subst}
+use Rattle.std.proofs.Common.{◌≡◌, length, refl, sym, subst}
 use Rattle.event_keys.specs.Ranks.{rank}
-use Rattle.virtual_time.specs.Machine.{Lawful}
+use Rattle.virtual_time.specs.Machine.{Lawful, HasCount}
+use Rattle.compose.specs.Plans.{composition}
+use Rattle.task_seed.specs.Setups.{plan_of}
 use Rattle.virtual_time.specs.Entries.{entry_key}
 use Rattle.virtual_time.specs.Records.{next_of}
 use Rattle.rollback.specs.Held.{Held, machine_of}
@@ -14,7 +16,9 @@ invariant_of-self-2 g c =
     let f = c.self.inside in
     let m = machine_of t f.component.setup in
     let law : Lawful m = subst (λ p. Lawful (machine_of t p)) c.setup.ensures c.machine_is_lawful.ensures.lawful in
+    let n = length (composition (plan_of f.component.setup)) in
+    let counted : HasCount m n = subst (λ p. HasCount (machine_of t p) (length (composition (plan_of p)))) c.setup.ensures c.machine_is_lawful.ensures.counted in
     let next = next_of m f.component.number f.component.history in
-    subst (λ (x : Held _). IsHolding (machine_of t x.setup) (record { component = x; tray = f.tray; out = c.process.new.out; floor = f.floor })) (sym c.in_ok-key.ensures.record)
-    (next_kept m law (record { component = f.component; tray = f.tray; out = f.out; floor = f.floor }) c.self.invariant (c.exchange_is_sound.ensures.alone m) (c.lease_law.ensures.process m)
-    (λ entry. entry_key entry ≡ rank c.in_ok-key.key) next refl c.in_ok-key.ensures.key c.process.new.out c.in_ok-key.ensures.sent)
+    subst (λ (x : Held _). IsHolding (machine_of t x.setup) (length (composition (plan_of x.setup))) (record { component = x; tray = f.tray; out = c.process_copied.new.out; copies = c.process_copied.new.copies; floor = f.floor })) (sym c.in_ok-key.ensures.record)
+    (next_kept m law n counted (record { component = f.component; tray = f.tray; out = f.out; copies = f.copies; floor = f.floor }) c.self.invariant (c.exchange_is_sound.ensures.alone m) (c.lease_law.ensures.process m)
+    (λ entry. entry_key entry ≡ rank c.in_ok-key.key) next refl c.in_ok-key.ensures.key c.process_copied.new.out c.process_copied.new.copies c.in_ok-key.ensures.sent c.in_ok-key.ensures.of_sender c.in_ok-key.ensures.of_receiver)

@@ -1,0 +1,189 @@
+//! Meetings of a lease with what workers share.
+ghost use Rattle.std.specs.Prelude.{◌≡◌, ◌↔◌, ℕ, Some, true, false, length, slice_get, IfOk, OnOk, OnErr, IsOk, IsErrOf};
+ghost use Rattle.event_keys.specs.Ranks.{rank_of_bound};
+ghost use Rattle.antimessage.specs.Bags.{insert_all};
+ghost use Rattle.antimessage.specs.Counts.{Each};
+ghost use Rattle.virtual_time.specs.Exchange.Leases.{IsFloor, Matches};
+ghost use Rattle.virtual_time.specs.Exchange.Meetings.{Met};
+ghost use Rattle.compose.specs.Plans.{composition};
+ghost use Rattle.task_seed.specs.Setups.{plan_of, system};
+ghost use Rattle.rollback.specs.Held.{machine_of};
+ghost use Rattle.exchange.specs.declared.stub.Stub.{Stub as StubValue};
+ghost use Rattle.exchange.specs.Holding.{part_of, lease_of};
+ghost use Rattle.exchange.specs.Shared.{exchange_of};
+ghost use Rattle.exchange.specs.Moving.{IsSent, IsArrived, IsHandedOver, IsForgotten, IsReached, IsPassedOn};
+
+use crate::exchange::Exchange;
+use crate::judging::MeetRefused;
+use crate::lease::Lease;
+use crate::merging::merge;
+use crate::stub::{Stub, earlier};
+use antimessage::Bag;
+use antimessage::laws::order_law;
+use event_keys::Bound;
+use rollback::laws::{comparable_law, flight_law};
+use rollback::{Component, Copies};
+use task_seed::laws::{equal_setup_law, machine_is_lawful};
+use task_seed::{Setup, Turns};
+use terms::{Action, State};
+use virtual_time::exchanges::{exchange_is_sound, meeting_law};
+use virtual_time::merging::merging_law;
+
+impl Stub {
+    // What is outgoing leaves: messages stand, and antimessages take theirs out.
+    fn send(&mut self, copies: &mut Bag, out: &Bag)
+        ensures { IsSent copies.old out.now self.old self.new }
+    {
+        flight_law();
+        order_law(out);
+        self.standing.append(copies);
+        order_law(&self.standing);
+        self.standing.cancel(out);
+        order_law(&self.standing);
+    }
+
+    // Signed messages come, and copies of the messages: of a message and its antimessage only one is left.
+    fn arrive(&mut self, mut came: Bag, mut copies: Bag)
+        ensures { IsArrived came copies self.old self.new }
+    {
+        flight_law();
+        self.inbox.append(&mut came);
+        order_law(&self.inbox);
+        self.copies.append(&mut copies);
+        order_law(&self.copies);
+        self.copies.cancel(&self.inbox);
+        order_law(&self.copies);
+        self.inbox.meet_all();
+        order_law(&self.inbox);
+    }
+
+    // The inbox goes into the tray: its messages are taken, and its antimessages take theirs out.
+    fn hand_over(&mut self, tray: &mut Bag)
+        ensures stub { IsHandedOver self.old self.new }
+        ensures tray { tray.new ≡ insert_all self.old.inbox tray.old }
+    {
+        flight_law();
+        order_law(&self.inbox);
+        self.taken.append(&mut self.copies);
+        order_law(&self.taken);
+        self.taken.cancel(&self.inbox);
+        order_law(&self.taken);
+        tray.append(&mut self.inbox);
+    }
+
+    // Below a bound nothing is kept, and the bound is the base.
+    fn forget_below(&mut self, bound: Bound)
+        ensures { IsForgotten bound self.old self.new }
+    {
+        flight_law();
+        comparable_law(bound);
+        order_law(&self.taken);
+        self.taken.drop_below(bound);
+        order_law(&self.standing);
+        self.standing.drop_below(bound);
+        self.base = bound;
+    }
+}
+
+// What is outgoing comes to the stubs, each message to its receiver's.
+fn spread(stubs: &mut [Stub], count: u16, out: &mut Bag, copies: &mut Bag)
+    requires { length stubs.old ≡ count }
+    ensures many { length stubs.new ≡ length stubs.old }
+    ensures each { (j : ℕ) (stub : StubValue) → slice_get stubs.new j ≡ Some stub → IsReached out.old copies.old stubs.old j stub }
+{
+    for i in 0..count {
+        let came = out.split_to(i);
+        stubs[usize::from(i)].arrive(came, copies.split_to(i));
+    }
+}
+
+// The least of the component's next key and of the keys in its tray.
+fn floor_of<T: Turns>(component: &Component<T>, tray: &Bag) -> Bound
+    requires { Each (λ x. x.message.to ≡ component.now.number) tray.now }
+    ensures { IsFloor (machine_of T.turn_of component.now.setup) component.now.number (rank_of_bound result) (part_of component.now.number component.now.history tray.now) }
+{
+    machine_is_lawful(component.setup());
+    component.is_in_order();
+    order_law(tray);
+    earlier(component.next(), tray.least())
+}
+
+// What is outgoing of a component goes to all stubs, and its own inbox into its tray. The answer is its floor from then on.
+fn pass_on<T: Turns>(
+    stubs: &mut [Stub],
+    bound: Bound,
+    component: &Component<T>,
+    tray: &mut Bag,
+    out: &mut Bag,
+    copies: &mut Copies,
+) -> Bound
+    requires many { length stubs.old ≡ length (composition (plan_of component.now.setup)) }
+    requires arrived { Each (λ x. x.message.to ≡ component.now.number) tray.old }
+    requires inbox { (stub : StubValue) → slice_get stubs.old component.now.number ≡ Some stub → Each (λ x. x.message.to ≡ component.now.number) stub.inbox }
+    ensures passed { IsPassedOn component.now.number bound result out.old copies.old.of_sender copies.old.of_receiver tray.old tray.new stubs.old stubs.new }
+    ensures arrived { Each (λ x. x.message.to ≡ component.now.number) tray.new }
+    ensures floor { IsFloor (machine_of T.turn_of component.now.setup) component.now.number (rank_of_bound result) (part_of component.now.number component.now.history tray.new) }
+{
+    flight_law();
+    machine_is_lawful(component.setup());
+    let i = usize::from(component.number());
+    stubs[i].send(&mut copies.of_sender, out);
+    let count = component.setup().plan().components();
+    spread(stubs, count, out, &mut copies.of_receiver);
+    let own = &mut stubs[i];
+    own.hand_over(tray);
+    own.forget_below(bound);
+    own.floor = floor_of(component, tray);
+    own.floor
+}
+
+impl<T: Turns> Exchange<T> {
+    /// A lease meets the exchange. Its outgoing messages and antimessages go to their receivers' inboxes, where each antimessage
+    /// annihilates with its message; its own inbox goes into its tray; its done entries below the exchange's bound are dropped, and their
+    /// own turns are taken in; the bound becomes its base, and its floor the least of its next key and of its tray's keys. The answer is
+    /// the bound.
+    ///
+    /// It is accepted exactly where the lease's setup is the exchange's (else 40), and its base, floor, taken messages and standing sends
+    /// are those that are kept of its component (else 41). A refusal changes neither. It takes no memory.
+    pub fn meet(&mut self, lease: &mut Lease<T>) -> Result<Bound, MeetRefused>
+        ensures ok { IsOk result ↔ ((⟦<Setup<T> as PartialEq>⟧.eq self.old.setup lease.old.component.setup ≡ true) × Matches (machine_of T.turn_of self.old.setup) lease.old.component.number ((exchange_of (machine_of T.turn_of self.old.setup) self.old).stub lease.old.component.number) (lease_of lease.old)) }
+        ensures other { IsErrOf result MeetRefused.OtherSetup ↔ (⟦<Setup<T> as PartialEq>⟧.eq self.old.setup lease.old.component.setup ≡ false) }
+        ensures bound { IfOk result (λ bound. bound ≡ self.old.bound) }
+        ensures met { OnOk result (Met (machine_of T.turn_of self.old.setup) lease.old.component.number (exchange_of (machine_of T.turn_of self.old.setup) self.old) (lease_of lease.old) (exchange_of (machine_of T.turn_of self.old.setup) self.new) (lease_of lease.new)) }
+        ensures rest { self.new ≡ record self.old { stubs = self.new.stubs; held = self.new.held } }
+        ensures same { OnOk result ((lease.new.component.setup ≡ lease.old.component.setup) × (lease.new.component.number ≡ lease.old.component.number)) }
+        ensures kept { OnErr result ((self.new ≡ self.old) × (lease.new ≡ lease.old)) }
+    {
+        equal_setup_law(&self.setup, lease.component.setup());
+        self.judge(lease)?;
+        Ok(self.accept(lease))
+    }
+
+    // The meeting, where the lease is known.
+    fn accept(&mut self, lease: &mut Lease<T>) -> Bound
+        requires same { system T.turn_of self.old.setup ≡ system T.turn_of lease.old.component.setup }
+        requires matches { Matches (machine_of T.turn_of self.old.setup) lease.old.component.number ((exchange_of (machine_of T.turn_of self.old.setup) self.old).stub lease.old.component.number) (lease_of lease.old) }
+        ensures bound { result ≡ self.old.bound }
+        ensures met { Met (machine_of T.turn_of self.old.setup) lease.old.component.number (exchange_of (machine_of T.turn_of self.old.setup) self.old) (lease_of lease.old) (exchange_of (machine_of T.turn_of self.old.setup) self.new) (lease_of lease.new) }
+        ensures rest { self.new ≡ record self.old { stubs = self.new.stubs; held = self.new.held } }
+        ensures same { (lease.new.component.setup ≡ lease.old.component.setup) × (lease.new.component.number ≡ lease.old.component.number) }
+    {
+        machine_is_lawful(&self.setup);
+        flight_law();
+        meeting_law::<State, Action>();
+        exchange_is_sound::<State, Action>();
+        merging_law::<Action>();
+        merge(&mut self.held, lease.component.drop_below(self.bound));
+        lease.floor = pass_on(
+            &mut self.stubs,
+            self.bound,
+            &lease.component,
+            &mut lease.tray,
+            &mut lease.out,
+            &mut lease.copies,
+        );
+        lease.out = Bag::new();
+        lease.copies = Copies::new();
+        self.bound
+    }
+}
