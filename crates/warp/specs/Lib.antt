@@ -1,4 +1,6 @@
 pub mod Answers
+pub mod First
+pub mod Gathered
 pub mod Reading
 pub mod Reports
 pub mod Tables

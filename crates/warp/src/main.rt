@@ -1,6 +1,8 @@
 //! The program `warp`.
 #![tactic(auto)]
 
+mod exchanged;
+pub mod fault;
 pub mod files;
 pub mod first;
 pub mod machine;

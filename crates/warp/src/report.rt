@@ -13,7 +13,8 @@ pub enum Report {
     Done,
     /// A file was refused, with the refusal's number and its place, where it has one.
     Refused(u8, Option<usize>),
-    /// A run fault, or a file that couldn't be read: 1 for want of memory, 63 and 64 for files.
+    /// A run fault, or a file that couldn't be read: 1 for want of memory, 40 and 41 for a refused lease, 60 for a failed write, 63 and 64
+    /// for files.
     Fault(u8),
     /// The words aren't those of the program.
     Misused,
@@ -47,12 +48,14 @@ impl Report {
     }
 }
 
-/// The report of a refusal: want of memory is a fault.
+/// The report of a refusal: want of memory and what befalls a run, from 40 on, are faults.
 pub fn report_of<R: Refusal>(refusal: &R) -> Report
     ensures { result ≡ report_of (R.number_of refusal.now) (R.place_of refusal.now) }
 {
-    if refusal.number() == 1 {
-        return Report::Fault(1);
+    let number = refusal.number();
+    if number == 1 || number >= 40 {
+        Report::Fault(number)
+    } else {
+        Report::Refused(number, refusal.place())
     }
-    Report::Refused(refusal.number(), refusal.place())
 }

@@ -1,7 +1,9 @@
 //! The words of the command line, served.
 ghost use Rattle.std.specs.Prelude.{◌≡◌, ◌≤◌, IfOk, IfErr, length, map, string_bytes};
 ghost use Rattle.warp.specs.declared.report.Report.{Report};
-ghost use Rattle.warp.specs.Reports.{status_of, IsReport, IsReportOn, IsFault, most_bytes};
+ghost use Rattle.std.specs.Io.KnownBytes.{Appends};
+ghost use Rattle.trace.specs.Counts.{writer_of};
+ghost use Rattle.warp.specs.Reports.{status_of, IsReport, IsReportOn, IsFileFault, most_bytes};
 
 use crate::files::{FileFault, Files};
 use crate::first::first_run;
@@ -22,8 +24,7 @@ pub fn serve<F: Files, W: Write, E: Write>(
     out: &mut Counted<W>,
     err: &mut E,
 ) -> u8
-    ensures status { (report : Report) × (result ≡ status_of report) × IsReport (map string_bytes words.now) (F.has files.now) (F.lacks files.now) report }
-    ensures untouched { out.new ≡ out.old }
+    ensures status { (report : Report) × (result ≡ status_of report) × IsReport (map string_bytes words.now) (F.has files.now) (F.lacks files.now) (out.new ≡ out.old) (Appends (W.contents (writer_of out.old)) (W.contents (writer_of out.new))) report }
 {
     let report = answer(alloc, words, files, out);
     let _ = report.tell(err);
@@ -36,8 +37,7 @@ fn answer<F: Files, W: Write>(
     files: &F,
     out: &mut Counted<W>,
 ) -> Report
-    ensures report { IsReport (map string_bytes words.now) (F.has files.now) (F.lacks files.now) result }
-    ensures untouched { out.new ≡ out.old }
+    ensures report { IsReport (map string_bytes words.now) (F.has files.now) (F.lacks files.now) (out.new ≡ out.old) (Appends (W.contents (writer_of out.old)) (W.contents (writer_of out.new))) result }
 {
     match words {
         [first, name] if first.as_str() == "first" => judge(alloc, name.as_str(), files, out),
@@ -46,8 +46,7 @@ fn answer<F: Files, W: Write>(
 }
 
 fn judge<F: Files, W: Write>(alloc: Global, name: &str, files: &F, out: &mut Counted<W>) -> Report
-    ensures report { IsReportOn (F.has files.now name.now) (F.lacks files.now name.now) result }
-    ensures untouched { out.new ≡ out.old }
+    ensures report { IsReportOn (F.has files.now name.now) (F.lacks files.now name.now) (out.new ≡ out.old) (Appends (W.contents (writer_of out.old)) (W.contents (writer_of out.new))) result }
 {
     let table = match read_whole(alloc, name, files) {
         Ok(table) => table,
@@ -62,7 +61,7 @@ fn judge<F: Files, W: Write>(alloc: Global, name: &str, files: &F, out: &mut Cou
 // All of a file, or the number of the fault.
 fn read_whole<F: Files>(alloc: Global, name: &str, files: &F) -> Result<Vec<u8>, u8>
     ensures ok { IfOk result (λ bytes. F.has files.now name.now bytes.items × (length bytes.items ≤ most_bytes)) }
-    ensures err { IfErr result (λ number. IsFault (F.has files.now name.now) (F.lacks files.now name.now) number) }
+    ensures err { IfErr result (λ number. IsFileFault (F.has files.now name.now) (F.lacks files.now name.now) number) }
 {
     match files.read(alloc, name, MOST_BYTES + 1) {
         Ok(bytes) if bytes.len() as u64 <= MOST_BYTES => Ok(bytes),

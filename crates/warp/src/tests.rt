@@ -3,6 +3,7 @@
 use crate::files::{FileFault, Files};
 use crate::serve::serve;
 use std::alloc::Global;
+use std::io::{self, Write};
 use std::test::Fail;
 use trace::Counted;
 
@@ -38,26 +39,60 @@ fn words(alloc: Global, all: &[&str]) -> Result<Vec<String>, Fail> {
     Ok(words)
 }
 
+// A writer over memory that takes so many bytes in all.
+#[derive(Drop)]
+struct Narrow {
+    held: Vec<u8>,
+    room: usize,
+}
+
+impl Write for Narrow {
+    fn write(&mut self, buf: &[u8]) -> io::Result<usize> {
+        let count = buf.len().min(self.room);
+        self.held.extend_from_slice(&buf[..count])?;
+        self.room -= count;
+        Ok(count)
+    }
+
+    fn flush(&mut self) -> io::Result<()> {
+        Ok(())
+    }
+}
+
+const RING: &str = "0 2 0 0\n0 2 0 0\n1 1 0 0\n1 2 0 0\n";
+
 #[test]
-fn tables_are_judged(rt: HostRuntime) -> Result<(), Fail> {
+fn tables_are_run_or_refused(rt: HostRuntime) -> Result<(), Fail> {
     let alloc = rt.alloc();
     let rows = [
-        ("0 2 0 0\n0 2 0 0\n1 1 0 0\n1 2 0 0\n", "", 0u8),
-        ("0 1 0 0\n1 1 0 0", "", 0),
-        ("", "", 0),
-        ("1 0 0 0\n", "refused 27 at 1\n", 1),
-        ("1 1 1 0\n", "refused 28 at 1\n", 1),
-        ("0 1 0\n", "refused 29 at 1\n", 1),
-        ("2 1 0 0\n", "refused 30 at 1\n", 1),
-        ("0 1 0 0\n2 0 1 0\n1 0 0 0\n", "refused 27 at 2\n", 1),
-        ("2 0 1 0\n\n", "refused 29 at 2\n", 1),
+        (RING, 100, "1 1 0 idle\n", "", 0u8),
+        (RING, 11, "1 1 0 idle\n", "", 0),
+        (RING, 5, "1 1 0", "fault 60\n", 3),
+        (RING, 0, "", "fault 60\n", 3),
+        ("0 1 0 0\n1 1 0 0", 100, "", "", 0),
+        ("1 7 0 0\n", 100, "7 1 0 idle\n", "", 0),
+        ("1 1001 0 0\n", 100, "", "", 0),
+        ("", 100, "", "", 0),
+        ("1 0 0 0\n", 100, "", "refused 27 at 1\n", 1),
+        ("1 1 1 0\n", 100, "", "refused 28 at 1\n", 1),
+        ("0 1 0\n", 100, "", "refused 29 at 1\n", 1),
+        ("2 1 0 0\n", 100, "", "refused 30 at 1\n", 1),
+        (
+            "0 1 0 0\n2 0 1 0\n1 0 0 0\n",
+            100,
+            "",
+            "refused 27 at 2\n",
+            1,
+        ),
+        ("2 0 1 0\n\n", 100, "", "refused 29 at 2\n", 1),
     ];
-    for (table, said, status) in rows {
+    for (table, room, printed, said, status) in rows {
         let files = OneFile {
             name: "table",
             bytes: table.as_bytes(),
         };
-        let mut out = Counted::new(Vec::new(alloc));
+        let held = Vec::new(alloc);
+        let mut out = Counted::new(Narrow { held, room });
         let mut err = Vec::new(alloc);
         let ended = serve(
             alloc,
@@ -68,7 +103,11 @@ fn tables_are_judged(rt: HostRuntime) -> Result<(), Fail> {
         );
         assert_eq!(rt; ended, status, "{table}");
         assert_eq!(rt; err.as_slice(), said.as_bytes(), "{table}");
-        assert!(rt; out.into_inner().is_empty());
+        assert_eq!(rt;
+            out.into_inner().held.as_slice(),
+            printed.as_bytes(),
+            "{table}"
+        );
     }
     Ok(())
 }
