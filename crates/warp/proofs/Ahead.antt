@@ -1,12 +1,11 @@
 -- Component 1 after at most one entry from its start.
-use Rattle.std.proofs.Common.{◌≡◌, ℕ, zero, suc, ◌+◌, ◌<◌, ◌≤◌, Bool, true, false, cond, Option, None, Some, List, [], ◌∷◌, length, refl, ap, sym, subst, ◌∙◌, arith}
+use Rattle.std.proofs.Common.{◌≡◌, ℕ, ◌<◌, ◌≤◌, Bool, true, false, cond, Option, None, Some, List, [], ◌∷◌, length, ap, sym, subst, ◌∙◌, arith}
 use Rattle.std.specs.Prelude.{nat_lt}
 use Rattle.std.proofs.lemmas.Bool.{lt-ltb}
 use Rattle.terms.specs.Datum.{Datum}
 use Rattle.terms.specs.Named.{Named}
 use Rattle.event_keys.specs.declared.message.Sign.{Sign}
 use Rattle.event_keys.specs.declared.message.Sign.TheVariants.{Plus, Minus}
-use Rattle.event_keys.specs.declared.message.Signed.{Signed}
 use Rattle.virtual_time.specs.Entries.{Entry, Own, number}
 use Rattle.virtual_time.specs.Machine.{Machine, Lawful}
 use Rattle.virtual_time.specs.Records.{Record, Processes, after_entry, next_of, sent_all, sent_by}

@@ -1,9 +1,9 @@
 -- The chunk after the meetings: the reference's turns below the bound.
-use Rattle.std.proofs.Common.{◌≡◌, ℕ, zero, suc, ◌+◌, ◌<◌, ◌≤◌, Bool, true, false, cond, Option, None, Some, List, [], ◌∷◌, ◌++◌, length, refl, ap, sym, subst, ◌∙◌, arith, append-nil}
+use Rattle.std.proofs.Common.{◌≡◌, ℕ, zero, suc, ◌+◌, ◌<◌, ◌≤◌, Bool, true, false, cond, Option, None, Some, List, [], ◌∷◌, ◌++◌, length, refl, ap, sym, ◌∙◌, arith, append-nil}
 use Rattle.std.specs.Prelude.{nat_lt, ◌==◌, if◌then◌else◌}
 use Rattle.std.proofs.lemmas.Bool.{ltb-true, ltb-false}
 use Rattle.std.proofs.lemmas.Bool.Decides.{nat_tests}
-use Rattle.virtual_time.specs.Machine.{Machine, Lawful, HasCount}
+use Rattle.virtual_time.specs.Machine.{Machine, Lawful}
 use Rattle.virtual_time.specs.Reference.{Turn, IsReference, outcome_at, point, reference_below, turns_of}
 use Rattle.virtual_time.specs.Exchange.Meetings.{IsChunk}
 use Rattle.virtual_time.specs.Exchange.Stubs.{Exchange}

@@ -1,5 +1,5 @@
 -- What faults leave, and their reports.
-use Rattle.std.proofs.Common.{◌≡◌, ◌≢◌, ◌⊎◌, inl, inr, ℕ, ◌<◌, ◌≤◌, Option, None, Some, List, length, refl, arith, take}
+use Rattle.std.proofs.Common.{◌≢◌, inl, inr, ℕ, ◌<◌, ◌≤◌, List, length, refl, arith, take}
 use Rattle.std.specs.Prelude.{Result, Ok, Err, OnOk, IfErr}
 use Rattle.task_seed.specs.declared.table.ReadTableError.TheVariants.{NoMemory as NoTableMemory, BadTable}
 use Rattle.task_seed.specs.declared.table_turns.TableTurnsError.TheVariants.{NoMemory as NoTurnsMemory, GapOutOfRange, TaskOutOfRange, NoSuchComponent}
@@ -7,7 +7,6 @@ use Rattle.exchange.specs.declared.judging.MeetRefused.TheVariants.{OtherSetup, 
 use Rattle.trace.specs.declared.fault.WriteFault.TheVariants.{WriteFailed}
 use Rattle.warp.specs.declared.fault.FirstFault.{FirstFault}
 use Rattle.warp.specs.declared.fault.FirstFault.TheVariants.{NoMemory, Table, Turns, Meeting, Write}
-use Rattle.warp.specs.declared.report.Report.{Report}
 use Rattle.warp.specs.Answers.{first_number, first_place, IsLeft, IsRunFault, IsTableFault}
 use Rattle.warp.specs.First.{HasText}
 use Rattle.warp.specs.Reports.{IsReportOn, most_bytes, report_of}

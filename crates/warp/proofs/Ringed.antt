@@ -1,16 +1,14 @@
 -- The ring of two: component 1's first turn is idle, and the first keys as bounds.
-use Rattle.std.proofs.Common.{◌≡◌, ℕ, zero, suc, ◌^◌, Bool, true, false, Option, None, Some, List, length, refl, ap, sym, subst, ◌∙◌}
+use Rattle.std.proofs.Common.{◌≡◌, ℕ, zero, suc, ◌^◌, Bool, true, false, Option, None, Some, length, refl, ap, sym, subst, ◌∙◌}
 use Rattle.std.specs.Prelude.{nat_lt, ◌&&◌, if◌then◌else◌}
-use Rattle.terms.specs.Named.{Named}
 use Rattle.event_keys.specs.declared.key.Key.{Key}
 use Rattle.event_keys.specs.Ranks.{rank, rank_of_bound}
-use Rattle.compose.specs.Automata.{Instance}
 use Rattle.compose.specs.Outcomes.{outcome_of}
 use Rattle.compose.specs.Ring.{ring_of_two}
 use Rattle.compose.specs.Steps.{start_of}
 use Rattle.task_seed.specs.declared.turns.Turn.{Turn}
 use Rattle.task_seed.specs.Machines.{machine, turn_rank, end_rank, outcome_by}
-use Rattle.task_seed.specs.Turning.{System, has_turns, key_at, key_of, ticks, turn_in}
+use Rattle.task_seed.specs.Turning.{System, has_turns, key_at, ticks, turn_in}
 use Rattle.exchange.specs.Start.{bound_at, first_bound}
 
 idle_of : (task choice : ℕ) → outcome_of ring_of_two 1 task choice (start_of ring_of_two 1) ≡ None

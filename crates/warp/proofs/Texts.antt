@@ -1,6 +1,6 @@
 -- The text of the first turns.
-use Rattle.std.proofs.Common.{◌≡◌, ℕ, zero, suc, ◌+◌, ◌*◌, ◌<◌, ◌≤◌, ◌^◌, Bool, true, false, Option, None, Some, List, [], ◌∷◌, ◌++◌, length, map, refl, ap, sym, subst, ◌∙◌, arith, length-append}
-use Rattle.std.specs.Prelude.{nat_lt, ◌&&◌, if◌then◌else◌, codes, decimal, take, min, ◌-◌}
+use Rattle.std.proofs.Common.{◌≡◌, ℕ, ◌+◌, ◌*◌, ◌<◌, ◌≤◌, ◌^◌, Bool, true, false, Option, None, Some, List, [], ◌∷◌, ◌++◌, length, map, refl, ap, sym, subst, ◌∙◌, arith, length-append}
+use Rattle.std.specs.Prelude.{nat_lt, ◌&&◌, if◌then◌else◌, decimal, min, ◌-◌}
 use Rattle.std.proofs.lemmas.Bool.Decides.{nat_tests}
 use Rattle.std.proofs.lemmas.Fmt.{length-decimal-le}
 use Rattle.terms.specs.Named.{Named}
@@ -20,7 +20,7 @@ use Rattle.task_seed.specs.Turning.{System, has_turns, key_at, key_of, ticks}
 use Rattle.rollback.specs.Dropped.{turn_of}
 use Rattle.rollback.specs.Kept.{onto}
 use Rattle.exchange.specs.Shared.{turns_of}
-use Rattle.exchange.specs.Start.{bound_at, first_bound}
+use Rattle.exchange.specs.Start.{bound_at}
 use Rattle.trace.specs.declared.lines.Lines.TheVariants.{All}
 use Rattle.trace.specs.Lines.{key_text, line_of, outcome_text, text_of}
 use Rattle.warp.specs.First.{idle_line, text_before, text_of_first}

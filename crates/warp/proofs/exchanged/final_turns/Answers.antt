@@ -1,4 +1,4 @@
-use Rattle.std.proofs.Common.{◌≤◌, length, subst}
+use Rattle.std.proofs.Common.{length, subst}
 use Rattle.virtual_time.specs.Machine.{Lawful, HasCount}
 use Rattle.virtual_time.specs.Reference.{IsReference, reference_below}
 use Rattle.compose.specs.Plans.{composition}
