@@ -1,7 +1,7 @@
-use Rattle.std.proofs.Common.{rules, ap, ap₂, ◌≡◌, ◌∙◌, codes, IfOk, refl}
+use Rattle.std.proofs.Common.{rules, ap, ap₂, ◌≡◌, ◌∙◌, codes}
 use Rattle.clap.specs.Words.{App, app_of, with_rule, with_subcommand, new_app}
 use Rattle.std.proofs.lemmas.Result.{IfOk-weaker}
-use Rattle.command_line.specs.Words.{warp, file_rule, of_file, bare}
+use Rattle.command_line.specs.Words.{of_file, bare}
 use Rattle.command_line.proofs.described.Goals as goal
 
 pub returns : goal.returns
