@@ -1,0 +1,96 @@
+//! What is asked for, by hand.
+
+use crate::{Asked, Refused, read_words};
+use std::alloc::Global;
+use std::test::Fail;
+
+fn words(alloc: Global, all: &[&str]) -> Result<Vec<String>, Fail> {
+    let mut words = Vec::new(alloc);
+    for word in all {
+        words.push(String::from_str(alloc, word)?)?;
+    }
+    Ok(words)
+}
+
+// The status with which `clap` ends: 0 for help, 2 for wrong words.
+fn status_of(read: &Result<Asked, Refused>) -> Option<i32> {
+    match read {
+        Err(Refused::Help(error)) if !error.use_stderr() => Some(error.exit_code()),
+        Err(Refused::Words(error)) if error.use_stderr() => Some(error.exit_code()),
+        _ => None,
+    }
+}
+
+#[test]
+fn a_subcommand_and_its_file(rt: HostRuntime) -> Result<(), Fail> {
+    let alloc = rt.alloc();
+    let rows: [(&[&str], Asked); 4] = [
+        (&["print", "ring.ioa"], Asked::Print { source: "ring.ioa" }),
+        (&["print", "--", "-x"], Asked::Print { source: "-x" }),
+        (&["first", "a.table"], Asked::First { table: "a.table" }),
+        (&["first", ""], Asked::First { table: "" }),
+    ];
+    for (said, wanted) in rows {
+        let words = words(alloc, said)?;
+        match read_words(alloc, words.as_slice()) {
+            Ok(asked) => assert_eq!(rt; asked, wanted),
+            Err(_) => assert!(rt; false, "{wanted:?}"),
+        }
+    }
+    Ok(())
+}
+
+#[test]
+fn other_words_are_refused(rt: HostRuntime) -> Result<(), Fail> {
+    let alloc = rt.alloc();
+    let rows: [&[&str]; 11] = [
+        &[],
+        &["print"],
+        &["first"],
+        &["print", "a", "b"],
+        &["print", "-x"],
+        &["last", "a"],
+        &["Print", "a"],
+        &["--version"],
+        &["print", "--seed", "1", "a"],
+        &["print", "a", "first", "b"],
+        &["--", "print", "a"],
+    ];
+    for said in rows {
+        let words = words(alloc, said)?;
+        assert_eq!(rt; status_of(&read_words(alloc, words.as_slice())), Some(2));
+    }
+    Ok(())
+}
+
+#[test]
+fn calls_for_help(rt: HostRuntime) -> Result<(), Fail> {
+    let alloc = rt.alloc();
+    let rows: [&[&str]; 5] = [
+        &["--help"],
+        &["-h"],
+        &["help"],
+        &["print", "--help"],
+        &["help", "print"],
+    ];
+    for said in rows {
+        let words = words(alloc, said)?;
+        assert_eq!(rt; status_of(&read_words(alloc, words.as_slice())), Some(0));
+    }
+    Ok(())
+}
+
+#[test]
+fn the_texts(rt: HostRuntime) -> Result<(), Fail> {
+    let alloc = rt.alloc();
+    let help = words(alloc, &["--help"])?;
+    let Err(Refused::Help(error)) = read_words(alloc, help.as_slice()) else {
+        assert!(rt; false);
+        return Ok(());
+    };
+    let text = format!(in alloc; "{error}")?;
+    assert!(rt; text.as_str().contains("Usage: warp <COMMAND>"), "{text}");
+    assert!(rt; text.as_str().contains("print"), "{text}");
+    assert!(rt; !text.as_str().contains("first"), "{text}");
+    Ok(())
+}
