@@ -1,0 +1,11 @@
+//! The tokens of a source of composed I/O automata, and their layout: bytes become tokens with their places, and tokens
+//! become text.
+#![tactic(auto)]
+
+mod fault;
+mod token;
+mod word;
+
+pub use fault::TokensError;
+pub use token::{Kind, Token};
+pub use word::Word;
