@@ -35,3 +35,14 @@ is w (Num n) = false
 abbrev pub sees : Word → List Tok → Bool
 sees w [] = false
 sees w (k ∷ ks) = is w k
+
+-- a token, and the place of its first byte
+pub record Placed : Type 0 where
+  pub tok : Tok
+  pub at : ℕ
+
+abbrev pub placed_of : Token → Placed
+placed_of t = record { tok = tok_of t.kind; at = t.at }
+
+abbrev pub placed : List Token → List Placed
+placed ts = map placed_of ts

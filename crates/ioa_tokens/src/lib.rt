@@ -3,9 +3,16 @@
 #![tactic(auto)]
 
 mod fault;
+mod find;
+mod layout;
+mod page;
+mod reading;
+mod spelling;
 mod token;
 mod word;
 
 pub use fault::TokensError;
+pub use page::Page;
+pub use reading::tokens;
 pub use token::{Kind, Token};
 pub use word::Word;

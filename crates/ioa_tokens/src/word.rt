@@ -1,5 +1,4 @@
 //! The reserved words and the signs.
-
 /// A reserved word or a sign.
 #[derive(Clone, Copy, PartialEq, Eq, Debug)]
 pub enum Word {
@@ -77,3 +76,48 @@ pub enum Word {
     /// `*`
     Times,
 }
+
+/// The reserved words, by their text.
+pub(crate) const RESERVED: [(&str, Word); 41] = [
+    ("type", Word::Type),
+    ("enumeration", Word::Enumeration),
+    ("of", Word::Of),
+    ("automaton", Word::Automaton),
+    ("signature", Word::Signature),
+    ("input", Word::Input),
+    ("output", Word::Output),
+    ("internal", Word::Internal),
+    ("const", Word::Const),
+    ("states", Word::States),
+    ("transitions", Word::Transitions),
+    ("pre", Word::Pre),
+    ("eff", Word::Eff),
+    ("tasks", Word::Tasks),
+    ("components", Word::Components),
+    ("if", Word::If),
+    ("then", Word::Then),
+    ("elseif", Word::Elseif),
+    ("else", Word::Else),
+    ("fi", Word::Fi),
+    ("for", Word::For),
+    ("do", Word::Do),
+    ("od", Word::Od),
+    ("empty", Word::Empty),
+    ("fill", Word::Fill),
+    ("head", Word::Head),
+    ("tail", Word::Tail),
+    ("len", Word::Len),
+    ("append", Word::Append),
+    ("true", Word::True),
+    ("false", Word::False),
+    ("and", Word::And),
+    ("or", Word::Or),
+    ("not", Word::Not),
+    ("mod", Word::Mod),
+    ("Bool", Word::Bool),
+    ("Int", Word::Int),
+    ("Seq", Word::Seq),
+    ("Array", Word::Array),
+    ("idle", Word::Idle),
+    ("hidden", Word::Hidden),
+];

@@ -1,0 +1,30 @@
+-- Which bytes are ASCII.
+use Rattle.std.proofs.Common.{◌≡◌, ◌≤◌, ◌<◌, ℕ, zero, suc, List, [], ◌∷◌, length, Bool, true, false, not, arith, slice_index}
+use Rattle.std.specs.List.{list_all}
+use Rattle.std.specs.Str.{IsAscii, IsUtf8}
+use Rattle.std.proofs.lemmas.Bool.{and_parts, leb-false, not-true}
+use Rattle.std.proofs.lemmas.Bool.Decides.{nat_tests}
+use Rattle.std.proofs.lemmas.Str.{IsUtf8-from_ascii}
+use Rattle.ioa_tokens.specs.Bytes.{Text, is_digit, is_word_byte, is_blank, is_wide}
+use Rattle.ioa_tokens.proofs.Fronts.{all_mono}
+
+abbrev pub narrow : ℕ → Bool
+narrow b = not (is_wide b)
+
+pub word_is_narrow : (b : ℕ) → is_word_byte b ≡ true → narrow b ≡ true
+word_is_narrow b h = grind (arith, nat_tests)
+
+pub digit_is_narrow : (b : ℕ) → is_digit b ≡ true → narrow b ≡ true
+digit_is_narrow b h = grind (arith, nat_tests)
+
+pub blank_is_narrow : (b : ℕ) → is_blank b ≡ true → narrow b ≡ true
+blank_is_narrow b h = grind (arith, nat_tests)
+
+pub narrow_is_ascii : (bs : Text) → list_all narrow bs ≡ true → IsAscii bs
+narrow_is_ascii [] h i = omega arith
+narrow_is_ascii (b ∷ bs) h zero = leb-false 128 b (not-true (is_wide b) (and_parts (narrow b) (list_all narrow bs) h).0)
+narrow_is_ascii (b ∷ bs) h (suc i) = narrow_is_ascii bs (and_parts (narrow b) (list_all narrow bs) h).1 i
+
+-- what a word goes on with is text
+pub word_is_text : (bs : Text) → list_all is_word_byte bs ≡ true → IsUtf8 bs
+word_is_text bs h = IsUtf8-from_ascii bs (narrow_is_ascii bs (all_mono is_word_byte narrow word_is_narrow bs h))

@@ -1,0 +1,5 @@
+pub mod Ascii
+pub mod Cuts
+pub mod Fits
+pub mod Fronts
+pub mod Layouts
