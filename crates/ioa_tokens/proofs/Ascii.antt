@@ -1,11 +1,11 @@
 -- Which bytes are ASCII.
-use Rattle.std.proofs.Common.{◌≡◌, ◌≤◌, ◌<◌, ℕ, zero, suc, List, [], ◌∷◌, length, Bool, true, false, not, arith, slice_index}
+use Rattle.std.proofs.Common.{◌≡◌, ℕ, zero, suc, [], ◌∷◌, Bool, true, not, arith, inl, inr}
 use Rattle.std.specs.List.{list_all}
 use Rattle.std.specs.Str.{IsAscii, IsUtf8}
-use Rattle.std.proofs.lemmas.Bool.{and_parts, leb-false, not-true}
+use Rattle.std.proofs.lemmas.Bool.{cases_order, and_parts, leb-false, not-true}
 use Rattle.std.proofs.lemmas.Bool.Decides.{nat_tests}
 use Rattle.std.proofs.lemmas.Str.{IsUtf8-from_ascii}
-use Rattle.ioa_tokens.specs.Bytes.{Text, is_digit, is_word_byte, is_blank, is_wide}
+use Rattle.ioa_tokens.specs.Bytes.{Text, is_digit, is_word_byte, is_blank, is_wide, IsFirstWide}
 use Rattle.ioa_tokens.proofs.Fronts.{all_mono}
 
 abbrev pub narrow : ℕ → Bool
@@ -28,3 +28,15 @@ narrow_is_ascii (b ∷ bs) h (suc i) = narrow_is_ascii bs (and_parts (narrow b) 
 -- what a word goes on with is text
 pub word_is_text : (bs : Text) → list_all is_word_byte bs ≡ true → IsUtf8 bs
 word_is_text bs h = IsUtf8-from_ascii bs (narrow_is_ascii bs (all_mono is_word_byte narrow word_is_narrow bs h))
+
+pub ascii_or_wide : (source : Text) (at : ℕ) → IsAscii source → IsFirstWide source at → ⊥
+ascii_or_wide source at h k = omega (arith, h at, k.1)
+
+pub wide_once : (source : Text) (at other : ℕ) → IsFirstWide source at → IsFirstWide source other → at ≡ other
+wide_once source at other h k = elim (cases_order at other) [
+  | inl same ↦ same
+  | inr apart ↦ elim apart [
+    | inl less ↦ absurd (omega (arith, k.2 at less, h.1))
+    | inr more ↦ absurd (omega (arith, h.2 other more, k.1))
+  ]
+]

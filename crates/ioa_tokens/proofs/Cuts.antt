@@ -1,12 +1,11 @@
 -- Cutting a source piece by piece.
-use Rattle.std.proofs.Common.{◌≡◌, ◌≢◌, ◌≤◌, ◌<◌, ◌+◌, ◌-◌, ℕ, zero, suc, List, [], ◌∷◌, ◌++◌, length, take, drop, Option, Some, None, Bool, true, false, refl, sym, ◌∙◌, ap, subst, arith, ◌⊎◌, inl, inr, append_assoc, append-nil, length-append, length-drop, slice_index}
+use Rattle.std.proofs.Common.{◌≡◌, ◌≤◌, ◌<◌, ◌+◌, ℕ, List, [], ◌∷◌, ◌++◌, length, take, drop, Some, None, true, refl, sym, ◌∙◌, ap, subst, arith, ◌⊎◌, inl, inr, append_assoc, append-nil, length-append, length-drop}
 use Rattle.std.proofs.lemmas.List.{take_at, drop_at, take-append-drop, drop-drop, drop_all, length-take-le}
 use Rattle.ioa_tokens.specs.Bytes.{Text}
-use Rattle.ioa_tokens.specs.Tokens.{Tok, Name, Num, Key, Placed}
-use Rattle.ioa_tokens.specs.Spelling.{IsToken}
+use Rattle.ioa_tokens.specs.Tokens.{Placed}
 use Rattle.ioa_tokens.specs.Cutting.{Piece, Blank, Comment, Mark, IsPiece, ends, Part, text_of, IsCut, keep, placed_from, IsTokens, IsBad, IsBadAt}
 use Rattle.ioa_tokens.specs.Finding.{Front, front, found}
-use Rattle.ioa_tokens.proofs.Fronts.{piece_found, front_sound, IsFront, found_piece, found_len}
+use Rattle.ioa_tokens.proofs.Fronts.{piece_found, front_sound, found_piece, found_len}
 
 -- the first bytes are cut into parts with these tokens
 pub record IsCutTo (source : Text) (at : ℕ) (tokens : List Placed) : Type 0 where

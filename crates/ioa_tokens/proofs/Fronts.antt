@@ -1,10 +1,10 @@
 -- What begins some bytes: the fold finds a piece exactly where one stands.
-use Rattle.std.proofs.Common.{◌≡◌, ◌≤◌, ◌<◌, ◌+◌, ◌-◌, ℕ, zero, suc, List, [], ◌∷◌, ◌++◌, length, take, drop, Option, Some, None, Bool, true, false, not, ◌&&◌, ◌||◌, refl, sym, ◌∙◌, ap, subst, arith, ◌⊎◌, inl, inr, map, slice_index}
-use Rattle.std.proofs.lemmas.Bool.{and_parts, and_from, both_ways, eqb-true, leb-true, or_cases, or_left, or_right, not-true, ltb-false, cases_Bool, le-ltb, le-leb}
+use Rattle.std.proofs.Common.{◌≡◌, ◌≤◌, ◌<◌, ◌+◌, ℕ, zero, suc, List, [], ◌∷◌, ◌++◌, length, take, drop, Option, Some, None, Bool, true, false, ◌&&◌, ◌||◌, refl, sym, ◌∙◌, ap, subst, arith, ◌⊎◌, inl, inr, map, slice_index}
+use Rattle.std.proofs.lemmas.Bool.{and_parts, and_from, both_ways, eqb-true, leb-true, or_left, or_right, not-true, ltb-false, cases_Bool, le-ltb, le-leb}
 use Rattle.std.proofs.lemmas.Bool.Decides.{nat_tests}
-use Rattle.std.proofs.lemmas.List.{take_at, drop_at, length-take-le}
+use Rattle.std.proofs.lemmas.List.{take_at, length-take-le}
 use Rattle.std.proofs.lemmas.List.Sums.{prefix_len-le-length}
-use Rattle.std.specs.Prelude.{◌==◌, nat_le, nat_lt, if◌then◌else◌, codes}
+use Rattle.std.specs.Prelude.{◌==◌, nat_le, nat_lt, if◌then◌else◌}
 use Rattle.std.specs.List.{prefix_len, list_all}
 use Rattle.std.specs.Str.{bytes_eq}
 use Rattle.std.proofs.lemmas.Slice.Eq.{bytes_eq-Decides}
@@ -12,9 +12,9 @@ use Rattle.ioa_tokens.specs.declared.word.TheConstants.{RESERVED}
 use Rattle.ioa_tokens.specs.declared.word.Word.{Word}
 use Rattle.ioa_tokens.specs.declared.word.Word.TheVariants as w
 use Rattle.ioa_tokens.specs.Bytes.{Text, is_letter, is_digit, is_word_byte, is_blank, is_in_line, value_of, stops}
-use Rattle.ioa_tokens.specs.Tokens.{Tok, Name, Num, Key}
+use Rattle.ioa_tokens.specs.Tokens.{Name, Num, Key}
 use Rattle.ioa_tokens.specs.Spelling.{spelling, is_reserved, takes_equal, IsName, IsNumber, IsToken}
-use Rattle.ioa_tokens.specs.Cutting.{Piece, Blank, Comment, Mark, IsPiece, ends, goes_on}
+use Rattle.ioa_tokens.specs.Cutting.{Piece, Blank, Comment, Mark, IsPiece, ends}
 use Rattle.ioa_tokens.specs.Finding.{Front, front, reserved, lookup, number, word, word_or_name, sign, pair, single, of_pair, of_single, found}
 
 -- ---- runs of bytes

@@ -1,21 +1,21 @@
 -- A layout spells its tokens.
-use Rattle.std.proofs.Common.{◌≡◌, ◌≤◌, ◌<◌, ◌+◌, ◌-◌, ◌*◌, ◌^◌, ◌/◌, ◌%◌, ℕ, zero, suc, List, [], ◌∷◌, ◌++◌, length, length-append, map, Bool, true, false, not, ◌&&◌, ◌||◌, refl, sym, ◌∙◌, ap, subst, arith, ◌⊎◌, inl, inr, append_assoc, append-nil, slice_index, decimal}
+use Rattle.std.proofs.Common.{◌≡◌, ◌≤◌, ◌<◌, ◌+◌, ◌-◌, ◌*◌, ◌/◌, ◌%◌, ℕ, List, [], ◌∷◌, ◌++◌, length, length-append, map, Bool, true, false, ◌&&◌, ◌||◌, refl, sym, ◌∙◌, ap, subst, arith, inl, inr, append-nil, decimal}
 use Rattle.std.specs.Prelude.{◌==◌, if◌then◌else◌}
 use Rattle.std.specs.List.{list_all}
 use Rattle.std.specs.Str.{IsAscii}
-use Rattle.std.proofs.lemmas.Bool.{or_cases, or_left, or_right, and_parts, and_from, and_right, cond_both, leb-false, not-true}
+use Rattle.std.proofs.lemmas.Bool.{or_cases, or_left, or_right, and_parts, and_from, and_right, cond_both}
 use Rattle.std.proofs.lemmas.Bool.Decides.{nat_tests}
 use Rattle.std.proofs.lemmas.List.Folds.{list_all-append}
 use Rattle.std.proofs.lemmas.List.Sums.{fold_push}
 use Rattle.std.proofs.lemmas.Fmt.{decimal_by_steps}
 use Rattle.ioa_tokens.specs.declared.word.Word.{Word}
 use Rattle.ioa_tokens.specs.declared.word.Word.TheVariants as w
-use Rattle.ioa_tokens.specs.Bytes.{Text, is_digit, is_word_byte, is_blank, is_wide, value_of, stops}
+use Rattle.ioa_tokens.specs.Bytes.{Text, is_digit, is_word_byte, is_blank, value_of, stops}
 use Rattle.ioa_tokens.specs.Tokens.{Tok, Name, Num, Key, Placed}
 use Rattle.ioa_tokens.specs.Spelling.{spelling, is_reserved, takes_equal, IsNumber, IsToken, goes_on}
 use Rattle.ioa_tokens.specs.Cutting.{Piece, Blank, Comment, Mark, IsPiece, ends, Part, IsCut, keep, placed_from, IsTokens, IsBadAt}
 use Rattle.ioa_tokens.specs.Cutting as cutting
-use Rattle.ioa_tokens.specs.Layout.{begins_line, hugs_left, hugs_right, calls, is_tight, is_called, is_open, between, text_of, following, layout, IsProper, AreProper}
+use Rattle.ioa_tokens.specs.Layout.{begins_line, hugs_left, is_tight, is_called, is_open, between, text_of, following, layout, IsProper, AreProper}
 use Rattle.ioa_tokens.proofs.Fronts.{all_mono}
 use Rattle.ioa_tokens.proofs.Ascii.{narrow, word_is_narrow, digit_is_narrow, blank_is_narrow, narrow_is_ascii}
 use Rattle.ioa_tokens.proofs.Cuts.{tokens_once, tokens_or_bad}
@@ -402,11 +402,14 @@ layout_is_narrow (t ∷ ts) h = both_narrow (text_of t) (following t ts) (text_i
 pub layout_is_ascii : (ts : List Tok) → AreProper ts → IsAscii (layout ts)
 layout_is_ascii ts h = narrow_is_ascii (layout ts) (layout_is_narrow ts h)
 
-pub layout_is_cut : (ts : List Tok) → AreProper ts → IsTokens (layout ts) (placed_from 0 (parts_of ts))
+layout_is_cut : (ts : List Tok) → AreProper ts → IsTokens (layout ts) (placed_from 0 (parts_of ts))
 layout_is_cut ts h = record { parts = parts_of ts; whole = text_parts ts; cut = cut_parts ts h; kept = refl }
 
-pub layout_tokens : (ts : List Tok) → map (λ p. p.tok) (placed_from 0 (parts_of ts)) ≡ ts
+layout_tokens : (ts : List Tok) → map (λ p. p.tok) (placed_from 0 (parts_of ts)) ≡ ts
 layout_tokens ts = kept_marks 0 (parts_of ts) ∙ marks_of ts
+
+pub layout_is_spelled : (ts : List Tok) → AreProper ts → (placed : List Placed) × IsTokens (layout ts) placed × (map (λ p. p.tok) placed ≡ ts)
+layout_is_spelled ts h = (placed_from 0 (parts_of ts), layout_is_cut ts h, layout_tokens ts)
 
 -- whatever tokens a layout is read as, they are the ones that were laid out
 pub read_back : (ts : List Tok) (ps : List Placed) → AreProper ts → IsTokens (layout ts) ps → map (λ p. p.tok) ps ≡ ts

@@ -1,5 +1,7 @@
+pub mod Again
 pub mod Ascii
 pub mod Cuts
 pub mod Fits
 pub mod Fronts
 pub mod Layouts
+pub mod Longest

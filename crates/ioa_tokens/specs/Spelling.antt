@@ -1,5 +1,5 @@
 -- How tokens are spelled, and where they end.
-use Rattle.std.specs.Prelude.{◌≡◌, ◌≤◌, ◌<◌, ℕ, Bool, true, false, not, ◌&&◌, ◌||◌, ◌==◌, List, [], ◌∷◌, length, slice_index, codes, if◌then◌else◌}
+use Rattle.std.specs.Prelude.{◌≡◌, ◌≤◌, ◌<◌, ℕ, Bool, true, false, ◌&&◌, ◌==◌, length, slice_index, codes, if◌then◌else◌}
 use Rattle.std.specs.List.{list_all}
 use Rattle.ioa_tokens.specs.declared.word.Word.{Word}
 use Rattle.ioa_tokens.specs.declared.word.Word.TheVariants as w

@@ -4,6 +4,7 @@
 
 mod fault;
 mod find;
+pub mod laws;
 mod layout;
 mod page;
 mod reading;

@@ -1,8 +1,9 @@
 //! From bytes to tokens with their places.
-ghost use Rattle.std.specs.Prelude.{◌≡◌, ◌≤◌, ◌<◌, ◌+◌, ◌++◌, [], true, false, IfSome, IfNone, IfOk, IfErr, OnOk, length};
+ghost use Rattle.std.specs.Prelude.{◌≡◌, ◌≤◌, ◌<◌, ◌+◌, ◌++◌, [], true, false, IfSome, IfNone, IfOk, IfErr, OnOk, MatchResult, List, length};
 ghost use Rattle.std.specs.Str.{IsAscii};
 ghost use Rattle.ioa_tokens.specs.Bytes.{IsFirstWide};
-ghost use Rattle.ioa_tokens.specs.Tokens.{placed};
+ghost use Rattle.ioa_tokens.specs.Tokens.{Tok, placed, toks_of};
+ghost use Rattle.ioa_tokens.specs.Layout.{layout, AreProper};
 ghost use Rattle.ioa_tokens.specs.Cutting.{IsTokens, IsFault, keep};
 ghost use Rattle.ioa_tokens.specs.declared.fault.TokensError.TheVariants.{NoMemory};
 ghost use Rattle.ioa_tokens.specs.Seen.{piece_of};
@@ -35,12 +36,8 @@ fn keep_found<'a>(
     Ok(())
 }
 
-/// The tokens of a source, each with the place of its first byte. Between them stand blanks (space, tab, line feed,
-/// carriage return) and comments, from `%` up to a line feed.
-///
-/// Refused are a byte of 128 or more, also in a comment, and else the first place at which neither a blank nor a comment
-/// nor a token begins: a number over 9223372036854775807 or with a letter or `_` directly after it, or any other byte.
-pub fn tokens<'a>(alloc: Global, source: &'a [u8]) -> Result<Vec<Token<'a>>, TokensError>
+// The tokens, piece by piece.
+fn cut_source<'a>(alloc: Global, source: &'a [u8]) -> Result<Vec<Token<'a>>, TokensError>
     ensures ok { IfOk result (λ ts. IsAscii source.now × IsTokens source.now (placed ts.items)) }
     ensures err { IfErr result (λ e. IsFault source.now e) }
 {
@@ -58,4 +55,19 @@ pub fn tokens<'a>(alloc: Global, source: &'a [u8]) -> Result<Vec<Token<'a>>, Tok
         at += len;
     }
     Ok(found)
+}
+
+/// The tokens of a source, each with the place of its first byte. Between them stand blanks (space, tab, line feed,
+/// carriage return) and comments, from `%` up to a line feed.
+///
+/// Refused are a byte of 128 or more, also in a comment, and else the first place at which neither a blank nor a comment
+/// nor a token begins: a number over 9223372036854775807 or with a letter or `_` directly after it, or any other byte.
+/// What a page has laid out is read as the tokens that were put on it.
+pub fn tokens<'a>(alloc: Global, source: &'a [u8]) -> Result<Vec<Token<'a>>, TokensError>
+    ensures ok { IfOk result (λ ts. IsAscii source.now × IsTokens source.now (placed ts.items)) }
+    ensures err { IfErr result (λ e. IsFault source.now e) }
+    ensures again { (toks : List Tok) → AreProper toks → source.now ≡ layout toks
+        → MatchResult result (λ ts. toks_of ts.items ≡ toks) (λ e. e ≡ NoMemory) }
+{
+    cut_source(alloc, source)
 }

@@ -1,7 +1,7 @@
 use Rattle.std.proofs.Common.{◌≤◌, ◌-◌, length}
 use Rattle.ioa_tokens.specs.Tokens.{placed}
 use Rattle.ioa_tokens.proofs.Cuts.{IsCutTo}
-use Rattle.ioa_tokens.proofs.reading.tokens.Given as goal
+use Rattle.ioa_tokens.proofs.reading.cut_source.Given as goal
 
 abbrev pub invariant-loop-at : goal.invariant-loop-at
 invariant-loop-at l = record {
