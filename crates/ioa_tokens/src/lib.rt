@@ -17,3 +17,6 @@ pub use page::Page;
 pub use reading::tokens;
 pub use token::{Kind, Token};
 pub use word::Word;
+
+#[cfg(test)]
+mod tests;
