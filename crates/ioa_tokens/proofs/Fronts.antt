@@ -1,6 +1,6 @@
 -- What begins some bytes: the fold finds a piece exactly where one stands.
 use Rattle.std.proofs.Common.{◌≡◌, ◌≤◌, ◌<◌, ◌+◌, ℕ, zero, suc, List, [], ◌∷◌, ◌++◌, length, take, drop, Option, Some, None, Bool, true, false, ◌&&◌, ◌||◌, refl, sym, ◌∙◌, ap, subst, arith, ◌⊎◌, inl, inr, map, slice_index}
-use Rattle.std.proofs.lemmas.Bool.{and_parts, and_from, both_ways, eqb-true, leb-true, or_left, or_right, not-true, ltb-false, cases_Bool, le-ltb, le-leb}
+use Rattle.std.proofs.lemmas.Bool.{cond_both, and_parts, and_from, both_ways, eqb-true, leb-true, or_left, or_right, not-true, ltb-false, cases_Bool, le-ltb, le-leb}
 use Rattle.std.proofs.lemmas.Bool.Decides.{nat_tests}
 use Rattle.std.proofs.lemmas.List.{take_at, length-take-le}
 use Rattle.std.proofs.lemmas.List.Sums.{prefix_len-le-length}
@@ -8,14 +8,13 @@ use Rattle.std.specs.Prelude.{◌==◌, nat_le, nat_lt, if◌then◌else◌}
 use Rattle.std.specs.List.{prefix_len, list_all}
 use Rattle.std.specs.Str.{bytes_eq}
 use Rattle.std.proofs.lemmas.Slice.Eq.{bytes_eq-Decides}
-use Rattle.ioa_tokens.specs.declared.word.TheConstants.{RESERVED}
 use Rattle.ioa_tokens.specs.declared.word.Word.{Word}
 use Rattle.ioa_tokens.specs.declared.word.Word.TheVariants as w
 use Rattle.ioa_tokens.specs.Bytes.{Text, is_letter, is_digit, is_word_byte, is_blank, is_in_line, value_of, stops}
 use Rattle.ioa_tokens.specs.Tokens.{Name, Num, Key}
 use Rattle.ioa_tokens.specs.Spelling.{spelling, is_reserved, takes_equal, IsName, IsNumber, IsToken}
 use Rattle.ioa_tokens.specs.Cutting.{Piece, Blank, Comment, Mark, IsPiece, ends}
-use Rattle.ioa_tokens.specs.Finding.{Front, front, reserved, lookup, number, word, word_or_name, sign, pair, single, of_pair, of_single, found}
+use Rattle.ioa_tokens.specs.Finding.{words_of, two, three, four, five, six, eight, nine, ten, eleven, Front, front, reserved, lookup, number, word, word_or_name, sign, pair, single, of_pair, of_single, found}
 
 -- ---- runs of bytes
 
@@ -163,13 +162,23 @@ lookup_sound (k ∷ ks) text v h e = elim (split (bytes_eq k.0 text) (Some k.1) 
   | inr p ↦ lookup_sound ks text v h.1 p.1
 ]
 
-are_spelled : AreSpelled (map (λ k. (k.0.now, k.1)) RESERVED)
+are_spelled : (len : ℕ) → AreSpelled (words_of len)
 unfolding AreSpelled
-are_spelled = (refl, (refl, (refl, (refl, (refl, (refl, (refl, (refl, (refl, (refl, (refl, (refl, (refl, (refl, (refl, (refl, (refl, (refl, (refl, (refl, (refl, (refl, (refl, (refl, (refl, (refl, (refl, (refl, (refl, (refl, (refl, (refl, (refl, (refl, (refl, (refl, (refl, (refl, (refl, (refl, (refl, tt)))))))))))))))))))))))))))))))))))))))))
+are_spelled len =
+    cond_both (len == 2) two (if len == 3 then three else (if len == 4 then four else (if len == 5 then five else (if len == 6 then six else (if len == 8 then eight else (if len == 9 then nine else (if len == 10 then ten else (if len == 11 then eleven else [])))))))) AreSpelled (λ _. (refl, (refl, (refl, (refl, (refl, (refl, tt))))))) (λ _.
+    cond_both (len == 3) three (if len == 4 then four else (if len == 5 then five else (if len == 6 then six else (if len == 8 then eight else (if len == 9 then nine else (if len == 10 then ten else (if len == 11 then eleven else []))))))) AreSpelled (λ _. (refl, (refl, (refl, (refl, (refl, (refl, (refl, (refl, (refl, tt)))))))))) (λ _.
+    cond_both (len == 4) four (if len == 5 then five else (if len == 6 then six else (if len == 8 then eight else (if len == 9 then nine else (if len == 10 then ten else (if len == 11 then eleven else [])))))) AreSpelled (λ _. (refl, (refl, (refl, (refl, (refl, (refl, (refl, (refl, (refl, tt)))))))))) (λ _.
+    cond_both (len == 5) five (if len == 6 then six else (if len == 8 then eight else (if len == 9 then nine else (if len == 10 then ten else (if len == 11 then eleven else []))))) AreSpelled (λ _. (refl, (refl, (refl, (refl, (refl, (refl, tt))))))) (λ _.
+    cond_both (len == 6) six (if len == 8 then eight else (if len == 9 then nine else (if len == 10 then ten else (if len == 11 then eleven else [])))) AreSpelled (λ _. (refl, (refl, (refl, (refl, (refl, tt)))))) (λ _.
+    cond_both (len == 8) eight (if len == 9 then nine else (if len == 10 then ten else (if len == 11 then eleven else []))) AreSpelled (λ _. (refl, tt)) (λ _.
+    cond_both (len == 9) nine (if len == 10 then ten else (if len == 11 then eleven else [])) AreSpelled (λ _. (refl, (refl, tt))) (λ _.
+    cond_both (len == 10) ten (if len == 11 then eleven else []) AreSpelled (λ _. (refl, tt)) (λ _.
+    cond_both (len == 11) eleven [] AreSpelled (λ _. (refl, (refl, tt))) (λ _.
+    tt)))))))))
 
 pub reserved_sound : (text : Text) (v : Word) → reserved text ≡ Some v → spelling v ≡ text
 unfolding reserved
-reserved_sound text v e = lookup_sound (map (λ k. (k.0.now, k.1)) RESERVED) text v are_spelled e
+reserved_sound text v e = lookup_sound (words_of (length text)) text v (are_spelled (length text)) e
 
 -- ---- where a piece stands, it is found
 

@@ -1,10 +1,10 @@
 -- The piece that begins some bytes, found from their front.
-use Rattle.std.specs.Prelude.{ℕ, ◌&&◌, ◌==◌, nat_le, nat_lt, if◌then◌else◌, List, [], ◌∷◌, take, map, slice_index, Option, Some, None}
+use Rattle.std.specs.Prelude.{ℕ, ◌&&◌, ◌==◌, nat_le, nat_lt, if◌then◌else◌, List, [], ◌∷◌, take, map, length, slice_index, Option, Some, None}
 use Rattle.std.specs.List.{prefix_len}
 use Rattle.std.specs.Str.{bytes_eq}
 use Rattle.ioa_tokens.specs.declared.word.Word.{Word}
 use Rattle.ioa_tokens.specs.declared.word.Word.TheVariants as w
-use Rattle.ioa_tokens.specs.declared.word.TheConstants.{RESERVED}
+use Rattle.ioa_tokens.specs.declared.reserved.TheConstants.{TWO, THREE, FOUR, FIVE, SIX, EIGHT, NINE, TEN, ELEVEN}
 use Rattle.ioa_tokens.specs.Bytes.{Text, is_letter, is_digit, is_word_byte, is_blank, is_in_line, value_of}
 use Rattle.ioa_tokens.specs.Tokens.{Tok, Name, Num, Key}
 use Rattle.ioa_tokens.specs.Cutting.{Piece, Blank, Comment, Mark}
@@ -13,8 +13,49 @@ abbrev pub lookup : List (Text × Word) → Text → Option Word
 lookup [] text = None
 lookup (k ∷ ks) text = if bytes_eq k.0 text then Some k.1 else lookup ks text
 
+-- the reserved words of each length, by their texts
+abbrev pub two : List (Text × Word)
+two = map (λ k. (k.0.now, k.1)) TWO
+
+abbrev pub three : List (Text × Word)
+three = map (λ k. (k.0.now, k.1)) THREE
+
+abbrev pub four : List (Text × Word)
+four = map (λ k. (k.0.now, k.1)) FOUR
+
+abbrev pub five : List (Text × Word)
+five = map (λ k. (k.0.now, k.1)) FIVE
+
+abbrev pub six : List (Text × Word)
+six = map (λ k. (k.0.now, k.1)) SIX
+
+abbrev pub eight : List (Text × Word)
+eight = map (λ k. (k.0.now, k.1)) EIGHT
+
+abbrev pub nine : List (Text × Word)
+nine = map (λ k. (k.0.now, k.1)) NINE
+
+abbrev pub ten : List (Text × Word)
+ten = map (λ k. (k.0.now, k.1)) TEN
+
+abbrev pub eleven : List (Text × Word)
+eleven = map (λ k. (k.0.now, k.1)) ELEVEN
+
+abbrev pub words_of : ℕ → List (Text × Word)
+words_of len =
+    if len == 2 then two
+    else (if len == 3 then three
+    else (if len == 4 then four
+    else (if len == 5 then five
+    else (if len == 6 then six
+    else (if len == 8 then eight
+    else (if len == 9 then nine
+    else (if len == 10 then ten
+    else (if len == 11 then eleven
+    else []))))))))
+
 unfoldable pub reserved : Text → Option Word
-reserved = lookup (map (λ k. (k.0.now, k.1)) RESERVED)
+reserved text = lookup (words_of (length text)) text
 
 abbrev pub word_or_name : Option Word → Text → Tok
 word_or_name (Some w) text = Key w

@@ -6,7 +6,7 @@ ghost use Rattle.ioa_tokens.specs.Tokens.{tok_of};
 ghost use Rattle.ioa_tokens.specs.Finding.{front, number, sign, pair, single, word, reserved, word_or_name};
 ghost use Rattle.ioa_tokens.specs.Seen.{seen};
 
-use crate::spelling::reserved;
+use crate::reserved::reserved;
 use crate::token::Kind;
 use crate::word::Word;
 use std::str;

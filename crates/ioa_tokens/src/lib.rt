@@ -8,6 +8,7 @@ pub mod laws;
 mod layout;
 mod page;
 mod reading;
+mod reserved;
 mod spelling;
 mod token;
 mod word;

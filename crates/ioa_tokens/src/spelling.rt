@@ -1,9 +1,8 @@
 //! How reserved words and signs are written.
-ghost use Rattle.std.specs.Prelude.{◌≡◌, map};
+ghost use Rattle.std.specs.Prelude.{◌≡◌};
 ghost use Rattle.ioa_tokens.specs.Spelling.{spelling};
-ghost use Rattle.ioa_tokens.specs.Finding.{lookup, reserved};
 
-use crate::word::{RESERVED, Word};
+use crate::word::Word;
 
 /// The text of a reserved word or a sign, as a source has it.
 pub fn spelling(word: Word) -> &'static str
@@ -72,24 +71,4 @@ pub fn spelling(word: Word) -> &'static str
         Word::Minus => "-",
         Word::Times => "*",
     }
-}
-
-fn lookup(mut table: &[(&str, Word)], text: &str) -> Option<Word>
-    ensures { result ≡ lookup (map (λ k. (k.0.now, k.1)) table.entry.now) text.now }
-{
-    while let [entry, rest @ ..] = table {
-        if entry.0 == text {
-            return Some(entry.1);
-        }
-        table = rest;
-    }
-    None
-}
-
-// The reserved word that the text is.
-#[tactic(auto, unfolding(crate::specs::Finding::reserved))]
-pub(crate) fn reserved(text: &str) -> Option<Word>
-    ensures { result ≡ reserved text.now }
-{
-    lookup(&RESERVED, text)
 }
