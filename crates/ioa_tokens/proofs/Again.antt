@@ -9,6 +9,7 @@ use Rattle.ioa_tokens.specs.Tokens.{Tok, tok_of, placed, toks_of}
 use Rattle.ioa_tokens.specs.Cutting.{IsTokens, IsFault}
 use Rattle.ioa_tokens.specs.Layout.{layout, AreProper}
 use Rattle.ioa_tokens.proofs.Ascii.{ascii_or_wide}
+use Rattle.ioa_tokens.proofs.Proper.{read_proper}
 use Rattle.ioa_tokens.proofs.Layouts.{layout_is_ascii, read_back, layout_is_not_bad}
 
 toks_placed : (ts : List Token) → map (λ p. p.tok) (placed ts) ≡ toks_of ts
@@ -27,3 +28,8 @@ pub again : {Y : Type 0} (items : Y → List Token) (source : Text) (r : Result 
     → (toks : List Tok) → AreProper toks → source ≡ layout toks → MatchResult r (λ ts. toks_of (items ts) ≡ toks) (λ e. e ≡ fault.NoMemory)
 again items source (Ok ts) h k toks p e = toks_again source (items ts) toks p e h.1
 again items source (Err f) h k toks p e = no_fault source f toks p e k
+
+pub proper : {Y : Type 0} (items : Y → List Token) (source : Text) (r : Result Y TokensError) → IfOk r (λ ts. IsAscii source × IsTokens source (placed (items ts)))
+    → IfOk r (λ ts. AreProper (toks_of (items ts)))
+proper items source (Ok ts) h = subst (λ us. AreProper us) (toks_placed (items ts)) (read_proper source (placed (items ts)) h.1)
+proper items source (Err f) h = tt

@@ -5,3 +5,4 @@ pub mod Fits
 pub mod Fronts
 pub mod Layouts
 pub mod Longest
+pub mod Proper

@@ -32,3 +32,10 @@ pub fn read_back_law()
     ensures spelled { (ts : List Tok) → AreProper ts → (placed : List Placed) × IsTokens (layout ts) placed × (map (λ p. p.tok) placed ≡ ts) }
     ensures same { (ts : List Tok) (placed : List Placed) → AreProper ts → IsTokens (layout ts) placed → map (λ p. p.tok) placed ≡ ts }
 {}
+
+/// The tokens of a source are proper, and lists of proper tokens go together and apart.
+pub fn proper_law()
+    ensures read { (source : Text) (ts : List Placed) → IsTokens source ts → AreProper (map (λ p. p.tok) ts) }
+    ensures together { (ts us : List Tok) → AreProper ts → AreProper us → AreProper (ts ++ us) }
+    ensures apart { (ts us : List Tok) → AreProper (ts ++ us) → AreProper ts × AreProper us }
+{}

@@ -66,6 +66,7 @@ fn cut_source<'a>(alloc: Global, source: &'a [u8]) -> Result<Vec<Token<'a>>, Tok
 pub fn tokens<'a>(alloc: Global, source: &'a [u8]) -> Result<Vec<Token<'a>>, TokensError>
     ensures ok { IfOk result (λ ts. IsAscii source.now × IsTokens source.now (placed ts.items)) }
     ensures err { IfErr result (λ e. IsFault source.now e) }
+    ensures proper { IfOk result (λ ts. AreProper (toks_of ts.items)) }
     ensures again { (toks : List Tok) → AreProper toks → source.now ≡ layout toks
         → MatchResult result (λ ts. toks_of ts.items ≡ toks) (λ e. e ≡ NoMemory) }
 {
