@@ -1,6 +1,7 @@
 -- Cutting a source piece by piece.
-use Rattle.std.proofs.Common.{◌≡◌, ◌≤◌, ◌<◌, ◌+◌, ℕ, List, [], ◌∷◌, ◌++◌, length, take, drop, Some, None, true, refl, sym, ◌∙◌, ap, subst, arith, ◌⊎◌, inl, inr, append_assoc, append-nil, length-append, length-drop}
+use Rattle.std.proofs.Common.{suc, zero, ◌≡◌, ◌≤◌, ◌<◌, ◌+◌, ℕ, List, [], ◌∷◌, ◌++◌, length, take, drop, Some, None, true, refl, sym, ◌∙◌, ap, subst, arith, ◌⊎◌, inl, inr, append_assoc, append-nil, length-append, length-drop}
 use Rattle.std.proofs.lemmas.List.{take_at, drop_at, take-append-drop, drop-drop, drop_all, length-take-le}
+use Rattle.std.proofs.lemmas.Bool.{cases_lt}
 use Rattle.ioa_tokens.specs.Bytes.{Text}
 use Rattle.ioa_tokens.specs.Tokens.{Placed}
 use Rattle.ioa_tokens.specs.Cutting.{Piece, Blank, Comment, Mark, IsPiece, ends, Part, text_of, IsCut, keep, placed_from, IsTokens, IsBad, IsBadAt}
@@ -154,3 +155,21 @@ pub bad_once : (source : Text) (at other : ℕ) → IsBadAt source at → IsBadA
 bad_once source at other h k =
     let same = same_cut h.parts k.parts h.rest k.rest h.cut k.cut (bad_is_none h.rest h.bad) (bad_is_none k.rest k.bad) (h.whole ∙ sym k.whole) in
     sym h.place ∙ ap (λ ps. length (text_of ps)) same.parts ∙ k.place
+
+-- ---- a source is cut to its end, or up to a bad place
+
+cut_on : (fuel : ℕ) (source : Text) (at : ℕ) (tokens : List Placed) → length source ≤ at + fuel → IsCutTo source at tokens
+    → ((ts : List Placed) × IsTokens source ts) ⊎ ((place : ℕ) × IsBadAt source place)
+cut_on zero source at tokens h cut = inl (tokens, all_cut source at tokens (omega arith) cut)
+cut_on (suc fuel) source at tokens h cut = elim (cases_lt at (length source)) [
+  | inr full ↦ inl (tokens, all_cut source at tokens full cut)
+  | inl small ↦ elim (front_cases (front (drop at source))) [
+    | inl none ↦ inr (at, stuck source at tokens small cut none)
+    | inr is ↦ (let sound = front_sound (drop at source) is.0 is.1 (omega (arith, length-drop at source)) is.2 in
+        let moves : 0 < is.1 = sound.some in
+        cut_on fuel source (at + is.1) (tokens ++ keep is.0 at []) (omega arith) (step source at tokens is.0 is.1 small cut is.2))
+  ]
+]
+
+pub tokens_or_place : (source : Text) → ((ts : List Placed) × IsTokens source ts) ⊎ ((place : ℕ) × IsBadAt source place)
+tokens_or_place source = cut_on (length source) source 0 [] (omega arith) (start source)

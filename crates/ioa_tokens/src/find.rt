@@ -175,6 +175,7 @@ fn sign(first: u8, second: u8) -> Option<(Found<'static>, usize)>
     }
 }
 
+// What begins the bytes, by its first byte.
 #[tactic(auto, unfolding(crate::specs::Finding::front))]
 fn found_at(bytes: &[u8]) -> Option<(Found<'_>, usize)>
     requires { 0 < length bytes.now }

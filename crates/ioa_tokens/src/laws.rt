@@ -1,6 +1,6 @@
 //! What holds of the definitions: a source has its tokens in one way, the longest token is taken, and a layout is read
 //! back as the tokens that were laid out.
-ghost use Rattle.std.specs.Prelude.{◌≡◌, ◌++◌, ◌∷◌, [], ℕ, List, map, true, false};
+ghost use Rattle.std.specs.Prelude.{◌≡◌, ◌⊎◌, ◌++◌, ◌∷◌, [], ℕ, List, map, true, false};
 ghost use Rattle.std.specs.Str.{IsAscii};
 ghost use Rattle.ioa_tokens.specs.declared.word.Word.{Word};
 ghost use Rattle.ioa_tokens.specs.Bytes.{Text, IsFirstWide};
@@ -9,12 +9,14 @@ ghost use Rattle.ioa_tokens.specs.Spelling.{spelling, is_reserved, IsToken, goes
 ghost use Rattle.ioa_tokens.specs.Cutting.{IsTokens, IsBadAt};
 ghost use Rattle.ioa_tokens.specs.Layout.{layout, AreProper};
 
-/// A source has one list of tokens, or one first bad place, and never both; and it is ASCII or has one first byte that
+/// A source has one list of tokens or one first bad place, and never both; and it is ASCII or has one first byte that
 /// isn't.
 pub fn one_reading_law()
+    ensures reading { (source : Text) → ((ts : List Placed) × IsTokens source ts) ⊎ ((at : ℕ) × IsBadAt source at) }
     ensures tokens { (source : Text) (ts us : List Placed) → IsTokens source ts → IsTokens source us → ts ≡ us }
     ensures apart { (source : Text) (ts : List Placed) (at : ℕ) → IsTokens source ts → IsBadAt source at → ⊥ }
     ensures bad { (source : Text) (at other : ℕ) → IsBadAt source at → IsBadAt source other → at ≡ other }
+    ensures bytes { (source : Text) → IsAscii source ⊎ ((at : ℕ) × IsFirstWide source at) }
     ensures ascii { (source : Text) (at : ℕ) → IsAscii source → IsFirstWide source at → ⊥ }
     ensures wide { (source : Text) (at other : ℕ) → IsFirstWide source at → IsFirstWide source other → at ≡ other }
 {}
