@@ -1,0 +1,15 @@
+pub mod Prefix
+pub mod Sound
+pub mod Spelled
+pub mod Viable
+pub mod Told
+pub mod Complete
+pub mod Words
+pub mod Moves
+pub mod Items
+pub mod Laws
+pub mod Rows
+pub mod Refused
+pub mod Printed
+pub mod Joins
+pub mod Heads

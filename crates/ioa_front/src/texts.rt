@@ -1,0 +1,32 @@
+//! What holds of the grammar: a text has one tree, a machine that goes over the tokens once reads exactly the texts, and where it
+//! stops, no text goes on.
+ghost use Rattle.std.specs.Prelude.{◌≡◌, ℕ, ◌+◌, Bool, true, false, List, ◌∷◌, ◌++◌, length};
+ghost use Rattle.ioa_tokens.specs.Tokens.{Tok};
+ghost use Rattle.ioa_front.specs.Nodes.{Node, source, yield};
+ghost use Rattle.ioa_front.specs.Grammar.{Is, IsText};
+ghost use Rattle.ioa_front.specs.Machine.{start, go, Read, Syntax, Deep};
+
+/// A text of the grammar has one tree.
+pub fn one_tree_law()
+    ensures { (limited : Bool) (n m : Node) → Is limited source 0 n → Is limited source 0 m → yield n ≡ yield m → n ≡ m }
+{}
+
+/// The machine reads a text of the grammar as its tree, and nothing else.
+pub fn machine_law()
+    ensures spelled { (limited : Bool) (ts : List Tok) (n : Node) → go limited start ts ≡ Read n → yield n ≡ ts }
+    ensures formed { (limited : Bool) (ts : List Tok) (n : Node) → go limited start ts ≡ Read n → Is limited source 0 n }
+    ensures read { (limited : Bool) (n : Node) → Is limited source 0 n → go limited start (yield n) ≡ Read n }
+{}
+
+/// The tokens before a refused one begin a text of the grammar, and no text goes on with it.
+pub fn syntax_law()
+    ensures begins { (pre ts : List Tok) → go true start (pre ++ ts) ≡ Syntax (length ts) → (more : List Tok) × IsText false (pre ++ more) }
+    ensures ends { (pre rest other : List Tok) (t : Tok) → go true start (pre ++ t ∷ rest) ≡ Syntax (length rest + 1) → IsText false (pre ++ t ∷ other) → ⊥ }
+    ensures short { (ts : List Tok) (n : ℕ) → go true start ts ≡ Syntax n → IsText false ts → ⊥ }
+{}
+
+/// A token that stands too deep goes on, with those before it, to a text of the grammar, and to none within the limit.
+pub fn depth_law()
+    ensures begins { (pre rest : List Tok) (t : Tok) → go true start (pre ++ t ∷ rest) ≡ Deep (length rest + 1) → (more : List Tok) × IsText false (pre ++ t ∷ more) }
+    ensures ends { (pre rest other : List Tok) (t : Tok) → go true start (pre ++ t ∷ rest) ≡ Deep (length rest + 1) → IsText true (pre ++ t ∷ other) → ⊥ }
+{}
