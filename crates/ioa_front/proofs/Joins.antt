@@ -14,6 +14,7 @@ use Rattle.ioa_front.specs.Spelling.{key, named, branch, parts, formal_node, for
 use Rattle.ioa_front.specs.Trees.{Bytes, PlainAutomaton}
 use Rattle.ioa_front.specs.Views.{view_automaton, view_component, view_declared, view_entry, view_transition, view_type_definition, view_variable}
 use Rattle.ioa_front.specs.Items.{listed}
+use Rattle.ioa_front.proofs.Items.{listed_push}
 use Rattle.ioa_front.specs.Lists.{entry_item, transition_item}
 use Rattle.ioa_front.specs.Blocks.{formal_item, formal_part_item, variable_item, variable_part_item, task_item, component_item, component_part_item, definition_item}
 
@@ -102,3 +103,8 @@ pub automata_push : (done : List Node) (all : List Automaton) (a : Automaton) (s
     → (done ++ automata_nodes (map view_automaton all) (string_bytes a.name)) ++ further_node (view_automaton a) s ∷ [] ≡ done ++ automata_nodes (map view_automaton (all ++ a ∷ [])) s
 automata_push done all a s h = append_assoc done (automata_nodes (map view_automaton all) (string_bytes a.name)) (further_node (view_automaton a) s ∷ [])
     ∙ ap (λ z. done ++ z) (sym (ap (λ z. automata_nodes z s) (map_pushed view_automaton all a) ∙ automata_plain (map view_automaton all) (view_automaton a) s (some_mapped all h)))
+
+pub components_push : (done : List Node) (all : List ComponentTree) (c : ComponentTree) → 0 < length all
+    → (done ++ (key w.Components ∷ listed component_item component_part_item all)) ++ component_part_item c ∷ [] ≡ done ++ (key w.Components ∷ listed component_item component_part_item (all ++ c ∷ []))
+components_push done all c h = append_assoc done (key w.Components ∷ listed component_item component_part_item all) (component_part_item c ∷ [])
+    ∙ ap (λ z. done ++ (key w.Components ∷ z)) (sym (listed_push component_item component_part_item all c h))

@@ -1,10 +1,15 @@
 -- Moves over lists of one rule.
-use Rattle.std.proofs.Common.{◌≡◌, ◌+◌, true, false, nat_lt, map, List, [], ◌∷◌, ◌++◌, append_assoc, length, Some, refl, sym, ◌∙◌, ap, cond, arith}
-use Rattle.ioa_tokens.specs.Tokens.{Tok}
-use Rattle.ioa_front.specs.Nodes.{Sort, Node}
+use Rattle.std.proofs.Common.{◌≡◌, ◌+◌, ◌==◌, suc, Bool, true, false, nat_lt, map, List, [], ◌∷◌, ◌++◌, append_assoc, length, Some, refl, sym, ◌∙◌, ap, subst, cond, arith}
+use Rattle.std.specs.Prelude.{Result, Ok, Err, IsErr}
+use Rattle.std.specs.Result.{IsErrAnd}
+use Rattle.ioa_tokens.specs.Tokens.{Tok, toks_of}
+use Rattle.ioa_tokens.specs.declared.Token.{Token}
+use Rattle.ioa_front.specs.declared.stop.Stop.{Stop}
+use Rattle.ioa_front.specs.Blocks.{Goes}
+use Rattle.ioa_front.specs.Nodes.{Sort, Node, source}
 use Rattle.ioa_front.specs.Grammar.{Part, many, outside}
-use Rattle.ioa_front.specs.Machine.{Frames, In, depth, descend_by, State, At, on, want, move, go, Syntax, Deep}
-use Rattle.ioa_front.specs.Reads.{front_starts}
+use Rattle.ioa_front.specs.Machine.{Frames, Bottom, Done, In, at, depth, descend_by, State, At, on, want, move, go, Syntax, Deep}
+use Rattle.ioa_front.specs.Reads.{Stops, front_starts}
 use Rattle.ioa_front.proofs.Told.{move_want}
 use Rattle.ioa_front.proofs.Moves.{low_depth, some_start}
 
@@ -34,3 +39,18 @@ some_push {A = A} f done xs x = append_assoc done (map f xs) (f x ∷ []) ∙ ap
     pushed : (xs : List A) → map f (xs ++ x ∷ []) ≡ map f xs ++ f x ∷ []
     pushed [] = refl
     pushed (y ∷ xs) = ap (λ z. f y ∷ z) (pushed xs)
+
+-- a reader stops where the one that it called does
+pub goes_stops : {Y : Type 0} (n : Y → List Node) (rest : Y → List Tok) (from to : List Part) (ts : List Tok) (r : Result Y Stop) (e : Stop) → IsErr r → IsErrAnd r (λ x. x ≡ e)
+    → ((done : List Node) → Stops e (go true (at source done from Bottom) ts)) → Goes n rest from to ts r
+goes_stops n rest from to ts (Ok y) e h same f = cc
+goes_stops n rest from to ts (Err x) e h same f = λ done. subst (λ z. Stops z (go true (at source done from Bottom) ts)) (sym same) (f done)
+
+-- what is left over behind a whole source
+pub left_over : (n : Node) (rest : List Token) (empty : Bool) → empty ≡ (length rest == 0) → empty ≡ false → go true (Done n) (toks_of rest) ≡ Syntax (length rest)
+left_over n [] empty e h = let a : true ≡ false = sym e ∙ h in cc
+left_over n (t ∷ rest) empty e h = ap (λ z. Syntax z) (omega (arith, counted rest))
+  where
+    counted : (rest : List Token) → length (toks_of rest) ≡ length rest
+    counted [] = refl
+    counted (t ∷ rest) = ap suc (counted rest)

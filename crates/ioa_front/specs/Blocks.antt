@@ -10,8 +10,8 @@ use Rattle.ioa_front.specs.declared.tree.TypeDefinition.{TypeDefinition}
 use Rattle.ioa_front.specs.declared.tree.Variable.{Variable}
 use Rattle.ioa_tokens.specs.declared.Word.TheVariants as w
 use Rattle.ioa_tokens.specs.Tokens.{Tok}
-use Rattle.ioa_front.specs.Nodes.{Sort, source, basic, further, formal, formal_part, states, variable, variable_part, tasks, transition, component, component_part, Node}
-use Rattle.ioa_front.specs.Grammar.{Part, token, name, word, one, maybe, many, outside, first, inside, after_signature}
+use Rattle.ioa_front.specs.Nodes.{Sort, source, type_definition, basic, further, formal, formal_part, states, variable, variable_part, tasks, transition, component, component_part, Node}
+use Rattle.ioa_front.specs.Grammar.{Part, token, name, word, one, maybe, many, outside, first, inside, after_signature, definition_parts, whole}
 use Rattle.ioa_front.specs.Machine.{Frames, Bottom, In, depth, at, want, go}
 use Rattle.ioa_front.specs.Spelling.{key, named, branch, parts, formal_node, formals_nodes, variable_node, task_node, basic_node, component_node, type_definition_node}
 use Rattle.ioa_front.specs.Trees.{PlainDeclared, PlainVariable}
@@ -101,3 +101,9 @@ BasicThen n rest ts (Err e) = (z : Sort) (done : List Node) (ps : List Part) (k 
 abbrev pub Goes : {Y : Type 0} → (Y → List Node) → (Y → List Tok) → List Part → List Part → List Tok → Result Y Stop → Type 0
 Goes n rest from to ts (Ok y) = (done : List Node) → go true (at source done from Bottom) ts ≡ go true (at source (done ++ n y) to Bottom) (rest y)
 Goes n rest from to ts (Err e) = (done : List Node) → Stops e (go true (at source done from Bottom) ts)
+
+-- The definitions of types behind the first word of all stand at the front.
+abbrev pub SomeTypes : {Y : Type 0} → (Y → List Node) → (Y → List Tok) → List Tok → Result Y Stop → Type 0
+SomeTypes n rest ts (Ok y) = (done : List Node)
+    → go true (at type_definition (key w.Type ∷ []) definition_parts (In source done whole outside Bottom)) ts ≡ go true (at source (done ++ n y) automata_parts Bottom) (rest y)
+SomeTypes n rest ts (Err e) = (done : List Node) → Stops e (go true (at type_definition (key w.Type ∷ []) definition_parts (In source done whole outside Bottom)) ts)

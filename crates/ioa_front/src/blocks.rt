@@ -1,15 +1,15 @@
 // The readers of the blocks of an automaton, all inside of no pair.
-ghost use Rattle.std.specs.Prelude.{◌≡◌, ◌≤◌, ◌<◌, ◌∷◌, ◌++◌, [], length, map, IfOk};
+ghost use Rattle.std.specs.Prelude.{◌≡◌, ◌≤◌, ◌<◌, ◌∷◌, ◌++◌, [], length, map, IfOk, string_bytes};
 ghost use Rattle.ioa_tokens.specs.declared.Word.TheVariants as w;
 ghost use Rattle.ioa_tokens.specs.Tokens.{toks_of};
-ghost use Rattle.ioa_front.specs.Nodes.{basic, formal, states, task};
+ghost use Rattle.ioa_front.specs.Nodes.{basic, formal, states, task, tasks};
 ghost use Rattle.ioa_front.specs.Grammar.{outside};
 ghost use Rattle.ioa_front.specs.Machine.{at, want};
-ghost use Rattle.ioa_front.specs.Spelling.{branch, formal_node, formals_nodes, key, states_node};
+ghost use Rattle.ioa_front.specs.Spelling.{branch, formal_node, formals_nodes, key, states_node, tasks_node};
 ghost use Rattle.ioa_front.specs.Items.{listed};
 ghost use Rattle.ioa_front.specs.Views.{view_declared, view_variable};
 ghost use Rattle.ioa_front.specs.Lists.{SomeOf};
-ghost use Rattle.ioa_front.specs.Blocks.{HeadsInside, after_states, head_nodes, signature_parts, task_item, variable_item, variable_part_item, variable_parts};
+ghost use Rattle.ioa_front.specs.Blocks.{Heads, HeadsInside, after_states, head_nodes, signature_parts, task_item, variable_item, variable_part_item, variable_parts};
 ghost use Rattle.ioa_front.specs.Grammar.{after_signature};
 ghost use Rattle.ioa_front.specs.Reads.{Gives, GivesLow, Perhaps, front_starts};
 
@@ -65,6 +65,22 @@ fn read_some_head<'a, 'b>(
     let (formals, rest) = read_formal_list(alloc, tokens)?;
     let rest = expect(rest, Word::Signature)?;
     Ok((formals, rest))
+}
+
+/// Reads the formals of an automaton, where there are some, and `signature`.
+#[tactic(auto, using(crate::proofs::Heads::bare_head, crate::proofs::Heads::no_head, crate::proofs::Heads::open_head))]
+pub(crate) fn read_head<'a, 'b>(
+    alloc: Global,
+    tokens: &'b [Token<'a>],
+) -> Result<(Vec<Declared>, &'b [Token<'a>]), Stop>
+    ensures gives { Heads (λ x. head_nodes (map view_declared x.0.items)) (λ x. toks_of x.1.now) (toks_of tokens.now) result }
+    ensures shorter { IfOk result (λ x. length x.1.now ≤ length tokens.now) }
+{
+    if let Some(rest) = past(tokens, Word::Open) {
+        return read_some_head(alloc, rest);
+    }
+    let rest = expect(tokens, Word::Signature)?;
+    Ok((Vec::new(alloc), rest))
 }
 
 // What follows `states`.
@@ -134,5 +150,21 @@ fn read_task_list<'a, 'b>(
         all.push(next)?;
         rest = after;
     }
+    Ok((all, rest))
+}
+
+/// Reads the tasks, where there are some.
+#[tactic(auto, using(crate::proofs::Moves::no_tasks, crate::proofs::Joins::tasks_made))]
+pub(crate) fn read_tasks<'a, 'b>(
+    alloc: Global,
+    tokens: &'b [Token<'a>],
+) -> Result<(Vec<Vec<String>>, &'b [Token<'a>]), Stop>
+    ensures perhaps { Perhaps (λ x. tasks_node (map (λ t. map string_bytes t.items) x.0.items)) (λ x. toks_of x.1.now) basic tasks outside [] 0 (toks_of tokens.now) result }
+    ensures shorter { IfOk result (λ x. length x.1.now ≤ length tokens.now) }
+{
+    let Some(rest) = past(tokens, Word::Tasks) else {
+        return Ok((Vec::new(alloc), tokens));
+    };
+    let (all, rest) = read_task_list(alloc, rest)?;
     Ok((all, rest))
 }

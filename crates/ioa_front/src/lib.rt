@@ -1,6 +1,7 @@
 // The reader of sources: tokens, trees and the grammar.
 #![tactic(auto)]
 
+mod automata;
 mod blocks;
 mod build;
 mod components;
@@ -10,6 +11,7 @@ mod front;
 mod lists;
 mod names;
 pub mod print;
+mod source;
 mod statements;
 pub mod stop;
 mod term;

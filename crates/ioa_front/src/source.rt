@@ -1,0 +1,128 @@
+// The reader of sources.
+ghost use Rattle.std.specs.Prelude.{◌≡◌, ◌≤◌, ◌<◌, ◌∷◌, ◌++◌, [], length, map, true, IfOk, string_bytes};
+ghost use Rattle.ioa_tokens.specs.declared.Word.TheVariants as w;
+ghost use Rattle.ioa_tokens.specs.Tokens.{toks_of};
+ghost use Rattle.ioa_front.specs.Grammar.{IsText, whole};
+ghost use Rattle.ioa_front.specs.Spelling.{IsSource, components_nodes, key, source_nodes, spell};
+ghost use Rattle.ioa_front.specs.Views.{view_component, view_source};
+ghost use Rattle.ioa_front.specs.Trees.{PlainSource};
+ghost use Rattle.ioa_front.specs.Theorem.{Begins, EndsThere, Exact, IsRead, IsTaken};
+ghost use Rattle.ioa_front.specs.Blocks.{Goes, SomeTypes, automata_parts, component_parts, definition_item};
+
+use crate::automata::read_automata;
+use crate::components::read_component;
+use crate::definitions::read_definition;
+use crate::front::{expect, past};
+use crate::stop::Stop;
+use crate::tree::{ComponentTree, Composed, Source, TypeDefinition};
+use ioa_tokens::{Token, Word};
+use std::alloc::Global;
+
+// What follows the first `type`.
+#[tactic(auto, using(crate::proofs::Rows::some_push, crate::proofs::Moves::no_type_definition))]
+fn read_some_types<'a, 'b>(
+    alloc: Global,
+    tokens: &'b [Token<'a>],
+) -> Result<(Vec<TypeDefinition>, &'b [Token<'a>]), Stop>
+    ensures goes { SomeTypes (λ x. map definition_item x.0.items) (λ x. toks_of x.1.now) (toks_of tokens.now) result }
+    ensures shorter { IfOk result (λ x. length x.1.now ≤ length tokens.now) }
+{
+    let (first, mut rest) = read_definition(alloc, tokens)?;
+    let mut all = Vec::new(alloc);
+    all.push(first)?;
+    while let Some(after) = past(rest, Word::Type) {
+        let (next, after) = read_definition(alloc, after)?;
+        all.push(next)?;
+        rest = after;
+    }
+    Ok((all, rest))
+}
+
+// The definitions of types, where there are some.
+#[tactic(auto, using(crate::proofs::Moves::no_type_definition))]
+fn read_types<'a, 'b>(
+    alloc: Global,
+    tokens: &'b [Token<'a>],
+) -> Result<(Vec<TypeDefinition>, &'b [Token<'a>]), Stop>
+    ensures goes { Goes (λ x. map definition_item x.0.items) (λ x. toks_of x.1.now) whole automata_parts (toks_of tokens.now) result }
+    ensures shorter { IfOk result (λ x. length x.1.now ≤ length tokens.now) }
+{
+    let Some(rest) = past(tokens, Word::Type) else {
+        return Ok((Vec::new(alloc), tokens));
+    };
+    let (all, rest) = read_some_types(alloc, rest)?;
+    Ok((all, rest))
+}
+
+// The components of the composed automaton.
+#[tactic(auto, using(crate::proofs::Moves::no_word, crate::proofs::Items::listed_push))]
+fn read_components<'a, 'b>(
+    alloc: Global,
+    tokens: &'b [Token<'a>],
+) -> Result<(Vec<ComponentTree>, &'b [Token<'a>]), Stop>
+    ensures goes { Goes (λ x. key w.Components ∷ components_nodes (map view_component x.0.items)) (λ x. toks_of x.1.now) component_parts [] (toks_of tokens.now) result }
+    ensures shorter { IfOk result (λ x. length x.1.now ≤ length tokens.now) }
+{
+    let rest = expect(tokens, Word::Components)?;
+    let (first, mut rest) = read_component(alloc, rest)?;
+    let mut all = Vec::new(alloc);
+    all.push(first)?;
+    while let Some(after) = past(rest, Word::Semicolon) {
+        let (next, after) = read_component(alloc, after)?;
+        all.push(next)?;
+        rest = after;
+    }
+    Ok((all, rest))
+}
+
+// A source, and what is left behind it.
+fn read_front<'a, 'b>(
+    alloc: Global,
+    tokens: &'b [Token<'a>],
+) -> Result<(Source, &'b [Token<'a>]), Stop>
+    ensures goes { Goes (λ x. source_nodes (view_source x.0)) (λ x. toks_of x.1.now) whole [] (toks_of tokens.now) result }
+    ensures shorter { IfOk result (λ x. length x.1.now ≤ length tokens.now) }
+{
+    let (types, rest) = read_types(alloc, tokens)?;
+    let (automata, name, rest) = read_automata(alloc, rest)?;
+    let (components, rest) = read_components(alloc, rest)?;
+    let composed = Composed { name, components };
+    Ok((
+        Source {
+            types,
+            automata,
+            composed,
+        },
+        rest,
+    ))
+}
+
+// A whole source.
+fn read_all(alloc: Global, tokens: &[Token]) -> Result<Source, Stop>
+    ensures exact { Exact (toks_of tokens.now) result }
+{
+    let (source, rest) = read_front(alloc, tokens)?;
+    if rest.is_empty() {
+        Ok(source)
+    } else {
+        Err(Stop::Syntax(rest.len()))
+    }
+}
+
+/// Reads a source from its tokens.
+///
+/// # Errors
+///
+/// `Memory` where there is none; `Syntax` with the number of tokens from the first that no text goes on with;
+/// `Deep` with that from the first that stands inside of more than 64 pairs and prefixes.
+#[tactic(auto, using(crate::proofs::Laws::found_law, crate::proofs::Laws::formed_law, crate::proofs::Laws::taken_law, crate::proofs::Laws::only_law, crate::proofs::Laws::begins_law, crate::proofs::Laws::ends_law))]
+pub fn read_tokens(alloc: Global, tokens: &[Token]) -> Result<Source, Stop>
+    ensures found { IfOk result (λ s. toks_of tokens.now ≡ spell (view_source s)) }
+    ensures formed { IfOk result (λ s. IsSource true (view_source s)) }
+    ensures taken { IsText true (toks_of tokens.now) → IsTaken result }
+    ensures only { (x : PlainSource) → IsSource true x → toks_of tokens.now ≡ spell x → IsRead x result }
+    ensures begins { Begins (toks_of tokens.now) result }
+    ensures ends { EndsThere (toks_of tokens.now) result }
+{
+    read_all(alloc, tokens)
+}
