@@ -13,3 +13,4 @@ pub mod Refused
 pub mod Printed
 pub mod Joins
 pub mod Heads
+pub mod Once
