@@ -13,3 +13,5 @@ pub mod Refused
 pub mod Printed
 pub mod Joins
 pub mod Heads
+pub mod Backwards
+pub mod Once

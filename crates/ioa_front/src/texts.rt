@@ -5,10 +5,17 @@ ghost use Rattle.ioa_tokens.specs.Tokens.{Tok};
 ghost use Rattle.ioa_front.specs.Nodes.{Node, source, yield};
 ghost use Rattle.ioa_front.specs.Grammar.{Is, IsText};
 ghost use Rattle.ioa_front.specs.Machine.{start, go, Read, Syntax, Deep};
+ghost use Rattle.ioa_front.specs.Trees.{PlainSource};
+ghost use Rattle.ioa_front.specs.Spelling.{spell, IsSource};
 
 /// A text of the grammar has one tree.
 pub fn one_tree_law()
     ensures { (limited : Bool) (n m : Node) → Is limited source 0 n → Is limited source 0 m → yield n ≡ yield m → n ≡ m }
+{}
+
+/// A text spells at most one source.
+pub fn one_source_law()
+    ensures { (limited : Bool) (x y : PlainSource) → IsSource limited x → IsSource limited y → spell x ≡ spell y → x ≡ y }
 {}
 
 /// The machine reads a text of the grammar as its tree, and nothing else.
