@@ -6,6 +6,8 @@ pub mod Spelling
 pub mod Views
 pub mod Reads
 pub mod Items
+pub mod Reading
+pub mod Refusals
 pub mod Theorem
 pub mod Lists
 pub mod Printed

@@ -1,42 +1,28 @@
--- What the reader of a whole text promises.
-use Rattle.std.specs.Prelude.{◌≡◌, ◌+◌, true, false, List, ◌∷◌, ◌++◌, length, Result, Ok, Err}
+-- What the machine says of tokens, as the answer of a reader.
+use Rattle.std.specs.Prelude.{◌≡◌, ℕ, ◌-◌, true, List, length, drop, Result, Ok, Err}
 use Rattle.ioa_front.specs.declared.tree.Source.{Source}
 use Rattle.ioa_front.specs.declared.stop.Stop.{Stop}
-use Rattle.ioa_front.specs.declared.stop.Stop.TheVariants as stop
-use Rattle.ioa_tokens.specs.Tokens.{Tok}
-use Rattle.ioa_front.specs.Grammar.{IsText}
-use Rattle.ioa_front.specs.Machine.{start, go, Read}
-use Rattle.ioa_front.specs.Trees.{PlainSource}
+use Rattle.ioa_front.specs.declared.fault.ReadError.{ReadError}
+use Rattle.ioa_front.specs.declared.fault.ReadError.TheVariants as fault
+use Rattle.ioa_tokens.specs.Tokens.{Tok, Placed}
+use Rattle.ioa_front.specs.Machine.{start, go, Read, Syntax, Deep}
 use Rattle.ioa_front.specs.Spelling.{source_node}
 use Rattle.ioa_front.specs.Views.{view_source}
 use Rattle.ioa_front.specs.Reads.{Stops}
+use Rattle.ioa_front.specs.Reading.{first_at, toks}
 
--- what the machine says
 abbrev pub Exact : List Tok → Result Source Stop → Type 0
 Exact ts (Ok s) = go true start ts ≡ Read (source_node (view_source s))
 Exact ts (Err e) = Stops e (go true start ts)
 
--- The tree is spelled like x, unless memory ran out.
-abbrev pub IsRead : PlainSource → Result Source Stop → Type 0
-IsRead x (Ok s) = source_node (view_source s) ≡ source_node x
-IsRead x (Err e) = e ≡ stop.Memory
+-- the place of the first of the last n tokens
+abbrev pub left_at : ℕ → List Placed → ℕ → ℕ
+left_at end ps n = first_at end (drop (length ps - n) ps)
 
--- a tree, unless memory ran out
-abbrev pub IsTaken : Result Source Stop → Type 0
-IsTaken (Ok s) = Unit {0}
-IsTaken (Err e) = e ≡ stop.Memory
-
--- The tokens before a fault begin a text; so they do with the one that stands too deep.
-abbrev pub Begins : List Tok → Result Source Stop → Type 0
-Begins ts (Ok s) = Unit {0}
-Begins ts (Err stop.Memory) = Unit {0}
-Begins ts (Err (stop.Syntax n)) = (pre rest : List Tok) → ts ≡ pre ++ rest → length rest ≡ n → (more : List Tok) × IsText false (pre ++ more)
-Begins ts (Err (stop.Deep n)) = (pre rest : List Tok) (t : Tok) → ts ≡ pre ++ t ∷ rest → length rest + 1 ≡ n → (more : List Tok) × IsText false (pre ++ t ∷ more)
-
--- No text has those tokens and then the one at fault; where none is left, the tokens are no text.
-abbrev pub EndsThere : List Tok → Result Source Stop → Type 0
-EndsThere ts (Ok s) = Unit {0}
-EndsThere ts (Err stop.Memory) = Unit {0}
-EndsThere ts (Err (stop.Syntax n)) =
-    ((pre rest other : List Tok) (t : Tok) → ts ≡ pre ++ t ∷ rest → length rest + 1 ≡ n → IsText false (pre ++ t ∷ other) → ⊥) × (IsText false ts → ⊥)
-EndsThere ts (Err (stop.Deep n)) = (pre rest other : List Tok) (t : Tok) → ts ≡ pre ++ t ∷ rest → length rest + 1 ≡ n → IsText true (pre ++ t ∷ other) → ⊥
+-- the same with the place of the token at fault
+abbrev pub IsFound : List Placed → ℕ → Result Source ReadError → Type 0
+IsFound ps end (Ok s) = go true start (toks ps) ≡ Read (source_node (view_source s))
+IsFound ps end (Err fault.NoMemory) = Unit {0}
+IsFound ps end (Err (fault.Syntax at)) = (n : ℕ) × ((go true start (toks ps) ≡ Syntax n) × (at ≡ left_at end ps n))
+IsFound ps end (Err fault.TooDeep) = (n : ℕ) × (go true start (toks ps) ≡ Deep n)
+IsFound ps end (Err e) = ⊥

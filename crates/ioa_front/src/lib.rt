@@ -1,4 +1,4 @@
-// The reader of sources: tokens, trees and the grammar.
+//! Sources of composed I/O automata: bytes read as trees, and trees printed as text.
 #![tactic(auto)]
 
 mod automata;
@@ -7,13 +7,15 @@ mod build;
 mod components;
 mod definitions;
 mod entries;
+mod fault;
 mod front;
 mod lists;
 mod names;
 pub mod print;
+mod reading;
 mod source;
 mod statements;
-pub mod stop;
+mod stop;
 mod term;
 #[cfg(test)]
 mod tests;
@@ -22,3 +24,7 @@ mod transitions;
 pub mod tree;
 mod types;
 mod values;
+
+pub use fault::ReadError;
+pub use reading::{MOST_BYTES, read};
+pub use tree::Source;

@@ -2,11 +2,10 @@
 ghost use Rattle.std.specs.Prelude.{◌≡◌, ◌≤◌, ◌<◌, ◌∷◌, ◌++◌, [], length, map, true, IfOk, string_bytes};
 ghost use Rattle.ioa_tokens.specs.declared.Word.TheVariants as w;
 ghost use Rattle.ioa_tokens.specs.Tokens.{toks_of};
-ghost use Rattle.ioa_front.specs.Grammar.{IsText, whole};
-ghost use Rattle.ioa_front.specs.Spelling.{IsSource, components_nodes, key, source_nodes, spell};
+ghost use Rattle.ioa_front.specs.Grammar.{whole};
+ghost use Rattle.ioa_front.specs.Spelling.{components_nodes, key, source_nodes};
 ghost use Rattle.ioa_front.specs.Views.{view_component, view_source};
-ghost use Rattle.ioa_front.specs.Trees.{PlainSource};
-ghost use Rattle.ioa_front.specs.Theorem.{Begins, EndsThere, Exact, IsRead, IsTaken};
+ghost use Rattle.ioa_front.specs.Theorem.{Exact};
 ghost use Rattle.ioa_front.specs.Blocks.{Goes, SomeTypes, automata_parts, component_parts, definition_item};
 
 use crate::automata::read_automata;
@@ -97,8 +96,8 @@ fn read_front<'a, 'b>(
     ))
 }
 
-// A whole source.
-fn read_all(alloc: Global, tokens: &[Token]) -> Result<Source, Stop>
+/// Reads a whole source.
+pub(crate) fn read_all(alloc: Global, tokens: &[Token]) -> Result<Source, Stop>
     ensures exact { Exact (toks_of tokens.now) result }
 {
     let (source, rest) = read_front(alloc, tokens)?;
@@ -107,22 +106,4 @@ fn read_all(alloc: Global, tokens: &[Token]) -> Result<Source, Stop>
     } else {
         Err(Stop::Syntax(rest.len()))
     }
-}
-
-/// Reads a source from its tokens.
-///
-/// # Errors
-///
-/// `Memory` where there is none; `Syntax` with the number of tokens from the first that no text goes on with;
-/// `Deep` with that from the first that stands inside of more than 64 pairs and prefixes.
-#[tactic(auto, using(crate::proofs::Laws::found_law, crate::proofs::Laws::formed_law, crate::proofs::Laws::taken_law, crate::proofs::Laws::only_law, crate::proofs::Laws::begins_law, crate::proofs::Laws::ends_law))]
-pub fn read_tokens(alloc: Global, tokens: &[Token]) -> Result<Source, Stop>
-    ensures found { IfOk result (λ s. toks_of tokens.now ≡ spell (view_source s)) }
-    ensures formed { IfOk result (λ s. IsSource true (view_source s)) }
-    ensures taken { IsText true (toks_of tokens.now) → IsTaken result }
-    ensures only { (x : PlainSource) → IsSource true x → toks_of tokens.now ≡ spell x → IsRead x result }
-    ensures begins { Begins (toks_of tokens.now) result }
-    ensures ends { EndsThere (toks_of tokens.now) result }
-{
-    read_all(alloc, tokens)
 }
