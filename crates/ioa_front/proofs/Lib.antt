@@ -13,3 +13,6 @@ pub mod Refused
 pub mod Printed
 pub mod Joins
 pub mod Heads
+pub mod Places
+pub mod Judged
+pub mod Faults

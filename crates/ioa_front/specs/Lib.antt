@@ -10,3 +10,4 @@ pub mod Theorem
 pub mod Lists
 pub mod Printed
 pub mod Blocks
+pub mod Depths

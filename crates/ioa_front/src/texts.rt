@@ -5,6 +5,7 @@ ghost use Rattle.ioa_tokens.specs.Tokens.{Tok};
 ghost use Rattle.ioa_front.specs.Nodes.{Node, source, yield};
 ghost use Rattle.ioa_front.specs.Grammar.{Is, IsText};
 ghost use Rattle.ioa_front.specs.Machine.{start, go, Read, Syntax, Deep};
+ghost use Rattle.ioa_front.specs.Depths.{depths, WithinLimit};
 
 /// A text of the grammar has one tree.
 pub fn one_tree_law()
@@ -29,4 +30,20 @@ pub fn syntax_law()
 pub fn depth_law()
     ensures begins { (pre rest : List Tok) (t : Tok) → go true start (pre ++ t ∷ rest) ≡ Deep (length rest + 1) → (more : List Tok) × IsText false (pre ++ t ∷ more) }
     ensures ends { (pre rest other : List Tok) (t : Tok) → go true start (pre ++ t ∷ rest) ≡ Deep (length rest + 1) → IsText true (pre ++ t ∷ other) → ⊥ }
+{}
+
+/// The limit of the grammar is on the depth of each token.
+pub fn limit_law()
+    ensures each { (d : ℕ) (n : Node) → length (depths d n) ≡ length (yield n) }
+    ensures within { (n : Node) → Is false source 0 n → WithinLimit (depths 0 n) → Is true source 0 n }
+    ensures kept { (n : Node) → Is true source 0 n → WithinLimit (depths 0 n) }
+    ensures free { (n : Node) → Is true source 0 n → Is false source 0 n }
+{}
+
+/// In each text that goes on with a token that stands too deep it is the first that does. Before a fault of another kind none does.
+pub fn first_fault_law()
+    ensures deep { (pre rest more : List Tok) (t : Tok) (m : Node) → go true start (pre ++ t ∷ rest) ≡ Deep (length rest + 1) → Is false source 0 m → yield m ≡ pre ++ t ∷ more
+        → (before : List ℕ) × ((after : List ℕ) × ((depths 0 m ≡ before ++ 65 ∷ after) × ((length before ≡ length pre) × WithinLimit before))) }
+    ensures syntax { (pre ts more : List Tok) (m : Node) → go true start (pre ++ ts) ≡ Syntax (length ts) → Is false source 0 m → yield m ≡ pre ++ more
+        → (before : List ℕ) × ((after : List ℕ) × ((depths 0 m ≡ before ++ after) × ((length before ≡ length pre) × WithinLimit before))) }
 {}
