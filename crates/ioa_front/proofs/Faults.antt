@@ -1,7 +1,7 @@
 -- The limit is on the depths of a tree, and a refusal is of the first fault.
-use Rattle.std.proofs.Common.{◌≡◌, ◌≤◌, ◌+◌, ℕ, Bool, true, false, ◌&&◌, nat_lt, List, [], ◌∷◌, ◌++◌, length, length-append, Option, Some, None, refl, sym, ◌∙◌, ap, subst, cond, arith, ◌⊎◌, inl, inr}
+use Rattle.std.proofs.Common.{◌≡◌, ◌≤◌, ◌<◌, ◌+◌, ℕ, Bool, true, false, ◌&&◌, nat_lt, List, [], ◌∷◌, ◌++◌, length, length-append, Option, Some, None, refl, sym, ◌∙◌, ap, subst, cond, arith, ◌⊎◌, inl, inr}
 use borrow.Author.Tests.{le-ltb}
-use Rattle.std.proofs.lemmas.Bool.{ltb-false, ltb-true}
+use Rattle.std.proofs.lemmas.Bool.{ltb-false, ltb-true, lt-ltb}
 use Rattle.ioa_tokens.specs.Tokens.{Tok}
 use Rattle.ioa_front.specs.Nodes.{Sort, source, Node, Leaf, pack, yield}
 use Rattle.ioa_front.specs.Grammar.{Place, outside, first, inside, deeper, Part, one, many, plain, whole, Is, Are, Fits, by_token, by_rule, a_source, end, a_token, a_rule, absent, present, no_more, one_more}
@@ -12,7 +12,7 @@ use Rattle.ioa_front.proofs.Sound.{read_formed}
 use Rattle.ioa_front.proofs.Told.{apart, firsts, starts, trails, is_part, safe, body, whole_safe}
 use Rattle.ioa_front.proofs.Complete.{both_left, both_right, led_body, plain_told, read_again}
 use Rattle.ioa_front.proofs.Places.{same_place, same_place_is, settled, is_settled, turn, fits_token, agree, token_agrees, led_agrees, plain_agrees, whole_agrees, Known, known_next_step, token_behind, token_known, token_here, first_here, first_depths, rule_depths, counts}
-use Rattle.ioa_front.proofs.Judged.{judge, judge_low, headed, row_depths, place_known, place_low, settled_same, read_judged}
+use Rattle.ioa_front.proofs.Judged.{judge, judge_append, judge_low, headed, row_depths, place_known, place_low, settled_same, read_judged}
 
 -- ---- the limit
 
@@ -167,6 +167,21 @@ first_deep pre rest more t m h is y =
     let size : length (w.0 ++ 65 ∷ w.1.0) ≡ length (pre ++ t ∷ more) = ap length (sym w.1.1.0) ∙ (counts 0 m ∙ ap length y) in
     let tail : length w.1.0 + 1 ≡ length more + 1 = w.1.1.1.0 in
     (w.0, (w.1.0, (w.1.1.0, (omega (arith, size, tail, length-append w.0 (65 ∷ w.1.0), length-append pre (t ∷ more)), w.1.1.1.1))))
+
+-- the first that is too deep in one text is refused, whatever follows
+pub refuses : (pre rest more : List Tok) (t : Tok) (m : Node) (before after : List ℕ) (d : ℕ) → Is false source 0 m → yield m ≡ pre ++ t ∷ more
+    → depths 0 m ≡ before ++ d ∷ after → length before ≡ length pre → WithinLimit before → 64 < d → go true start (pre ++ t ∷ rest) ≡ Deep (length rest + 1)
+refuses pre rest more t m before after d is y e c w o = deep_stays start pre t more rest (ap (λ z. go true start z) (sym y) ∙ (read_judged m is ∙ (judged ∙ ap Deep size)))
+  where
+    judged : judge 0 (depths 0 m) (Read m) ≡ Deep (length after + 0 + 1)
+    judged =
+        ap (λ z. judge 0 z (Read m)) e
+        ∙ (judge_append 0 before (d ∷ after) (Read m) ∙ (judged_low (length (d ∷ after) + 0) before (judge 0 (d ∷ after) (Read m)) w ∙ rw (lt-ltb 64 d o) refl))
+
+    size : length after + 0 + 1 ≡ length more + 1
+    size =
+        let all : length (before ++ d ∷ after) ≡ length (pre ++ t ∷ more) = ap length (sym e) ∙ (counts 0 m ∙ ap length y) in
+        omega (arith, all, c, length-append before (d ∷ after), length-append pre (t ∷ more))
 
 -- ---- none is too deep before a fault of another kind
 

@@ -24,7 +24,7 @@ same_cond x false p q r u e f g = rw e (g refl)
 no_cond : (x : Bool) (p q : Verdict) → x ≡ false → cond x p q ≡ q
 no_cond x p q e = rw e refl
 
-judge_append : (l : ℕ) (ds es : List ℕ) (v : Verdict) → judge l (ds ++ es) v ≡ judge (length es + l) ds (judge l es v)
+pub judge_append : (l : ℕ) (ds es : List ℕ) (v : Verdict) → judge l (ds ++ es) v ≡ judge (length es + l) ds (judge l es v)
 judge_append l [] es v = refl
 judge_append l (d ∷ ds) es v =
     same_cond (nat_lt 64 d) (nat_lt 64 d) _ _ _ _ refl (ap Deep (omega (arith, length-append ds es))) (λ f. judge_append l ds es v)

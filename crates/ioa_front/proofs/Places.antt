@@ -9,15 +9,8 @@ use Rattle.ioa_front.specs.Grammar.{Class, name, number, word, accepts, Place, o
 use Rattle.ioa_front.specs.Machine.{on, checked, nullable}
 use Rattle.ioa_front.specs.Depths.{one_of, opens, closes, here, behind, depths, depths_in}
 use Rattle.ioa_front.proofs.Spelled.{yields_pack}
+use Rattle.ioa_front.proofs.Complete.{both_left, both_right}
 use Rattle.ioa_front.proofs.Words.{is_key}
-
-both_left : (a b : Bool) → (a && b) ≡ true → a ≡ true
-both_left true b h = refl
-both_left false b h = h
-
-both_right : (a b : Bool) → (a && b) ≡ true → b ≡ true
-both_right true b h = h
-both_right false b h = cc
 
 -- ---- a row of the table, part by part
 

@@ -1,6 +1,6 @@
 //! What holds of the grammar: a text has one tree, a machine that goes over the tokens once reads exactly the texts, and where it
 //! stops, no text goes on.
-ghost use Rattle.std.specs.Prelude.{◌≡◌, ℕ, ◌+◌, Bool, true, false, List, ◌∷◌, ◌++◌, length};
+ghost use Rattle.std.specs.Prelude.{◌≡◌, ◌<◌, ℕ, ◌+◌, Bool, true, false, List, ◌∷◌, ◌++◌, length};
 ghost use Rattle.ioa_tokens.specs.Tokens.{Tok};
 ghost use Rattle.ioa_front.specs.Nodes.{Node, source, yield};
 ghost use Rattle.ioa_front.specs.Grammar.{Is, IsText};
@@ -40,10 +40,12 @@ pub fn limit_law()
     ensures free { (n : Node) → Is true source 0 n → Is false source 0 n }
 {}
 
-/// In each text that goes on with a token that stands too deep it is the first that does. Before a fault of another kind none does.
+/// A token is refused as too deep where it is the first that is, in each text that begins so. Before a fault of another kind none is.
 pub fn first_fault_law()
     ensures deep { (pre rest more : List Tok) (t : Tok) (m : Node) → go true start (pre ++ t ∷ rest) ≡ Deep (length rest + 1) → Is false source 0 m → yield m ≡ pre ++ t ∷ more
         → (before : List ℕ) × ((after : List ℕ) × ((depths 0 m ≡ before ++ 65 ∷ after) × ((length before ≡ length pre) × WithinLimit before))) }
+    ensures refused { (pre rest more : List Tok) (t : Tok) (m : Node) (before after : List ℕ) (d : ℕ) → Is false source 0 m → yield m ≡ pre ++ t ∷ more
+        → depths 0 m ≡ before ++ d ∷ after → length before ≡ length pre → WithinLimit before → 64 < d → go true start (pre ++ t ∷ rest) ≡ Deep (length rest + 1) }
     ensures syntax { (pre ts more : List Tok) (m : Node) → go true start (pre ++ ts) ≡ Syntax (length ts) → Is false source 0 m → yield m ≡ pre ++ more
         → (before : List ℕ) × ((after : List ℕ) × ((depths 0 m ≡ before ++ after) × ((length before ≡ length pre) × WithinLimit before))) }
 {}
