@@ -1,12 +1,12 @@
 -- The limit is on the depths of a tree, and a refusal is of the first fault.
-use Rattle.std.proofs.Common.{◌≡◌, ◌≤◌, ◌<◌, ◌+◌, ℕ, Bool, true, false, ◌&&◌, nat_lt, List, [], ◌∷◌, ◌++◌, length, length-append, Option, Some, None, refl, sym, ◌∙◌, ap, subst, cond, arith, ◌⊎◌, inl, inr}
+use Rattle.std.proofs.Common.{◌≡◌, ◌≤◌, ◌<◌, ◌+◌, ℕ, Bool, true, false, nat_lt, List, [], ◌∷◌, ◌++◌, length, length-append, Option, Some, None, refl, sym, ◌∙◌, ap, subst, cond, arith}
 use borrow.Author.Tests.{le-ltb}
 use Rattle.std.proofs.lemmas.Bool.{ltb-false, ltb-true, lt-ltb}
 use Rattle.ioa_tokens.specs.Tokens.{Tok}
 use Rattle.ioa_front.specs.Nodes.{Sort, source, Node, Leaf, pack, yield}
-use Rattle.ioa_front.specs.Grammar.{Place, outside, first, inside, deeper, Part, one, many, plain, whole, Is, Are, Fits, by_token, by_rule, a_source, end, a_token, a_rule, absent, present, no_more, one_more}
+use Rattle.ioa_front.specs.Grammar.{Place, outside, first, inside, deeper, Part, one, many, Is, Are, Fits, by_token, by_rule, a_source, end, a_token, a_rule, absent, present, no_more, one_more}
 use Rattle.ioa_front.specs.Machine.{State, Step, on, move, Verdict, Read, Syntax, Deep, go, start}
-use Rattle.ioa_front.specs.Depths.{here, behind, depths, depths_in, WithinLimit}
+use Rattle.ioa_front.specs.Depths.{here, depths, depths_in, WithinLimit}
 use Rattle.ioa_front.proofs.Prefix.{left, go_left, deep_stays}
 use Rattle.ioa_front.proofs.Sound.{read_formed}
 use Rattle.ioa_front.proofs.Told.{apart, firsts, starts, trails, is_part, safe, body, whole_safe}
@@ -102,7 +102,7 @@ mutual
       let fits = both_left (fits_token s j t i) _ both in (
         token_here j t d l,
         λ low. subst (λ z. Climbs (depths_in s z (pack ns))) (sym (token_behind s j i t d fits))
-        (are_climbing are h s (turn s j t) (both_right (fits_token s j t i) _ both) (token_known s j i t d fits l (le-ltb 64 (here (Leaf t) (deeper j d)) low))),
+            (are_climbing are h s (turn s j t) (both_right (fits_token s j t i) _ both) (token_known s j i t d fits l (le-ltb 64 (here (Leaf t) (deeper j d)) low))),
       )
   are_climbing {d = d} (a_rule {s = r} {i = i} {ps = ps} {n = n} {ns = ns} low is are) h s j a l =
       let kept = both_right (apart (firsts ps) (trails r)) _ (both_right (is_part r) _ h) in

@@ -1,16 +1,16 @@
 -- The machine reads a tree of the grammar up to the first token that stands too deep in it.
-use Rattle.std.proofs.Common.{◌≡◌, ◌≤◌, ◌+◌, ℕ, Bool, true, false, ◌&&◌, nat_lt, List, [], ◌∷◌, ◌++◌, length, length-append, append_assoc, append-nil, Option, Some, None, refl, sym, ◌∙◌, ap, subst, cond, arith}
+use Rattle.std.proofs.Common.{◌≡◌, ◌≤◌, ◌+◌, ℕ, Bool, true, false, nat_lt, List, [], ◌∷◌, ◌++◌, length, length-append, append_assoc, append-nil, Some, refl, sym, ◌∙◌, ap, subst, cond, arith}
 use borrow.Author.Tests.{le-ltb}
 use Rattle.std.proofs.lemmas.Bool.{ltb-false}
 use Rattle.ioa_tokens.specs.Tokens.{Tok}
-use Rattle.ioa_front.specs.Nodes.{Sort, source, Node, Leaf, Nodes, more, pack, make, yield, yields}
-use Rattle.ioa_front.specs.Grammar.{Class, accepts, Place, outside, first, inside, deeper, Part, token, one, maybe, many, led, plain, whole, pick, Is, Are, by_token, by_rule, a_source, end, a_token, a_rule, absent, present, no_more, one_more}
-use Rattle.ioa_front.specs.Machine.{Frames, Bottom, In, depth, State, At, Step, on, want, have, at, enter, checked, walk, after, move, Verdict, Read, Syntax, Deep, go, start}
-use Rattle.ioa_front.specs.Depths.{here, behind, depths, depths_in, WithinLimit}
+use Rattle.ioa_front.specs.Nodes.{Sort, source, Node, Leaf, more, pack, make, yield, yields}
+use Rattle.ioa_front.specs.Grammar.{Place, outside, first, inside, deeper, Part, token, one, maybe, many, led, Is, Are, by_token, by_rule, a_source, end, a_token, a_rule, absent, present, no_more, one_more}
+use Rattle.ioa_front.specs.Machine.{Frames, Bottom, In, depth, State, At, Step, want, have, at, enter, checked, move, Verdict, Read, Deep, go, start}
+use Rattle.ioa_front.specs.Depths.{here, behind, depths, depths_in}
 use Rattle.ioa_front.proofs.Spelled.{make_yields}
-use Rattle.ioa_front.proofs.Told.{hit, apart, within, apart_hit, heads, starts, firsts, trails, empty, ends, is_part, safe, body, whole_safe, enter_is, move_want}
-use Rattle.ioa_front.proofs.Complete.{both_left, both_right, led_body, plain_told, no_pick, first_same, is_first, are_first, Quiet, quiet_within, quiet_left, quiet_right, quiet_start, quiet_trail, follows, have_at, stepped, skip_maybe, skip_many, is_read}
-use Rattle.ioa_front.proofs.Places.{same_place, same_place_is, settled, is_settled, turn, fits_token, agree, token_agrees, led_agrees, plain_agrees, whole_agrees, Known, known_settled, known_next, known_next_step, settled_deeper, token_test, token_behind, token_known, token_here, first_here, still, node_depths, first_depths, rule_depths, counts, counts_row}
+use Rattle.ioa_front.proofs.Told.{hit, apart, apart_hit, heads, starts, firsts, trails, empty, ends, is_part, safe, body, whole_safe, enter_is, move_want}
+use Rattle.ioa_front.proofs.Complete.{both_left, both_right, led_body, plain_told, no_pick, first_same, is_first, are_first, Quiet, quiet_within, quiet_left, quiet_right, quiet_start, quiet_trail, follows, have_at, skip_maybe, skip_many, is_read}
+use Rattle.ioa_front.proofs.Places.{same_place, same_place_is, settled, is_settled, turn, fits_token, agree, token_agrees, led_agrees, plain_agrees, whole_agrees, Known, known_settled, known_next, settled_deeper, token_test, token_behind, token_known, first_here, still, node_depths, first_depths, rule_depths, counts, counts_row}
 
 -- what the depths say, where so many tokens follow, and this is said of those
 abbrev pub judge : ℕ → List ℕ → Verdict → Verdict
@@ -90,7 +90,7 @@ wanted r s d i done qs k n ns ts rest v c x t us m y e es z f g = at_test (nat_l
   where
     size : length ((us ++ yields ns) ++ ts) ≡ length (es ++ rest) + length ts
     size =
-        let a : length us + 1 ≡ length es + 1 = ones (sym (counts d n) ) in
+        let a : length us + 1 ≡ length es + 1 = ones (sym (counts d n)) in
         omega (arith, a, c, length-append (us ++ yields ns) ts, length-append us (yields ns), length-append es rest)
       where
         ones : length (yield n) ≡ length (depths d n) → length us + 1 ≡ length es + 1
@@ -147,7 +147,7 @@ mutual
         spells = rw (e, make_yields s (Leaf t ∷ ns)) refl;
         enters = rw (enter_is s t k, p) refl;
         stands = first_depths s d n t ps ns p e;
-        goes = rest ∙ ap (λ z. judge (length ts) (depths_in s (deeper (turn s outside t) d) (pack ns)) (go true (have z k) ts)) (sym e)
+        goes = rest ∙ ap (λ z. judge (length ts) (depths_in s (deeper (turn s outside t) d) (pack ns)) (go true (have z k) ts)) (sym e);
       }
   is_judged {s = s} {d = d} {n = n} (by_rule r ps m ns p is are e) h k ts x l q =
       let all = plain_told s r ps p in
@@ -173,7 +173,7 @@ mutual
         stands = rule_depths s m ns is e ∙ ap (λ z. z ++ depths_in s d (pack ns)) w.stands;
         goes =
             joined r s d outside [] ps k m ns ts (depths_in s d (pack ns)) (go true (have (make s (m ∷ ns)) k) ts) (counts_row s d ns) w rest
-            ∙ ap (λ z. judge (length ts) (w.later ++ depths_in s d (pack ns)) (go true (have z k) ts)) (sym e)
+            ∙ ap (λ z. judge (length ts) (w.later ++ depths_in s d (pack ns)) (go true (have z k) ts)) (sym e);
       }
   is_judged (a_source ns are e) h k ts x l q = cc
 
@@ -184,13 +184,13 @@ mutual
       let both = token_agrees s j c t i ps u a in
       let fits = both_left (fits_token s j t i) _ both in
       let test : nat_lt 64 (checked i (depth k)) ≡ nat_lt 64 (here (Leaf t) (deeper j d)) = ap (λ z. nat_lt 64 (checked i z)) (sym x) ∙ token_test s j i t d fits l in
-      let size : length (yields ns ++ ts) + 1 ≡ length (depths_in s (behind s (Leaf t) (deeper j d)) (pack ns)) + length ts + 1 =
-          let w = counts_row s (behind s (Leaf t) (deeper j d)) ns in omega (arith, w, length-append (yields ns) ts) in
+      let row = counts_row s (behind s (Leaf t) (deeper j d)) ns in
+      let size : length (yields ns ++ ts) + 1 ≡ length (depths_in s (behind s (Leaf t) (deeper j d)) (pack ns)) + length ts + 1 = omega (arith, row, length-append (yields ns) ts) in
       taken (At s done (token c i ∷ ps) k) t (yields ns ++ ts) (record { next = at s (done ++ Leaf t ∷ []) ps k; depth = checked i (depth k) }) (rw u refl)
       ∙ same_cond (nat_lt 64 (checked i (depth k))) (nat_lt 64 (here (Leaf t) (deeper j d))) _ _ _ _ test (ap Deep size)
       (λ g. are_judged are h s (turn s j t) (both_right (fits_token s j t i) _ both) (done ++ Leaf t ∷ []) k ts x (token_known s j i t d fits l g) q
-          ∙ (ap (λ z. judge (length ts) (depths_in s z (pack ns)) (go true (have (make s ((done ++ Leaf t ∷ []) ++ ns)) k) ts)) (sym (token_behind s j i t d fits))
-          ∙ ap (λ z. judge (length ts) (depths_in s (behind s (Leaf t) (deeper j d)) (pack ns)) (go true (have (make s z) k) ts)) (append_assoc done (Leaf t ∷ []) ns)))
+      ∙ (ap (λ z. judge (length ts) (depths_in s z (pack ns)) (go true (have (make s ((done ++ Leaf t ∷ []) ++ ns)) k) ts)) (sym (token_behind s j i t d fits))
+      ∙ ap (λ z. judge (length ts) (depths_in s (behind s (Leaf t) (deeper j d)) (pack ns)) (go true (have (make s z) k) ts)) (append_assoc done (Leaf t ∷ []) ns)))
   are_judged {d = d} (a_rule {s = r} {i = i} {ps = ps} {n = n} {ns = ns} low is are) h s j a done k ts x l q =
       let tail = both_right (is_part r) _ h in
       let kept = both_right (apart (firsts ps) (trails r)) _ tail in

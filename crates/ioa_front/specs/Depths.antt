@@ -1,4 +1,4 @@
--- How deep each token of a tree stands: in how many pairs of parentheses and of brackets, of `if` to `fi`, of `for` to `od`, and behind how many `not` and minus of an operand.
+-- How deep each token of a tree stands: inside of how many pairs of parentheses and of brackets, of `if` to `fi`, of `for` to `od`, and in the operand of how many `not` and prefix minus.
 use Rattle.std.specs.Prelude.{ℕ, ◌+◌, ◌-◌, ◌≤◌, Bool, true, false, ◌&&◌, ◌||◌, if◌then◌else◌, List, [], ◌∷◌, ◌++◌}
 use Rattle.ioa_tokens.specs.declared.Word.{Word}
 use Rattle.ioa_tokens.specs.declared.Word.TheVariants as w
@@ -9,18 +9,20 @@ abbrev pub one_of : List Word → Tok → Bool
 one_of [] t = false
 one_of (v ∷ vs) t = is v t || one_of vs t
 
--- Here a minus stands before an operand. Elsewhere it is the sign of a number, or stands between two operands.
-abbrev pub before_operand : Sort → Bool
-before_operand unary = true
-before_operand _ = false
+-- Here a minus is a prefix. Elsewhere it is the sign of a number, or stands between two operands.
+abbrev pub has_prefix : Sort → Bool
+has_prefix unary = true
+has_prefix _ = false
 
+-- what follows this token in its rule stands one deeper
 abbrev pub opens : Sort → Tok → Bool
-opens s t = one_of (w.Open ∷ (w.OpenBracket ∷ (w.If ∷ (w.For ∷ (w.Not ∷ []))))) t || (is w.Minus t && before_operand s)
+opens s t = one_of (w.Open ∷ (w.OpenBracket ∷ (w.If ∷ (w.For ∷ (w.Not ∷ []))))) t || (is w.Minus t && has_prefix s)
 
+-- this token and what follows it in its rule stand one less deep
 abbrev pub closes : Tok → Bool
 closes t = one_of (w.Close ∷ (w.CloseBracket ∷ (w.Fi ∷ (w.Od ∷ [])))) t
 
--- How deep a part of a rule stands, where it comes at this depth. What closes a pair stands outside of it.
+-- how deep a part of a rule stands that comes at this depth
 abbrev pub here : Node → ℕ → ℕ
 here (Leaf t) d = if closes t then d - 1 else d
 here (Branch s ns) d = d

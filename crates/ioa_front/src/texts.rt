@@ -1,5 +1,5 @@
-//! What holds of the grammar: a text has one tree, a machine that goes over the tokens once reads exactly the texts, and where it
-//! stops, no text goes on.
+//! What holds of the grammar: a text has one tree, a machine that goes over the tokens once reads exactly the texts, and it stops at
+//! the first fault, where no text goes on.
 ghost use Rattle.std.specs.Prelude.{◌≡◌, ◌<◌, ℕ, ◌+◌, Bool, true, false, List, ◌∷◌, ◌++◌, length};
 ghost use Rattle.ioa_tokens.specs.Tokens.{Tok};
 ghost use Rattle.ioa_front.specs.Nodes.{Node, source, yield};
