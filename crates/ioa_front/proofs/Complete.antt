@@ -8,11 +8,11 @@ use Rattle.ioa_front.specs.Machine.{Frames, Bottom, In, depth, State, At, Step, 
 use Rattle.ioa_front.proofs.Spelled.{make_yields}
 use Rattle.ioa_front.proofs.Told.{hit, apart, within, apart_hit, within_hit, hit_left, hit_right, miss_left, miss_right, heads, starts, starts_by, firsts, trails, empty, ends, is_part, safe, body, bodies, all_told, whole_safe, starts_is, enter_is, move_want, want_ending}
 
-both_left : (a b : Bool) → (a && b) ≡ true → a ≡ true
+pub both_left : (a b : Bool) → (a && b) ≡ true → a ≡ true
 both_left true b h = refl
 both_left false b h = h
 
-both_right : (a b : Bool) → (a && b) ≡ true → b ≡ true
+pub both_right : (a b : Bool) → (a && b) ≡ true → b ≡ true
 both_right true b h = h
 both_right false b h = cc
 
@@ -26,10 +26,10 @@ pick_body cs ((c, qs) ∷ rest) t ps h e = at_test (accepts c t) e (pick_body cs
     at_test true e f = let same : qs ≡ ps = cc in subst (λ z. body cs z ≡ true) same (both_left (body cs qs) _ h)
     at_test false e f = f e
 
-led_body : (s : Sort) (t : Tok) (ps : List Part) → pick t (led s) ≡ Some ps → body (trails s) ps ≡ true
+pub led_body : (s : Sort) (t : Tok) (ps : List Part) → pick t (led s) ≡ Some ps → body (trails s) ps ≡ true
 led_body s t ps e = pick_body (trails s) (led s) t ps (both_left (bodies (trails s) (led s)) _ (all_told s)) e
 
-plain_told : (s r : Sort) (ps : List Part) → plain s ≡ Some (r, ps) → (body (trails s) (one r outside ∷ ps) && apart (starts r) (heads (led s))) ≡ true
+pub plain_told : (s r : Sort) (ps : List Part) → plain s ≡ Some (r, ps) → (body (trails s) (one r outside ∷ ps) && apart (starts r) (heads (led s))) ≡ true
 plain_told s r ps e =
     let h = both_right (bodies (trails s) (led s)) _ (all_told s) in
     subst (λ z. on z (λ p. body (trails s) (one p.0 outside ∷ p.1) && apart (starts p.0) (heads (led s))) true ≡ true) e h
@@ -42,7 +42,7 @@ pick_head ((c, qs) ∷ rest) t ps e = at_test (accepts c t) e (pick_head rest t 
     at_test true e f = refl
     at_test false e f = f e
 
-no_pick : (l : List (Class × List Part)) (t : Tok) → hit (heads l) t ≡ false → pick t l ≡ None
+pub no_pick : (l : List (Class × List Part)) (t : Tok) → hit (heads l) t ≡ false → pick t l ≡ None
 no_pick [] t h = refl
 no_pick ((c, qs) ∷ rest) t h = at_test (accepts c t) h (no_pick rest t)
   where
@@ -52,10 +52,10 @@ no_pick ((c, qs) ∷ rest) t h = at_test (accepts c t) h (no_pick rest t)
 
 -- ---- the first token of something
 
-abbrev First : List Class → List Tok → Type 0
+abbrev pub First : List Class → List Tok → Type 0
 First cs ts = (t : Tok) × ((us : List Tok) × ((ts ≡ t ∷ us) × (hit cs t ≡ true)))
 
-is_first : {b : Bool} {s : Sort} {d : ℕ} {n : Node} → Is b s d n → is_part s ≡ true → First (starts s) (yield n)
+pub is_first : {b : Bool} {s : Sort} {d : ℕ} {n : Node} → Is b s d n → is_part s ≡ true → First (starts s) (yield n)
 is_first {s = s} (by_token t ps ns p are e) h =
     (t, (yields ns, (rw (e, make_yields s (Leaf t ∷ ns)) refl, rw (starts_is s) (hit_left (heads (led s)) _ t (pick_head (led s) t ps p)))))
 is_first {s = s} (by_rule r ps m ns p is are e) h =
@@ -72,15 +72,15 @@ Quiet cs (t ∷ ts) = hit cs t ≡ false
 first_quiet : (cs ds : List Class) (ts us : List Tok) → First cs ts → apart cs ds ≡ true → Quiet ds (ts ++ us)
 first_quiet cs ds ts us f a = subst (λ z. Quiet ds (z ++ us)) (sym f.1.1.0) (apart_hit cs ds f.0 a f.1.1.1)
 
-quiet_within : (cs ds : List Class) (ts : List Tok) → within cs ds ≡ true → Quiet ds ts → Quiet cs ts
+pub quiet_within : (cs ds : List Class) (ts : List Tok) → within cs ds ≡ true → Quiet ds ts → Quiet cs ts
 quiet_within cs ds [] h q = tt
 quiet_within cs ds (t ∷ ts) h q = within_hit cs ds t h q
 
-quiet_left : (cs ds : List Class) (ts : List Tok) → Quiet (cs ++ ds) ts → Quiet cs ts
+pub quiet_left : (cs ds : List Class) (ts : List Tok) → Quiet (cs ++ ds) ts → Quiet cs ts
 quiet_left cs ds [] q = tt
 quiet_left cs ds (t ∷ ts) q = miss_left cs ds t q
 
-quiet_right : (cs ds : List Class) (ts : List Tok) → Quiet (cs ++ ds) ts → Quiet ds ts
+pub quiet_right : (cs ds : List Class) (ts : List Tok) → Quiet (cs ++ ds) ts → Quiet ds ts
 quiet_right cs ds [] q = tt
 quiet_right cs ds (t ∷ ts) q = miss_right cs ds t q
 
@@ -93,10 +93,10 @@ first_right cs ds ts f = (f.0, (f.1.0, (f.1.1.0, hit_right cs ds f.0 f.1.1.1)))
 first_more : (cs : List Class) (ts us : List Tok) → First cs ts → First cs (ts ++ us)
 first_more cs ts us f = (f.0, (f.1.0 ++ us, (ap (λ z. z ++ us) f.1.1.0, f.1.1.1)))
 
-abbrev Begun : List Part → List Node → Type 0
+abbrev pub Begun : List Part → List Node → Type 0
 Begun ps ns = (yields ns ≡ [] × empty ps ≡ true) ⊎ First (firsts ps) (yields ns)
 
-are_first : {b : Bool} {d : ℕ} {ps : List Part} {ns : List Node} → Are b d ps ns → safe ps ≡ true → Begun ps ns
+pub are_first : {b : Bool} {d : ℕ} {ps : List Part} {ns : List Node} → Are b d ps ns → safe ps ≡ true → Begun ps ns
 are_first end h = inl (refl, refl)
 are_first (a_token {t = t} {ns = ns} f a are) h = inr (t, (yields ns, (refl, rw a refl)))
 are_first (a_rule {s = s} {n = n} {ns = ns} l is are) h = inr (first_more (starts s) (yield n) (yields ns) (is_first is (both_left (is_part s) _ h)))
@@ -118,7 +118,7 @@ are_first (one_more {s = s} {ps = ps} {n = n} {ns = ns} is are) h =
     inr (first_left (starts s) (firsts ps) _ (first_more (starts s) (yield n) (yields ns) (is_first is (both_left (is_part s) _ h))))
 
 -- what follows a part doesn't go on with it
-follows : (ps : List Part) (ns : List Node) (cs ds : List Class) (ts : List Tok) → Begun ps ns → apart (firsts ps) cs ≡ true → Quiet (cond (empty ps) cs ds) ts → Quiet cs (yields ns ++ ts)
+pub follows : (ps : List Part) (ns : List Node) (cs ds : List Class) (ts : List Tok) → Begun ps ns → apart (firsts ps) cs ≡ true → Quiet (cond (empty ps) cs ds) ts → Quiet cs (yields ns ++ ts)
 follows ps ns cs ds ts (inl e) a q = subst (λ z. Quiet cs (z ++ ts)) (sym e.0) (subst (λ z. Quiet (cond z cs ds) ts) e.1 q)
 follows ps ns cs ds ts (inr f) a q = first_quiet (firsts ps) cs (yields ns) ts f a
 
@@ -165,7 +165,7 @@ at_ending s done (token c j ∷ ps) k = refl
 at_ending s done (maybe r j ∷ ps) k = refl
 at_ending s done (many r j ∷ ps) k = refl
 
-have_at : (s : Sort) (done : List Node) (ps : List Part) (i : Place) (k : Frames) (n : Node) → have n (In s done ps i k) ≡ at s (done ++ n ∷ []) ps k
+pub have_at : (s : Sort) (done : List Node) (ps : List Part) (i : Place) (k : Frames) (n : Node) → have n (In s done ps i k) ≡ at s (done ++ n ∷ []) ps k
 have_at s done [] i k n = refl
 have_at s done (one r j ∷ ps) i k n = refl
 have_at s done (token c j ∷ ps) i k n = refl
@@ -205,22 +205,22 @@ zero_check true = refl
 zero_check false = refl
 
 -- A node of this rule is read from its tokens: its first token goes in, and the others lead to where the node was read.
-abbrev Entered : Bool → Sort → Frames → Node → List Tok → Type 0
+abbrev pub Entered : Bool → Sort → Frames → Node → List Tok → Type 0
 Entered b s k n ts = (t : Tok) × ((us : List Tok) × ((m : State) × ((yield n ≡ t ∷ us) × ((enter s t k ≡ Some m) × (go b m (us ++ ts) ≡ go b (have n k) ts)))))
 
-first_same : {t u : Tok} {ts us : List Tok} → t ∷ ts ≡ u ∷ us → t ≡ u
+pub first_same : {t u : Tok} {ts us : List Tok} → t ∷ ts ≡ u ∷ us → t ≡ u
 first_same e = cc
 
-quiet_start : (c : Bool) (cs ds : List Class) (ts : List Tok) → Quiet (cond c (cs ++ ds) []) ts → Quiet (cond c cs []) ts
+pub quiet_start : (c : Bool) (cs ds : List Class) (ts : List Tok) → Quiet (cond c (cs ++ ds) []) ts → Quiet (cond c cs []) ts
 quiet_start true cs ds ts q = quiet_left cs ds ts q
 quiet_start false cs ds ts q = q
 
-quiet_trail : (c : Bool) (cs ds : List Class) (ts : List Tok) → Quiet (cond c (cs ++ ds) []) ts → Quiet (cond c ds []) ts
+pub quiet_trail : (c : Bool) (cs ds : List Class) (ts : List Tok) → Quiet (cond c (cs ++ ds) []) ts → Quiet (cond c ds []) ts
 quiet_trail true cs ds ts q = quiet_right cs ds ts q
 quiet_trail false cs ds ts q = q
 
 mutual
-  is_read : (b : Bool) {s : Sort} {d : ℕ} {n : Node} → Is b s d n → is_part s ≡ true → (k : Frames) (ts : List Tok) → d ≡ depth k → Quiet (trails s) ts → Entered b s k n ts
+  pub is_read : (b : Bool) {s : Sort} {d : ℕ} {n : Node} → Is b s d n → is_part s ≡ true → (k : Frames) (ts : List Tok) → d ≡ depth k → Quiet (trails s) ts → Entered b s k n ts
   is_read b {s = s} {n = n} (by_token t ps ns p are e) h k ts x q =
       let told = led_body s t ps p in
       let quiet = quiet_within (ends ps) (trails s) ts (both_right (safe ps) _ told) q in

@@ -7,7 +7,6 @@ pub mod Complete
 pub mod Words
 pub mod Moves
 pub mod Items
-pub mod Laws
 pub mod Rows
 pub mod Refused
 pub mod Printed
@@ -15,3 +14,7 @@ pub mod Joins
 pub mod Heads
 pub mod Backwards
 pub mod Once
+pub mod Places
+pub mod Judged
+pub mod Faults
+pub mod Found

@@ -12,3 +12,4 @@ pub mod Theorem
 pub mod Lists
 pub mod Printed
 pub mod Blocks
+pub mod Depths

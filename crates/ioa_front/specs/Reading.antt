@@ -10,7 +10,9 @@ use Rattle.ioa_tokens.specs.declared.TokensError.TheVariants as refused
 use Rattle.ioa_front.specs.declared.tree.Source.{Source}
 use Rattle.ioa_front.specs.declared.fault.ReadError.{ReadError}
 use Rattle.ioa_front.specs.declared.fault.ReadError.TheVariants as fault
-use Rattle.ioa_front.specs.Grammar.{IsText}
+use Rattle.ioa_front.specs.Nodes.{Node, source as any_source, yield}
+use Rattle.ioa_front.specs.Grammar.{Is, IsText}
+use Rattle.ioa_front.specs.Depths.{depths, WithinLimit}
 use Rattle.ioa_front.specs.Trees.{PlainSource}
 use Rattle.ioa_front.specs.Spelling.{IsSource, spell}
 use Rattle.ioa_front.specs.Views.{view_source}
@@ -44,23 +46,46 @@ abbrev pub Stuck : List Tok → List Placed → Type 0
 Stuck pre [] = IsText false pre → ⊥
 Stuck pre (p ∷ ps) = (more : List Tok) → IsText false (pre ++ p.tok ∷ more) → ⊥
 
--- The tokens up to a place begin a text, and none goes on there.
+-- In each text that begins with these tokens, none of them stands inside of more than 64 pairs and prefixes.
+pub record AreShallow (pre : List Tok) (m : Node) : Type 0 where
+  pub before : List ℕ
+  pub after : List ℕ
+  pub depths_are : depths 0 m ≡ before ++ after
+  pub same : length before ≡ length pre
+  pub low : WithinLimit before
+
+abbrev pub StandWithin : List Tok → Type 0
+StandWithin pre = (m : Node) (more : List Tok) → Is false any_source 0 m → yield m ≡ pre ++ more → AreShallow pre m
+
+-- In each text that goes on so, the last of these tokens is the first that stands inside of 65.
+pub record IsFirstDeep (pre : List Tok) (m : Node) : Type 0 where
+  pub before : List ℕ
+  pub after : List ℕ
+  pub depths_are : depths 0 m ≡ before ++ 65 ∷ after
+  pub same : length before ≡ length pre
+  pub low : WithinLimit before
+
+abbrev pub StandsTooDeep : List Tok → Tok → Type 0
+StandsTooDeep pre t = (m : Node) (more : List Tok) → Is false any_source 0 m → yield m ≡ pre ++ t ∷ more → IsFirstDeep pre m
+
+-- The tokens up to a place begin a text, none of them too deep, and no text goes on there.
 pub record IsSyntaxAt (source : Text) (at : ℕ) : Type 0 where
   pub before : List Placed
   pub left : List Placed
   pub cut : IsTokens source (before ++ left)
   pub begins : Begins (toks before)
+  pub within : StandWithin (toks before)
   pub stuck : Stuck (toks before) left
   pub place : first_at (length source) left ≡ at
 
--- A token goes on with those before it to a text of the grammar, and to none within the limit.
+-- A token goes on with those before it to a text, and is the first that stands too deep.
 pub record IsTooDeep (source : Text) : Type 0 where
   pub before : List Placed
   pub deep : Placed
   pub left : List Placed
   pub cut : IsTokens source (before ++ deep ∷ left)
   pub begins : Begins (toks before ++ deep.tok ∷ [])
-  pub beyond : (more : List Tok) → IsText true (toks before ++ deep.tok ∷ more) → ⊥
+  pub first : StandsTooDeep (toks before) deep.tok
 
 -- how many bytes a source may have
 abbrev pub most_bytes : ℕ
