@@ -1,19 +1,19 @@
 -- Types, terms and statements are had back from their nodes.
 use Rattle.std.proofs.Common.{◌≡◌, ℕ, Bool, true, false, List, [], ◌∷◌, ◌++◌, Some, None, refl, ◌∙◌, ap}
-use Rattle.ioa_front.specs.declared.tree.Signed.{Signed}
-use Rattle.ioa_front.specs.declared.tree.Sign.{Sign}
-use Rattle.ioa_front.specs.declared.tree.Sign.TheVariants as sign
-use Rattle.ioa_front.specs.declared.tree.Relation.{Relation}
-use Rattle.ioa_front.specs.declared.tree.Relation.TheVariants as relation
-use Rattle.ioa_front.specs.declared.tree.Call.TheVariants as call
-use Rattle.ioa_front.specs.declared.tree.EntryKind.{EntryKind}
-use Rattle.ioa_front.specs.declared.tree.EntryKind.TheVariants as kind
+use Rattle.ioa_trees.specs.declared.tree.Signed.{Signed}
+use Rattle.ioa_trees.specs.declared.tree.Sign.{Sign}
+use Rattle.ioa_trees.specs.declared.tree.Sign.TheVariants as sign
+use Rattle.ioa_trees.specs.declared.tree.Relation.{Relation}
+use Rattle.ioa_trees.specs.declared.tree.Relation.TheVariants as relation
+use Rattle.ioa_trees.specs.declared.tree.Call.TheVariants as call
+use Rattle.ioa_trees.specs.declared.tree.EntryKind.{EntryKind}
+use Rattle.ioa_trees.specs.declared.tree.EntryKind.TheVariants as kind
 use Rattle.ioa_tokens.specs.declared.Word.{Word}
 use Rattle.ioa_tokens.specs.declared.Word.TheVariants as w
 use Rattle.ioa_tokens.specs.Tokens.{Name, Num, Key}
-use Rattle.ioa_front.specs.Nodes.{Sort, type, statement, choice, elseif_part, else_part, init, term, conjunction, negation, comparison, sum, product, unary, postfix, primary, Node, Leaf, Branch, Nodes, none, more, pack}
-use Rattle.ioa_front.specs.Trees.{Bytes, PlainType, Bools, Ints, Range, Named, SeqOf, ArrayOf, PlainTerm, Number, True, False, Variable, Group, Called, Append, Index, Minus, Product, Sum, Compare, Not, And, Or, PlainTerms, no_term, more_terms, PlainFactor, Times, Modulo, PlainFactors, no_factor, more_factors, PlainAddends, no_addend, more_addends, PlainInit, Empty, Fill, Value, PlainDeclared, PlainStatement, Assign, If, For, PlainStatements, no_statement, more_statements, PlainBranches, no_branch, more_branches}
-use Rattle.ioa_front.specs.Spelling.{key, word_of_sign, word_of_relation, word_of_kind, signed_node, type_node, node, index_nodes, and_nodes, or_nodes, factor_node, factor_nodes, addend_nodes, init_node, statement_node, if_nodes, elseif_nodes, else_nodes, statements_node, statement_nodes, parts}
+use Rattle.ioa_trees.specs.Nodes.{Sort, type, statement, choice, elseif_part, else_part, init, term, conjunction, negation, comparison, sum, product, unary, postfix, primary, Node, Leaf, Branch, Nodes, none, more, pack}
+use Rattle.ioa_trees.specs.Trees.{Bytes, PlainType, Bools, Ints, Range, Named, SeqOf, ArrayOf, PlainTerm, Number, True, False, Variable, Group, Called, Append, Index, Minus, Product, Sum, Compare, Not, And, Or, PlainTerms, no_term, more_terms, PlainFactor, Times, Modulo, PlainFactors, no_factor, more_factors, PlainAddends, no_addend, more_addends, PlainInit, Empty, Fill, Value, PlainDeclared, PlainStatement, Assign, If, For, PlainStatements, no_statement, more_statements, PlainBranches, no_branch, more_branches}
+use Rattle.ioa_trees.specs.Spelling.{key, word_of_sign, word_of_relation, word_of_kind, signed_node, type_node, node, index_nodes, and_nodes, or_nodes, factor_node, factor_nodes, addend_nodes, init_node, statement_node, if_nodes, elseif_nodes, else_nodes, statements_node, statement_nodes, parts}
 
 -- ---- lists
 

@@ -2,8 +2,8 @@
 use Rattle.std.proofs.Common.{◌≡◌, ◌+◌, ℕ, zero, suc, Bool, true, false, ◌&&◌, nat_lt, List, [], ◌∷◌, ◌++◌, length, append_assoc, append-nil, Option, Some, None, refl, sym, ◌∙◌, ap, subst, cond, ◌⊎◌, inl, inr}
 use borrow.Author.Tests.{le-ltb}
 use Rattle.ioa_tokens.specs.Tokens.{Tok}
-use Rattle.ioa_front.specs.Nodes.{Sort, source, Node, Leaf, make, yield, yields}
-use Rattle.ioa_front.specs.Grammar.{Class, accepts, Place, outside, first, inside, deeper, Part, token, one, maybe, many, led, plain, pick, Low, Fits, Is, Are, by_token, by_rule, a_source, end, a_token, a_rule, absent, present, no_more, one_more}
+use Rattle.ioa_trees.specs.Nodes.{Sort, source, Node, Leaf, make, yield, yields}
+use Rattle.ioa_trees.specs.Grammar.{Class, accepts, Place, outside, first, inside, deeper, Part, token, one, maybe, many, led, plain, pick, Low, Fits, Is, Are, by_token, by_rule, a_source, end, a_token, a_rule, absent, present, no_more, one_more}
 use Rattle.ioa_front.specs.Machine.{Frames, Bottom, In, depth, State, At, Step, on, want, have, at, enter, descend_by, checked, walk, after, move, Read, Syntax, Deep, nullable, finish, ending, go, start}
 use Rattle.ioa_front.proofs.Spelled.{make_yields}
 use Rattle.ioa_front.proofs.Told.{hit, apart, within, apart_hit, within_hit, hit_left, hit_right, miss_left, miss_right, heads, starts, starts_by, firsts, trails, empty, ends, is_part, safe, body, bodies, all_told, whole_safe, starts_is, enter_is, move_want, want_ending}

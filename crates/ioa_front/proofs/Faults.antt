@@ -3,8 +3,8 @@ use Rattle.std.proofs.Common.{◌≡◌, ◌≤◌, ◌<◌, ◌+◌, ℕ, Bool,
 use borrow.Author.Tests.{le-ltb}
 use Rattle.std.proofs.lemmas.Bool.{ltb-false, ltb-true, lt-ltb}
 use Rattle.ioa_tokens.specs.Tokens.{Tok}
-use Rattle.ioa_front.specs.Nodes.{Sort, source, Node, Leaf, pack, yield}
-use Rattle.ioa_front.specs.Grammar.{Place, outside, first, inside, deeper, Part, one, many, Is, Are, Fits, by_token, by_rule, a_source, end, a_token, a_rule, absent, present, no_more, one_more}
+use Rattle.ioa_trees.specs.Nodes.{Sort, source, Node, Leaf, pack, yield}
+use Rattle.ioa_trees.specs.Grammar.{Place, outside, first, inside, deeper, Part, one, many, Is, Are, Fits, by_token, by_rule, a_source, end, a_token, a_rule, absent, present, no_more, one_more}
 use Rattle.ioa_front.specs.Machine.{State, Step, on, move, Verdict, Read, Syntax, Deep, go, start}
 use Rattle.ioa_front.specs.Depths.{here, depths, depths_in, WithinLimit}
 use Rattle.ioa_front.proofs.Prefix.{left, go_left, deep_stays}

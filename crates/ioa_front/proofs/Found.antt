@@ -10,15 +10,15 @@ use Rattle.ioa_tokens.specs.Tokens.{Tok, Placed, placed, placed_of, toks_of}
 use Rattle.ioa_tokens.specs.declared.Token.{Token}
 use Rattle.ioa_tokens.specs.declared.TokensError.{TokensError}
 use Rattle.ioa_tokens.specs.declared.TokensError.TheVariants as refused
-use Rattle.ioa_front.specs.declared.tree.Source.{Source}
+use Rattle.ioa_trees.specs.declared.tree.Source.{Source}
 use Rattle.ioa_front.specs.declared.fault.ReadError.{ReadError}
 use Rattle.ioa_front.specs.declared.fault.ReadError.TheVariants as fault
-use Rattle.ioa_front.specs.Nodes.{Node, make}
-use Rattle.ioa_front.specs.Grammar.{IsText}
+use Rattle.ioa_trees.specs.Nodes.{Node, make}
+use Rattle.ioa_trees.specs.Grammar.{IsText}
 use Rattle.ioa_front.specs.Machine.{Frames, Bottom, In, State, Want, At, Done, Step, Verdict, Read, Syntax, Deep, nullable, finish, ending, move, on, go, start}
-use Rattle.ioa_front.specs.Trees.{PlainSource}
-use Rattle.ioa_front.specs.Spelling.{IsSource, source_node, spell}
-use Rattle.ioa_front.specs.Views.{view_source}
+use Rattle.ioa_trees.specs.Trees.{PlainSource}
+use Rattle.ioa_trees.specs.Spelling.{IsSource, source_node, spell}
+use Rattle.ioa_trees.specs.Views.{view_source}
 use Rattle.ioa_front.specs.Reading.{AreShallow, Begins, Gets, IsFirstDeep, IsReadable, IsRefusal, IsSyntaxAt, IsTooDeep, Spells, Stuck, first_at, lifted, most_bytes, toks}
 use Rattle.ioa_front.specs.Theorem.{IsFound, left_at}
 use Rattle.ioa_front.proofs.Prefix.{go_left, left}

@@ -1,16 +1,16 @@
 -- Lists of trees and of nodes.
 use Rattle.std.proofs.Common.{String, Global, string_bytes, ◌<◌, length, arith, ◌≡◌, List, [], ◌∷◌, ◌++◌, append_assoc, ◌∙◌, sym, map, refl, ap}
-use Rattle.ioa_front.specs.Nodes.{Node, Branch, type_body, argument_part, eff_part, name_part, task, parameter_part, statement, statements, else_part, pack, more, make, term, conjunction, postfix, product, sum}
-use Rattle.ioa_front.specs.Spelling.{type_body_node, arguments_node, arguments_tree, eff_node, named, task_node, parts, separated, parameter_node, parameters_node, parameters_tree, key, branch, statement_node, statements_node, statement_nodes, if_nodes, elseif_nodes, node, index_nodes, and_nodes, or_nodes, factor_nodes, addend_nodes}
+use Rattle.ioa_trees.specs.Nodes.{Node, Branch, type_body, argument_part, eff_part, name_part, task, parameter_part, statement, statements, else_part, pack, more, make, term, conjunction, postfix, product, sum}
+use Rattle.ioa_trees.specs.Spelling.{type_body_node, arguments_node, arguments_tree, eff_node, named, task_node, parts, separated, parameter_node, parameters_node, parameters_tree, key, branch, statement_node, statements_node, statement_nodes, if_nodes, elseif_nodes, node, index_nodes, and_nodes, or_nodes, factor_nodes, addend_nodes}
 use Rattle.ioa_front.specs.Items.{term_item, argument_item, parameter_item, parameter_part_item, index_item, and_item, or_item, factor_item, addend_item, or_tree, and_tree, index_tree, product_tree, sum_tree, listed, statement_item, statement_part_item, choice_item, elseif_item, names_nodes, name_item, name_part_item}
-use Rattle.ioa_front.specs.Trees.{Enumeration, If, no_statement, pack_statements, pack_branches, PlainTerm, pack_terms, pack_factors, pack_addends}
-use Rattle.ioa_front.specs.declared.tree.Term.{Term}
-use Rattle.ioa_front.specs.declared.tree.Factor.{Factor}
-use Rattle.ioa_front.specs.declared.tree.Addend.{Addend}
-use Rattle.ioa_front.specs.Views.{view_parameter, view, view_factor, view_addend, view_statement, view_statements, view_branch}
-use Rattle.ioa_front.specs.declared.tree.Statement.{Statement}
-use Rattle.ioa_front.specs.declared.tree.Parameter.{Parameter}
-use Rattle.ioa_front.specs.declared.tree.Branch.{Branch as Branched}
+use Rattle.ioa_trees.specs.Trees.{Enumeration, If, no_statement, pack_statements, pack_branches, PlainTerm, pack_terms, pack_factors, pack_addends}
+use Rattle.ioa_trees.specs.declared.tree.Term.{Term}
+use Rattle.ioa_trees.specs.declared.tree.Factor.{Factor}
+use Rattle.ioa_trees.specs.declared.tree.Addend.{Addend}
+use Rattle.ioa_trees.specs.Views.{view_parameter, view, view_factor, view_addend, view_statement, view_statements, view_branch}
+use Rattle.ioa_trees.specs.declared.tree.Statement.{Statement}
+use Rattle.ioa_trees.specs.declared.tree.Parameter.{Parameter}
+use Rattle.ioa_trees.specs.declared.tree.Branch.{Branch as Branched}
 use Rattle.ioa_tokens.specs.declared.Word.TheVariants as w
 
 pub items_of_indexes : (ts : List Term) → index_nodes (pack_terms (map view ts)) ≡ pack (map index_item ts)

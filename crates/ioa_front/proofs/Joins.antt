@@ -1,18 +1,18 @@
 -- Lists of nodes in the blocks of an automaton and in a source.
 use Rattle.std.proofs.Common.{◌≡◌, ◌<◌, length, arith, List, [], ◌∷◌, ◌++◌, append_assoc, append-nil, map, refl, sym, ◌∙◌, ap, String, Global, string_bytes}
 use Rattle.std.specs.Prelude.{Vec}
-use Rattle.ioa_front.specs.declared.tree.Automaton.{Automaton}
-use Rattle.ioa_front.specs.declared.tree.ComponentTree.{ComponentTree}
-use Rattle.ioa_front.specs.declared.tree.Declared.{Declared}
-use Rattle.ioa_front.specs.declared.tree.Entry.{Entry}
-use Rattle.ioa_front.specs.declared.tree.Transition.{Transition}
-use Rattle.ioa_front.specs.declared.tree.TypeDefinition.{TypeDefinition}
-use Rattle.ioa_front.specs.declared.tree.Variable.{Variable}
+use Rattle.ioa_trees.specs.declared.tree.Automaton.{Automaton}
+use Rattle.ioa_trees.specs.declared.tree.ComponentTree.{ComponentTree}
+use Rattle.ioa_trees.specs.declared.tree.Declared.{Declared}
+use Rattle.ioa_trees.specs.declared.tree.Entry.{Entry}
+use Rattle.ioa_trees.specs.declared.tree.Transition.{Transition}
+use Rattle.ioa_trees.specs.declared.tree.TypeDefinition.{TypeDefinition}
+use Rattle.ioa_trees.specs.declared.tree.Variable.{Variable}
 use Rattle.ioa_tokens.specs.declared.Word.TheVariants as w
-use Rattle.ioa_front.specs.Nodes.{Node, further, formal_part, variable_part, component_part, states, tasks}
-use Rattle.ioa_front.specs.Spelling.{key, named, branch, parts, formal_node, formals_nodes, variable_node, states_node, task_node, tasks_node, entry_node, transition_node, basic_node, component_node, components_nodes, type_definition_node, automata_nodes, further_nodes, next_name}
-use Rattle.ioa_front.specs.Trees.{Bytes, PlainAutomaton}
-use Rattle.ioa_front.specs.Views.{view_automaton, view_component, view_declared, view_entry, view_transition, view_type_definition, view_variable}
+use Rattle.ioa_trees.specs.Nodes.{Node, further, formal_part, variable_part, component_part, states, tasks}
+use Rattle.ioa_trees.specs.Spelling.{key, named, branch, parts, formal_node, formals_nodes, variable_node, states_node, task_node, tasks_node, entry_node, transition_node, basic_node, component_node, components_nodes, type_definition_node, automata_nodes, further_nodes, next_name}
+use Rattle.ioa_trees.specs.Trees.{Bytes, PlainAutomaton}
+use Rattle.ioa_trees.specs.Views.{view_automaton, view_component, view_declared, view_entry, view_transition, view_type_definition, view_variable}
 use Rattle.ioa_front.specs.Items.{listed}
 use Rattle.ioa_front.proofs.Items.{listed_push}
 use Rattle.ioa_front.specs.Lists.{entry_item, transition_item}

@@ -3,8 +3,8 @@ use Rattle.std.proofs.Common.{◌≡◌, ◌≤◌, ◌+◌, ℕ, Bool, true, fa
 use borrow.Author.Tests.{le-ltb}
 use Rattle.std.proofs.lemmas.Bool.{ltb-false}
 use Rattle.ioa_tokens.specs.Tokens.{Tok}
-use Rattle.ioa_front.specs.Nodes.{Sort, source, Node, Leaf, more, pack, make, yield, yields}
-use Rattle.ioa_front.specs.Grammar.{Place, outside, first, inside, deeper, Part, token, one, maybe, many, led, Is, Are, by_token, by_rule, a_source, end, a_token, a_rule, absent, present, no_more, one_more}
+use Rattle.ioa_trees.specs.Nodes.{Sort, source, Node, Leaf, more, pack, make, yield, yields}
+use Rattle.ioa_trees.specs.Grammar.{Place, outside, first, inside, deeper, Part, token, one, maybe, many, led, Is, Are, by_token, by_rule, a_source, end, a_token, a_rule, absent, present, no_more, one_more}
 use Rattle.ioa_front.specs.Machine.{Frames, Bottom, In, depth, State, At, Step, want, have, at, enter, checked, move, Verdict, Read, Deep, go, start}
 use Rattle.ioa_front.specs.Depths.{here, behind, depths, depths_in}
 use Rattle.ioa_front.proofs.Spelled.{make_yields}

@@ -9,7 +9,6 @@ pub mod Moves
 pub mod Items
 pub mod Rows
 pub mod Refused
-pub mod Printed
 pub mod Joins
 pub mod Heads
 pub mod Backwards

@@ -7,16 +7,16 @@ use Rattle.ioa_front.specs.declared.stop.Stop.TheVariants as stop
 use Rattle.ioa_tokens.specs.declared.Word.{Word}
 use Rattle.ioa_tokens.specs.Tokens.{Tok, Name, Num, Key, sees}
 use Rattle.ioa_tokens.specs.declared.Word.TheVariants as w
-use Rattle.ioa_front.specs.declared.tree.EntryKind.{EntryKind}
-use Rattle.ioa_front.specs.declared.tree.EntryKind.TheVariants as kind
-use Rattle.ioa_front.specs.declared.tree.Sign.{Sign}
-use Rattle.ioa_front.specs.declared.tree.Sign.TheVariants as sign
-use Rattle.ioa_front.specs.declared.tree.Relation.{Relation}
-use Rattle.ioa_front.specs.declared.tree.Relation.TheVariants as relation
-use Rattle.ioa_front.specs.Spelling.{word_of_kind, word_of_sign, word_of_relation}
+use Rattle.ioa_trees.specs.declared.tree.EntryKind.{EntryKind}
+use Rattle.ioa_trees.specs.declared.tree.EntryKind.TheVariants as kind
+use Rattle.ioa_trees.specs.declared.tree.Sign.{Sign}
+use Rattle.ioa_trees.specs.declared.tree.Sign.TheVariants as sign
+use Rattle.ioa_trees.specs.declared.tree.Relation.{Relation}
+use Rattle.ioa_trees.specs.declared.tree.Relation.TheVariants as relation
+use Rattle.ioa_trees.specs.Spelling.{word_of_kind, word_of_sign, word_of_relation}
 use Rattle.ioa_front.proofs.Complete.{Quiet, skip_many, skip_maybe}
-use Rattle.ioa_front.specs.Nodes.{Sort, Node, Leaf, and_part, argument_part, arguments, component_part, eff_part, else_part, elseif_part, formal_part, index_part, name_part, or_part, parameter_part, parameters, pre_part, statement_part, states, task, tasks, type_definition, variable_part, comparison, compared, negation, unary, postfix, sum, addend, product, factor, init, term, formal, entry, variable, component, type, type_body}
-use Rattle.ioa_front.specs.Grammar.{entry_parts, first, Class, Part, Place, many, maybe, token, word, name, number, led, plain, pick, accepts, outside}
+use Rattle.ioa_trees.specs.Nodes.{Sort, Node, Leaf, and_part, argument_part, arguments, component_part, eff_part, else_part, elseif_part, formal_part, index_part, name_part, or_part, parameter_part, parameters, pre_part, statement_part, states, task, tasks, type_definition, variable_part, comparison, compared, negation, unary, postfix, sum, addend, product, factor, init, term, formal, entry, variable, component, type, type_body}
+use Rattle.ioa_trees.specs.Grammar.{entry_parts, first, Class, Part, Place, many, maybe, token, word, name, number, led, plain, pick, accepts, outside}
 use Rattle.ioa_front.specs.Machine.{Frames, depth, In, State, Step, Want, At, want, at, move, go, on, Verdict, Syntax, Deep, descend_by, enter}
 use Rattle.ioa_front.specs.Reads.{Names, NamesInside, Stops, Gives, GivesLow, front_name, front_number, leads, starts_by, may_start, deep_stop, front_starts}
 use Rattle.ioa_front.proofs.Told.{enter_is, move_want, want_ending, hit, heads, starts, starts_by as classes_by}

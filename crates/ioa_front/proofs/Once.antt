@@ -1,12 +1,12 @@
 -- A source is had back from its node: two sources with one node are the same.
 use Rattle.std.proofs.Common.{◌≡◌, ℕ, Bool, true, false, cond, List, [], ◌∷◌, ◌++◌, map, Option, Some, None, refl, sym, ◌∙◌, ap}
-use Rattle.ioa_front.specs.declared.tree.EntryKind.TheVariants as kind
+use Rattle.ioa_trees.specs.declared.tree.EntryKind.TheVariants as kind
 use Rattle.ioa_tokens.specs.declared.Word.TheVariants as w
 use Rattle.ioa_tokens.specs.Tokens.{Name, Key, is}
-use Rattle.ioa_front.specs.Nodes.{source, type_definition, type_body, name_part, basic, further, formal, formal_part, states, variable_part, tasks, entry, parameter_part, transition, pre_part, eff_part, component, component_part, argument_part, Node, Leaf, Branch, Nodes, none, more, pack}
-use Rattle.ioa_front.specs.Trees.{Bytes, PlainType, Bools, Ints, Range, Named, SeqOf, ArrayOf, PlainTerm, Empty, PlainDeclared, PlainStatements, no_statement, more_statements, PlainParameter, Constant, Typed, PlainEntry, PlainVariable, PlainTransition, PlainAutomaton, PlainComponent, PlainTypeBody, Same, Enumeration, PlainTypeDefinition, PlainSource}
-use Rattle.ioa_front.specs.Spelling.{key, named, type_node, node, formal_node, parameter_node, parts, parameters_node, entry_node, variable_node, states_node, pre_node, eff_node, transition_node, task_node, tasks_node, body_nodes, formals_nodes, basic_node, arguments_node, component_node, components_nodes, type_body_node, next_name, further_nodes, source_nodes, source_node, spell, IsSource}
-use Rattle.ioa_front.specs.Grammar.{Part, token, many, word, outside, Is, Are, by_token, by_rule, a_source, a_token, no_more, one_more}
+use Rattle.ioa_trees.specs.Nodes.{source, type_definition, type_body, name_part, basic, further, formal, formal_part, states, variable_part, tasks, entry, parameter_part, transition, pre_part, eff_part, component, component_part, argument_part, Node, Leaf, Branch, Nodes, none, more, pack}
+use Rattle.ioa_trees.specs.Trees.{Bytes, PlainType, Bools, Ints, Range, Named, SeqOf, ArrayOf, PlainTerm, Empty, PlainDeclared, PlainStatements, no_statement, more_statements, PlainParameter, Constant, Typed, PlainEntry, PlainVariable, PlainTransition, PlainAutomaton, PlainComponent, PlainTypeBody, Same, Enumeration, PlainTypeDefinition, PlainSource}
+use Rattle.ioa_trees.specs.Spelling.{key, named, type_node, node, formal_node, parameter_node, parts, parameters_node, entry_node, variable_node, states_node, pre_node, eff_node, transition_node, task_node, tasks_node, body_nodes, formals_nodes, basic_node, arguments_node, component_node, components_nodes, type_body_node, next_name, further_nodes, source_nodes, source_node, spell, IsSource}
+use Rattle.ioa_trees.specs.Grammar.{Part, token, many, word, outside, Is, Are, by_token, by_rule, a_source, a_token, no_more, one_more}
 use Rattle.ioa_front.proofs.Complete.{one_tree}
 use Rattle.ioa_front.proofs.Backwards.{back_init, back_kind, back_parts, back_parts_to, back_statements, back_term, back_type, declared_of, init_of, inside, items, kind_of, name_of, statements_of, term_of, type_of}
 

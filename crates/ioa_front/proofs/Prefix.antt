@@ -1,7 +1,7 @@
 -- A refusal is of the first token that cannot stand where it does.
 use Rattle.std.proofs.Common.{◌≡◌, ◌≤◌, ◌+◌, ℕ, Bool, nat_lt, true, false, ◌&&◌, List, [], ◌∷◌, ◌++◌, length, length-append, Option, Some, None, refl, ap, arith, cond}
 use Rattle.ioa_tokens.specs.Tokens.{Tok}
-use Rattle.ioa_front.specs.Nodes.{Node, make}
+use Rattle.ioa_trees.specs.Nodes.{Node, make}
 use Rattle.ioa_front.specs.Machine.{Frames, Bottom, In, State, Want, At, Done, Step, Verdict, Read, Syntax, Deep, nullable, finish, move, ending, on, go}
 
 -- how many tokens a refusal leaves

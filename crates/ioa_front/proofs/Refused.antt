@@ -1,8 +1,8 @@
 -- No text of the grammar goes on with a refused token.
 use Rattle.std.proofs.Common.{◌≡◌, ℕ, ◌+◌, Bool, true, false, List, ◌∷◌, ◌++◌, length, sym, ◌∙◌, ap}
 use Rattle.ioa_tokens.specs.Tokens.{Tok}
-use Rattle.ioa_front.specs.Nodes.{Node}
-use Rattle.ioa_front.specs.Grammar.{IsText}
+use Rattle.ioa_trees.specs.Nodes.{Node}
+use Rattle.ioa_trees.specs.Grammar.{IsText}
 use Rattle.ioa_front.specs.Machine.{start, go, Read, Syntax, Deep}
 use Rattle.ioa_front.proofs.Prefix.{refused_stays, unlimited, deep_stays}
 use Rattle.ioa_front.proofs.Complete.{read_again}

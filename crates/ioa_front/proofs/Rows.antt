@@ -6,8 +6,8 @@ use Rattle.ioa_tokens.specs.Tokens.{Tok, toks_of}
 use Rattle.ioa_tokens.specs.declared.Token.{Token}
 use Rattle.ioa_front.specs.declared.stop.Stop.{Stop}
 use Rattle.ioa_front.specs.Blocks.{Goes}
-use Rattle.ioa_front.specs.Nodes.{Sort, Node, source}
-use Rattle.ioa_front.specs.Grammar.{Part, many, outside}
+use Rattle.ioa_trees.specs.Nodes.{Sort, Node, source}
+use Rattle.ioa_trees.specs.Grammar.{Part, many, outside}
 use Rattle.ioa_front.specs.Machine.{Frames, Bottom, Done, In, at, depth, descend_by, State, At, on, want, move, go, Syntax, Deep}
 use Rattle.ioa_front.specs.Reads.{Stops, front_starts}
 use Rattle.ioa_front.proofs.Told.{move_want}

@@ -2,8 +2,8 @@
 use Rattle.std.proofs.Common.{◌≡◌, ◌≤◌, ◌+◌, ℕ, zero, suc, Bool, true, false, ◌&&◌, nat_lt, List, [], ◌∷◌, ◌++◌, length, append_assoc, append-nil, Option, Some, None, refl, sym, ◌∙◌, ap, subst, arith, cond}
 use Rattle.std.proofs.lemmas.Bool.Decides.{nat_tests}
 use Rattle.ioa_tokens.specs.Tokens.{Tok}
-use Rattle.ioa_front.specs.Nodes.{Sort, source, Node, Leaf, make}
-use Rattle.ioa_front.specs.Grammar.{accepts, Place, outside, first, inside, deeper, Part, token, one, maybe, many, led, plain, pick, Low, Fits, Is, Are, by_token, by_rule, a_source, end, a_token, a_rule, absent, present, no_more, one_more}
+use Rattle.ioa_trees.specs.Nodes.{Sort, source, Node, Leaf, make}
+use Rattle.ioa_trees.specs.Grammar.{accepts, Place, outside, first, inside, deeper, Part, token, one, maybe, many, led, plain, pick, Low, Fits, Is, Are, by_token, by_rule, a_source, end, a_token, a_rule, absent, present, no_more, one_more}
 use Rattle.ioa_front.specs.Machine.{Frames, Bottom, In, depth, on, State, Want, At, Done, Step, has_led, descend, want, have, at, descend_by, enter, checked, walk, after, move, Read, Syntax, Deep, nullable, finish, ending, go, start}
 
 -- With this node in its place, and any that may follow, the whole is a source.

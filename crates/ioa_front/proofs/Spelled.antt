@@ -1,8 +1,8 @@
 -- The tokens of what is read are those that were read.
 use Rattle.std.proofs.Common.{◌≡◌, ◌+◌, ℕ, zero, suc, Bool, true, false, ◌&&◌, nat_lt, List, [], ◌∷◌, ◌++◌, length, append_assoc, append-nil, Option, Some, None, refl, sym, ◌∙◌, ap, subst, cond}
 use Rattle.ioa_tokens.specs.Tokens.{Tok}
-use Rattle.ioa_front.specs.Nodes.{Sort, Node, Leaf, Branch, make, alone, passes, pack, yield, yields, yield_nodes}
-use Rattle.ioa_front.specs.Grammar.{accepts, outside, deeper, Part, token, one, maybe, many, led, plain, pick, IsText}
+use Rattle.ioa_trees.specs.Nodes.{Sort, Node, Leaf, Branch, make, alone, passes, pack, yield, yields, yield_nodes}
+use Rattle.ioa_trees.specs.Grammar.{accepts, outside, deeper, Part, token, one, maybe, many, led, plain, pick, IsText}
 use Rattle.ioa_front.specs.Machine.{Frames, Bottom, In, depth, on, State, Want, At, Done, Step, has_led, descend, have, at, descend_by, enter, checked, walk, after, move, Read, Syntax, Deep, nullable, finish, ending, go, start}
 use Rattle.ioa_front.proofs.Sound.{read_formed}
 

@@ -5,8 +5,8 @@ use Rattle.ioa_tokens.specs.contracts.Word.{the_type}
 use Rattle.ioa_tokens.specs.declared.Word.{Word}
 use Rattle.ioa_tokens.specs.declared.Word.TheVariants as w
 use Rattle.ioa_tokens.specs.Tokens.{Tok, Name, Num, Key, same_word, is}
-use Rattle.ioa_front.specs.Nodes.{Sort, source, type_definition, type_body, name_part, type, signed, basic, further, formal, formal_part, states, variable, variable_part, tasks, task, entry, parameters, parameter, parameter_part, transition, pre_part, eff_part, component, component_part, arguments, argument_part, statements, statement_part, statement, choice, elseif_part, else_part, index_part, init, term, or_part, conjunction, and_part, negation, comparison, compared, sum, addend, product, factor, unary, postfix, primary, Leaf}
-use Rattle.ioa_front.specs.Grammar.{Class, name, number, word, accepts, Part, token, one, maybe, many, led, plain, whole, pick, outside}
+use Rattle.ioa_trees.specs.Nodes.{Sort, source, type_definition, type_body, name_part, type, signed, basic, further, formal, formal_part, states, variable, variable_part, tasks, task, entry, parameters, parameter, parameter_part, transition, pre_part, eff_part, component, component_part, arguments, argument_part, statements, statement_part, statement, choice, elseif_part, else_part, index_part, init, term, or_part, conjunction, and_part, negation, comparison, compared, sum, addend, product, factor, unary, postfix, primary, Leaf}
+use Rattle.ioa_trees.specs.Grammar.{Class, name, number, word, accepts, Part, token, one, maybe, many, led, plain, whole, pick, outside}
 use Rattle.ioa_front.specs.Machine.{Frames, In, depth, on, want, at, enter, move, ending, Syntax}
 
 -- ---- classes of tokens

@@ -4,8 +4,8 @@ use denote.Enum.Bare.{true_same}
 use Rattle.ioa_tokens.specs.contracts.Word.{the_type}
 use Rattle.ioa_tokens.specs.declared.Word.TheVariants as w
 use Rattle.ioa_tokens.specs.Tokens.{Tok, Name, Num, Key}
-use Rattle.ioa_front.specs.Nodes.{Sort, source, type_definition, type_body, name_part, type, signed, basic, further, formal, formal_part, states, variable, variable_part, tasks, task, entry, parameters, parameter, parameter_part, transition, pre_part, eff_part, component, component_part, arguments, argument_part, statements, statement_part, statement, choice, elseif_part, else_part, index_part, init, term, or_part, conjunction, and_part, negation, comparison, compared, sum, addend, product, factor, unary, postfix, primary, Node, Leaf, make, yield, yields}
-use Rattle.ioa_front.specs.Grammar.{Class, name, number, word, accepts, Part, token, one, maybe, many, led, plain, whole, pick, Is, Are, by_token, by_rule, a_source, end, a_token, a_rule, absent, no_more, Place, outside, first, inside, deeper, Fits}
+use Rattle.ioa_trees.specs.Nodes.{Sort, source, type_definition, type_body, name_part, type, signed, basic, further, formal, formal_part, states, variable, variable_part, tasks, task, entry, parameters, parameter, parameter_part, transition, pre_part, eff_part, component, component_part, arguments, argument_part, statements, statement_part, statement, choice, elseif_part, else_part, index_part, init, term, or_part, conjunction, and_part, negation, comparison, compared, sum, addend, product, factor, unary, postfix, primary, Node, Leaf, make, yield, yields}
+use Rattle.ioa_trees.specs.Grammar.{Class, name, number, word, accepts, Part, token, one, maybe, many, led, plain, whole, pick, Is, Are, by_token, by_rule, a_source, end, a_token, a_rule, absent, no_more, Place, outside, first, inside, deeper, Fits}
 use Rattle.ioa_front.specs.Machine.{Frames, Bottom, In, depth, State, Want, At, Done, Step, on, move, Syntax, Deep, go, start}
 use Rattle.ioa_front.proofs.Prefix.{left}
 use Rattle.ioa_front.proofs.Sound.{Full, Good, move_good, start_good}

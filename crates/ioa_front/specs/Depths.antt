@@ -3,7 +3,7 @@ use Rattle.std.specs.Prelude.{ℕ, ◌+◌, ◌-◌, ◌≤◌, Bool, true, fals
 use Rattle.ioa_tokens.specs.declared.Word.{Word}
 use Rattle.ioa_tokens.specs.declared.Word.TheVariants as w
 use Rattle.ioa_tokens.specs.Tokens.{Tok, is}
-use Rattle.ioa_front.specs.Nodes.{Sort, unary, Node, Leaf, Branch, Nodes, none, more}
+use Rattle.ioa_trees.specs.Nodes.{Sort, unary, Node, Leaf, Branch, Nodes, none, more}
 
 abbrev pub one_of : List Word → Tok → Bool
 one_of [] t = false

@@ -2,17 +2,17 @@
 use Rattle.std.specs.Prelude.{List, [], ◌∷◌, map, String, string_bytes}
 use Rattle.std.specs.declared.alloc.Global.{Global}
 use Rattle.ioa_tokens.specs.declared.Word.TheVariants as w
-use Rattle.ioa_front.specs.Nodes.{Node, argument_part, parameter_part, name_part, and_part, or_part, addend, statement_part, elseif_part}
-use Rattle.ioa_front.specs.Spelling.{parameter_node, node, index_node, factor_node, branch, key, word_of_sign, named, type_node, statement_node, choice_node}
-use Rattle.ioa_front.specs.Trees.{PlainDeclared, PlainTerm, PlainFactor, Or, And, Index, Product, Sum, pack_terms, pack_factors, pack_addends}
-use Rattle.ioa_front.specs.declared.tree.Sign.{Sign}
-use Rattle.ioa_front.specs.declared.tree.Term.{Term}
-use Rattle.ioa_front.specs.declared.tree.Factor.{Factor}
-use Rattle.ioa_front.specs.declared.tree.Addend.{Addend}
-use Rattle.ioa_front.specs.Views.{view_parameter, view, view_factor, view_addend, view_statement, view_branch}
-use Rattle.ioa_front.specs.declared.tree.Statement.{Statement}
-use Rattle.ioa_front.specs.declared.tree.Branch.{Branch}
-use Rattle.ioa_front.specs.declared.tree.Parameter.{Parameter}
+use Rattle.ioa_trees.specs.Nodes.{Node, argument_part, parameter_part, name_part, and_part, or_part, addend, statement_part, elseif_part}
+use Rattle.ioa_trees.specs.Spelling.{parameter_node, node, index_node, factor_node, branch, key, word_of_sign, named, type_node, statement_node, choice_node}
+use Rattle.ioa_trees.specs.Trees.{PlainDeclared, PlainTerm, PlainFactor, Or, And, Index, Product, Sum, pack_terms, pack_factors, pack_addends}
+use Rattle.ioa_trees.specs.declared.tree.Sign.{Sign}
+use Rattle.ioa_trees.specs.declared.tree.Term.{Term}
+use Rattle.ioa_trees.specs.declared.tree.Factor.{Factor}
+use Rattle.ioa_trees.specs.declared.tree.Addend.{Addend}
+use Rattle.ioa_trees.specs.Views.{view_parameter, view, view_factor, view_addend, view_statement, view_branch}
+use Rattle.ioa_trees.specs.declared.tree.Statement.{Statement}
+use Rattle.ioa_trees.specs.declared.tree.Branch.{Branch}
+use Rattle.ioa_trees.specs.declared.tree.Parameter.{Parameter}
 
 abbrev pub index_item : Term → Node
 index_item t = index_node (node (view t))

@@ -1,15 +1,9 @@
-pub mod Nodes
-pub mod Grammar
 pub mod Machine
-pub mod Trees
-pub mod Spelling
-pub mod Views
 pub mod Reads
 pub mod Items
 pub mod Reading
 pub mod Refusals
 pub mod Theorem
 pub mod Lists
-pub mod Printed
 pub mod Blocks
 pub mod Depths

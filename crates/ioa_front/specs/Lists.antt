@@ -1,14 +1,14 @@
 -- Lists of one rule, one after the other.
 use Rattle.std.specs.Prelude.{◌≡◌, true, List, ◌∷◌, ◌++◌, Result, Ok, Err}
 use Rattle.ioa_front.specs.declared.stop.Stop.{Stop}
-use Rattle.ioa_front.specs.declared.tree.Entry.{Entry}
-use Rattle.ioa_front.specs.declared.tree.Transition.{Transition}
+use Rattle.ioa_trees.specs.declared.tree.Entry.{Entry}
+use Rattle.ioa_trees.specs.declared.tree.Transition.{Transition}
 use Rattle.ioa_tokens.specs.Tokens.{Tok}
-use Rattle.ioa_front.specs.Nodes.{Sort, Node}
-use Rattle.ioa_front.specs.Grammar.{Part, one, many, outside}
+use Rattle.ioa_trees.specs.Nodes.{Sort, Node}
+use Rattle.ioa_trees.specs.Grammar.{Part, one, many, outside}
 use Rattle.ioa_front.specs.Machine.{Frames, depth, at, go}
-use Rattle.ioa_front.specs.Spelling.{entry_node, transition_node}
-use Rattle.ioa_front.specs.Views.{view_entry, view_transition}
+use Rattle.ioa_trees.specs.Spelling.{entry_node, transition_node}
+use Rattle.ioa_trees.specs.Views.{view_entry, view_transition}
 use Rattle.ioa_front.specs.Reads.{Stops}
 
 abbrev pub entry_item : Entry → Node

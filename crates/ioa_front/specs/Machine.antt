@@ -1,8 +1,8 @@
 -- The reader as a machine that goes over the tokens once. A frame is a rule that is being read, with what was read of it and what is left.
 use Rattle.std.specs.Prelude.{ℕ, zero, suc, ◌+◌, Bool, true, false, ◌&&◌, if◌then◌else◌, nat_lt, List, [], ◌∷◌, ◌++◌, length, Option, Some, None}
 use Rattle.ioa_tokens.specs.Tokens.{Tok}
-use Rattle.ioa_front.specs.Nodes.{Sort, source, Node, Leaf, make}
-use Rattle.ioa_front.specs.Grammar.{accepts, Place, outside, first, inside, deeper, Part, token, one, maybe, many, led, plain, whole, pick}
+use Rattle.ioa_trees.specs.Nodes.{Sort, source, Node, Leaf, make}
+use Rattle.ioa_trees.specs.Grammar.{accepts, Place, outside, first, inside, deeper, Part, token, one, maybe, many, led, plain, whole, pick}
 
 -- What comes around: a part of this rule is awaited, in this place; the list is what was read of it, the parts are what follows.
 pub data Frames : Type 0 where

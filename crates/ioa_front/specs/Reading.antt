@@ -7,15 +7,15 @@ use Rattle.ioa_tokens.specs.Cutting.{IsTokens, IsBadAt}
 use Rattle.ioa_tokens.specs.Layout.{AreProper}
 use Rattle.ioa_tokens.specs.declared.TokensError.{TokensError}
 use Rattle.ioa_tokens.specs.declared.TokensError.TheVariants as refused
-use Rattle.ioa_front.specs.declared.tree.Source.{Source}
+use Rattle.ioa_trees.specs.declared.tree.Source.{Source}
 use Rattle.ioa_front.specs.declared.fault.ReadError.{ReadError}
 use Rattle.ioa_front.specs.declared.fault.ReadError.TheVariants as fault
-use Rattle.ioa_front.specs.Nodes.{Node, source as any_source, yield}
-use Rattle.ioa_front.specs.Grammar.{Is, IsText}
+use Rattle.ioa_trees.specs.Nodes.{Node, source as any_source, yield}
+use Rattle.ioa_trees.specs.Grammar.{Is, IsText}
 use Rattle.ioa_front.specs.Depths.{depths, WithinLimit}
-use Rattle.ioa_front.specs.Trees.{PlainSource}
-use Rattle.ioa_front.specs.Spelling.{IsSource, spell}
-use Rattle.ioa_front.specs.Views.{view_source}
+use Rattle.ioa_trees.specs.Trees.{PlainSource}
+use Rattle.ioa_trees.specs.Spelling.{IsSource, spell}
+use Rattle.ioa_trees.specs.Views.{view_source}
 
 -- tokens without their places
 abbrev pub toks : List Placed → List Tok

@@ -5,8 +5,8 @@ use Rattle.ioa_front.specs.declared.stop.Stop.TheVariants as stop
 use Rattle.ioa_tokens.specs.declared.Word.{Word}
 use Rattle.ioa_tokens.specs.Tokens.{Tok, Name, Num, Key, sees}
 use Rattle.ioa_tokens.specs.declared.Word.TheVariants as w
-use Rattle.ioa_front.specs.Nodes.{Sort, statement, name_part, Node, Leaf}
-use Rattle.ioa_front.specs.Grammar.{Class, token, name, outside, Place, Part, maybe, if_parts, else_parts, many, accepts, led, plain}
+use Rattle.ioa_trees.specs.Nodes.{Sort, statement, name_part, Node, Leaf}
+use Rattle.ioa_trees.specs.Grammar.{Class, token, name, outside, Place, Part, maybe, if_parts, else_parts, many, accepts, led, plain}
 use Rattle.ioa_front.specs.Machine.{Frames, depth, on, State, At, at, have, Verdict, Syntax, Deep, go}
 
 -- why a reader stopped

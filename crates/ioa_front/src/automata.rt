@@ -2,11 +2,11 @@
 ghost use Rattle.std.specs.Prelude.{◌≡◌, ◌≤◌, ◌+◌, ◌∷◌, ◌++◌, [], length, map, IfOk, string_bytes};
 ghost use Rattle.ioa_tokens.specs.declared.Word.TheVariants as w;
 ghost use Rattle.ioa_tokens.specs.Tokens.{toks_of};
-ghost use Rattle.ioa_front.specs.Nodes.{basic, further};
-ghost use Rattle.ioa_front.specs.Grammar.{after_signature};
+ghost use Rattle.ioa_trees.specs.Nodes.{basic, further};
+ghost use Rattle.ioa_trees.specs.Grammar.{after_signature};
 ghost use Rattle.ioa_front.specs.Machine.{want};
-ghost use Rattle.ioa_front.specs.Spelling.{automata_nodes, basic_node, key, named, states_node, tasks_node};
-ghost use Rattle.ioa_front.specs.Views.{view_automaton, view_variable};
+ghost use Rattle.ioa_trees.specs.Spelling.{automata_nodes, basic_node, key, named, states_node, tasks_node};
+ghost use Rattle.ioa_trees.specs.Views.{view_automaton, view_variable};
 ghost use Rattle.ioa_front.specs.Lists.{entry_item, transition_item};
 ghost use Rattle.ioa_front.specs.Blocks.{BasicThen, Goes, Leads, after_states, automata_parts, component_parts, further_parts};
 ghost use Rattle.ioa_front.specs.Reads.{GivesLow, front_starts};
@@ -15,8 +15,8 @@ use crate::blocks::{read_head, read_states, read_tasks};
 use crate::front::{expect, expect_name};
 use crate::lists::{read_entries, read_transitions};
 use crate::stop::Stop;
-use crate::tree::{Automaton, Entry, Transition, Variable};
 use ioa_tokens::{Kind, Token, Word};
+use ioa_trees::tree::{Automaton, Entry, Transition, Variable};
 use std::alloc::Global;
 
 // The entries and the state variables.

@@ -2,23 +2,23 @@
 ghost use Rattle.std.specs.Prelude.{◌≡◌, ◌≤◌, ◌<◌, ◌∷◌, ◌++◌, [], length, map, IfOk, string_bytes};
 ghost use Rattle.ioa_tokens.specs.declared.Word.TheVariants as w;
 ghost use Rattle.ioa_tokens.specs.Tokens.{toks_of};
-ghost use Rattle.ioa_front.specs.Nodes.{basic, formal, states, task, tasks};
-ghost use Rattle.ioa_front.specs.Grammar.{outside};
+ghost use Rattle.ioa_trees.specs.Nodes.{basic, formal, states, task, tasks};
+ghost use Rattle.ioa_trees.specs.Grammar.{outside};
 ghost use Rattle.ioa_front.specs.Machine.{at, want};
-ghost use Rattle.ioa_front.specs.Spelling.{branch, formal_node, formals_nodes, key, states_node, tasks_node};
+ghost use Rattle.ioa_trees.specs.Spelling.{branch, formal_node, formals_nodes, key, states_node, tasks_node};
 ghost use Rattle.ioa_front.specs.Items.{listed};
-ghost use Rattle.ioa_front.specs.Views.{view_declared, view_variable};
+ghost use Rattle.ioa_trees.specs.Views.{view_declared, view_variable};
 ghost use Rattle.ioa_front.specs.Lists.{SomeOf};
 ghost use Rattle.ioa_front.specs.Blocks.{Heads, HeadsInside, after_states, head_nodes, signature_parts, task_item, variable_item, variable_part_item, variable_parts};
-ghost use Rattle.ioa_front.specs.Grammar.{after_signature};
+ghost use Rattle.ioa_trees.specs.Grammar.{after_signature};
 ghost use Rattle.ioa_front.specs.Reads.{Gives, GivesLow, Perhaps, front_starts};
 
 use crate::front::{expect, past};
 use crate::names::read_formal;
 use crate::stop::Stop;
 use crate::transitions::{read_task, read_variable};
-use crate::tree::{Declared, Variable};
 use ioa_tokens::{Kind, Token, Word};
+use ioa_trees::tree::{Declared, Variable};
 use std::alloc::Global;
 
 #[tactic(auto, using(crate::proofs::Moves::gives_low))]

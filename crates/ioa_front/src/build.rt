@@ -1,10 +1,10 @@
 // Terms out of their parts: a repetition of one alone is that one.
 ghost use Rattle.std.specs.Prelude.{◌≡◌, map, IfOk};
-ghost use Rattle.ioa_front.specs.Trees.{Not, Minus, Compare, Group, Called};
+ghost use Rattle.ioa_trees.specs.Trees.{Not, Minus, Compare, Group, Called};
 ghost use Rattle.ioa_front.specs.Items.{or_tree, and_tree, index_tree, product_tree, sum_tree};
-ghost use Rattle.ioa_front.specs.Views.{view, view_factor, view_addend};
+ghost use Rattle.ioa_trees.specs.Views.{view, view_factor, view_addend};
 
-use crate::tree::{Addend, Call, Factor, Relation, Term};
+use ioa_trees::tree::{Addend, Call, Factor, Relation, Term};
 use std::alloc::{AllocError, Global};
 
 pub(crate) fn or_of(alloc: Global, first: Term, others: Vec<Term>) -> Result<Term, AllocError>

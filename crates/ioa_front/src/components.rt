@@ -2,18 +2,18 @@
 ghost use Rattle.std.specs.Prelude.{◌≤◌, ◌<◌, ◌+◌, ◌∷◌, [], length, map, IfOk};
 ghost use Rattle.ioa_tokens.specs.declared.Word.TheVariants as w;
 ghost use Rattle.ioa_tokens.specs.Tokens.{toks_of};
-ghost use Rattle.ioa_front.specs.Nodes.{arguments, component};
-ghost use Rattle.ioa_front.specs.Grammar.{arguments_parts, outside};
+ghost use Rattle.ioa_trees.specs.Nodes.{arguments, component};
+ghost use Rattle.ioa_trees.specs.Grammar.{arguments_parts, outside};
 ghost use Rattle.ioa_front.specs.Machine.{want, at};
-ghost use Rattle.ioa_front.specs.Spelling.{arguments_node, arguments_tree, component_node, key};
-ghost use Rattle.ioa_front.specs.Views.{view, view_component};
+ghost use Rattle.ioa_trees.specs.Spelling.{arguments_node, arguments_tree, component_node, key};
+ghost use Rattle.ioa_trees.specs.Views.{view, view_component};
 ghost use Rattle.ioa_front.specs.Reads.{Gives, GivesLow, Perhaps};
 
 use crate::front::{expect, expect_name, past};
 use crate::stop::Stop;
 use crate::term::read_term;
-use crate::tree::{ComponentTree, Term};
 use ioa_tokens::{Token, Word};
+use ioa_trees::tree::{ComponentTree, Term};
 use std::alloc::Global;
 
 // What follows `(`.

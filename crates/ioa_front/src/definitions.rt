@@ -2,19 +2,19 @@
 ghost use Rattle.std.specs.Prelude.{◌≤◌, ◌∷◌, [], length, IfOk};
 ghost use Rattle.ioa_tokens.specs.declared.Word.TheVariants as w;
 ghost use Rattle.ioa_tokens.specs.Tokens.{toks_of};
-ghost use Rattle.ioa_front.specs.Nodes.{type, type_body, type_definition};
-ghost use Rattle.ioa_front.specs.Grammar.{definition_parts, enumeration_parts};
+ghost use Rattle.ioa_trees.specs.Nodes.{type, type_body, type_definition};
+ghost use Rattle.ioa_trees.specs.Grammar.{definition_parts, enumeration_parts};
 ghost use Rattle.ioa_front.specs.Machine.{want, at};
-ghost use Rattle.ioa_front.specs.Spelling.{key, type_body_node, type_definition_node};
-ghost use Rattle.ioa_front.specs.Views.{view_type_body, view_type_definition};
+ghost use Rattle.ioa_trees.specs.Spelling.{key, type_body_node, type_definition_node};
+ghost use Rattle.ioa_trees.specs.Views.{view_type_body, view_type_definition};
 ghost use Rattle.ioa_front.specs.Reads.{Gives, GivesLow};
 
 use crate::front::{expect, expect_name, past};
 use crate::names::read_names;
 use crate::stop::Stop;
-use crate::tree::{TypeBody, TypeDefinition};
 use crate::types::read_type;
 use ioa_tokens::{Token, Word};
+use ioa_trees::tree::{TypeBody, TypeDefinition};
 use std::alloc::Global;
 
 // What follows `enumeration`.

@@ -2,18 +2,18 @@
 ghost use Rattle.std.specs.Prelude.{◌≡◌, ◌≤◌, ◌<◌, ◌+◌, ◌∷◌, [], false, length, map, IfOk, MatchOption};
 ghost use Rattle.ioa_tokens.specs.declared.Word.TheVariants as w;
 ghost use Rattle.ioa_tokens.specs.Tokens.{Key, toks_of};
-ghost use Rattle.ioa_front.specs.Nodes.{entry, parameter, parameters};
-ghost use Rattle.ioa_front.specs.Grammar.{outside, parameters_parts};
+ghost use Rattle.ioa_trees.specs.Nodes.{entry, parameter, parameters};
+ghost use Rattle.ioa_trees.specs.Grammar.{outside, parameters_parts};
 ghost use Rattle.ioa_front.specs.Machine.{want, at};
-ghost use Rattle.ioa_front.specs.Spelling.{entry_node, key, parameter_node, parameters_node, parameters_tree, word_of_kind};
-ghost use Rattle.ioa_front.specs.Views.{view_entry, view_parameter};
+ghost use Rattle.ioa_trees.specs.Spelling.{entry_node, key, parameter_node, parameters_node, parameters_tree, word_of_kind};
+ghost use Rattle.ioa_trees.specs.Views.{view_entry, view_parameter};
 ghost use Rattle.ioa_front.specs.Reads.{Gives, GivesLow, Perhaps, front_starts};
 
 use crate::front::{expect, expect_name, past};
 use crate::stop::Stop;
-use crate::tree::{Declared, Entry, EntryKind, Parameter};
 use crate::types::read_type;
 use ioa_tokens::{Kind, Token, Word};
+use ioa_trees::tree::{Declared, Entry, EntryKind, Parameter};
 use std::alloc::Global;
 
 // The kind of an action at the front and what follows it, if one comes next.

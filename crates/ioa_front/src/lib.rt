@@ -11,20 +11,17 @@ mod fault;
 mod front;
 mod lists;
 mod names;
-pub mod print;
 mod reading;
 mod source;
 mod statements;
 mod stop;
 mod term;
-#[cfg(test)]
-mod tests;
 pub mod texts;
 mod transitions;
-pub mod tree;
 mod types;
 mod values;
 
 pub use fault::ReadError;
+pub use ioa_printer::print;
+pub use ioa_trees::tree::Source;
 pub use reading::{MOST_BYTES, read};
-pub use tree::Source;

@@ -1,15 +1,15 @@
 // The readers of the lists in an automaton, all inside of no pair.
 ghost use Rattle.std.specs.Prelude.{◌≡◌, ◌≤◌, length, map, IfOk};
 ghost use Rattle.ioa_tokens.specs.Tokens.{toks_of};
-ghost use Rattle.ioa_front.specs.Nodes.{entry, transition};
+ghost use Rattle.ioa_trees.specs.Nodes.{entry, transition};
 ghost use Rattle.ioa_front.specs.Lists.{SomeOf, entry_item, transition_item};
 ghost use Rattle.ioa_front.specs.Reads.{front_starts};
 
 use crate::entries::read_entry;
 use crate::stop::Stop;
 use crate::transitions::read_transition;
-use crate::tree::{Entry, Transition};
 use ioa_tokens::{Kind, Token, Word};
+use ioa_trees::tree::{Entry, Transition};
 use std::alloc::Global;
 
 fn starts_entry(tokens: &[Token]) -> bool

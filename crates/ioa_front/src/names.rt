@@ -2,18 +2,18 @@
 ghost use Rattle.std.specs.Prelude.{◌<◌, ◌≤◌, ◌+◌, ◌∷◌, length, IfOk, map, string_bytes};
 ghost use Rattle.ioa_tokens.specs.declared.Word.TheVariants as w;
 ghost use Rattle.ioa_tokens.specs.Tokens.{toks_of};
-ghost use Rattle.ioa_front.specs.Nodes.{formal};
+ghost use Rattle.ioa_trees.specs.Nodes.{formal};
 ghost use Rattle.ioa_front.specs.Machine.{want};
-ghost use Rattle.ioa_front.specs.Spelling.{formal_node};
-ghost use Rattle.ioa_front.specs.Views.{view_declared};
+ghost use Rattle.ioa_trees.specs.Spelling.{formal_node};
+ghost use Rattle.ioa_trees.specs.Views.{view_declared};
 ghost use Rattle.ioa_front.specs.Items.{names_nodes};
 ghost use Rattle.ioa_front.specs.Reads.{GivesLow, NamesListed};
 
 use crate::front::{expect, expect_name, past};
 use crate::stop::Stop;
-use crate::tree::Declared;
 use crate::types::read_type;
 use ioa_tokens::{Token, Word};
+use ioa_trees::tree::Declared;
 use std::alloc::Global;
 
 /// Reads a name and those behind commas.

@@ -2,18 +2,18 @@
 ghost use Rattle.std.specs.Prelude.{◌≡◌, ◌≤◌, length, IfOk, IfErr};
 ghost use Rattle.ioa_tokens.specs.Layout.{layout};
 ghost use Rattle.ioa_tokens.specs.Tokens.{placed};
-ghost use Rattle.ioa_front.specs.Spelling.{spell};
-ghost use Rattle.ioa_front.specs.Trees.{PlainSource};
-ghost use Rattle.ioa_front.specs.Views.{view_source};
+ghost use Rattle.ioa_trees.specs.Spelling.{spell};
+ghost use Rattle.ioa_trees.specs.Trees.{PlainSource};
+ghost use Rattle.ioa_trees.specs.Views.{view_source};
 ghost use Rattle.ioa_front.specs.Reading.{Gets, IsReadable, IsRefusal, Spells, most_bytes};
 ghost use Rattle.ioa_front.specs.Theorem.{IsFound, left_at};
 
 use crate::fault::ReadError;
 use crate::source::read_all;
 use crate::stop::Stop;
-use crate::tree::Source;
 use ioa_tokens::laws::{one_reading_law, read_back_law};
 use ioa_tokens::{Token, tokens};
+use ioa_trees::tree::Source;
 use std::alloc::Global;
 
 /// The most bytes that a source may have.

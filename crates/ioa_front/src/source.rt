@@ -2,9 +2,9 @@
 ghost use Rattle.std.specs.Prelude.{◌≡◌, ◌≤◌, ◌<◌, ◌∷◌, ◌++◌, [], length, map, true, IfOk, string_bytes};
 ghost use Rattle.ioa_tokens.specs.declared.Word.TheVariants as w;
 ghost use Rattle.ioa_tokens.specs.Tokens.{toks_of};
-ghost use Rattle.ioa_front.specs.Grammar.{whole};
-ghost use Rattle.ioa_front.specs.Spelling.{components_nodes, key, source_nodes};
-ghost use Rattle.ioa_front.specs.Views.{view_component, view_source};
+ghost use Rattle.ioa_trees.specs.Grammar.{whole};
+ghost use Rattle.ioa_trees.specs.Spelling.{components_nodes, key, source_nodes};
+ghost use Rattle.ioa_trees.specs.Views.{view_component, view_source};
 ghost use Rattle.ioa_front.specs.Theorem.{Exact};
 ghost use Rattle.ioa_front.specs.Blocks.{Goes, SomeTypes, automata_parts, component_parts, definition_item};
 
@@ -13,8 +13,8 @@ use crate::components::read_component;
 use crate::definitions::read_definition;
 use crate::front::{expect, past};
 use crate::stop::Stop;
-use crate::tree::{ComponentTree, Composed, Source, TypeDefinition};
 use ioa_tokens::{Token, Word};
+use ioa_trees::tree::{ComponentTree, Composed, Source, TypeDefinition};
 use std::alloc::Global;
 
 // What follows the first `type`.

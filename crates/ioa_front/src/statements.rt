@@ -2,22 +2,22 @@
 ghost use Rattle.std.specs.Prelude.{◌≡◌, ◌≤◌, ◌<◌, ◌+◌, ◌∷◌, [], length, map, IfOk};
 ghost use Rattle.ioa_tokens.specs.declared.Word.TheVariants as w;
 ghost use Rattle.ioa_tokens.specs.Tokens.{toks_of};
-ghost use Rattle.ioa_front.specs.Nodes.{choice, statement, statements, index_part};
-ghost use Rattle.ioa_front.specs.Grammar.{outside, assign_parts, value_parts, if_parts, else_parts, for_parts, loop_parts};
+ghost use Rattle.ioa_trees.specs.Nodes.{choice, statement, statements, index_part};
+ghost use Rattle.ioa_trees.specs.Grammar.{outside, assign_parts, value_parts, if_parts, else_parts, for_parts, loop_parts};
 ghost use Rattle.ioa_front.specs.Machine.{want, at};
-ghost use Rattle.ioa_front.specs.Trees.{If, pack_branches};
-ghost use Rattle.ioa_front.specs.Spelling.{at_index, choice_node, key, named, statement_node, statements_node};
+ghost use Rattle.ioa_trees.specs.Trees.{If, pack_branches};
+ghost use Rattle.ioa_trees.specs.Spelling.{at_index, choice_node, key, named, statement_node, statements_node};
 ghost use Rattle.ioa_front.specs.Items.{listed, choice_item, elseif_item, loop_head};
-ghost use Rattle.ioa_front.specs.Views.{view_branch, view_declared, view_statement, view_statements, option_view};
+ghost use Rattle.ioa_trees.specs.Views.{view_branch, view_declared, view_statement, view_statements, option_view};
 ghost use Rattle.ioa_front.specs.Reads.{Branches, Gives, GivesLow, Perhaps};
 
 use crate::front::{expect, expect_inner_name, past};
 use crate::stop::Stop;
 use crate::term::read_term;
-use crate::tree::{Branch, Declared, Statement, Term};
 use crate::types::read_type;
 use crate::values::read_init;
 use ioa_tokens::{Kind, Token, Word};
+use ioa_trees::tree::{Branch, Declared, Statement, Term};
 use std::alloc::Global;
 
 /// Reads statements at the front, inside this many pairs.

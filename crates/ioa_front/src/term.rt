@@ -2,12 +2,12 @@
 ghost use Rattle.std.specs.Prelude.{◌≡◌, ◌≤◌, ◌+◌, false, true, ◌∷◌, [], length, IfOk, MatchOption};
 ghost use Rattle.ioa_tokens.specs.declared.Word.TheVariants as w;
 ghost use Rattle.ioa_tokens.specs.Tokens.{Key, toks_of, tok_of};
-ghost use Rattle.ioa_front.specs.Nodes.{term, conjunction, negation, comparison, compared, sum, addend, product, factor, unary, postfix, primary};
-ghost use Rattle.ioa_front.specs.Grammar.{outside, group_parts, in_parentheses, append_parts, second_parts};
+ghost use Rattle.ioa_trees.specs.Nodes.{term, conjunction, negation, comparison, compared, sum, addend, product, factor, unary, postfix, primary};
+ghost use Rattle.ioa_trees.specs.Grammar.{outside, group_parts, in_parentheses, append_parts, second_parts};
 ghost use Rattle.ioa_front.specs.Machine.{want, at};
-ghost use Rattle.ioa_front.specs.Spelling.{node, key, word_of_sign, word_of_relation, word_of_call};
+ghost use Rattle.ioa_trees.specs.Spelling.{node, key, word_of_sign, word_of_relation, word_of_call};
 ghost use Rattle.ioa_front.specs.Items.{factor_item, addend_item};
-ghost use Rattle.ioa_front.specs.Views.{view};
+ghost use Rattle.ioa_trees.specs.Views.{view};
 ghost use Rattle.ioa_front.specs.Reads.{Gives, GivesLow, Turns, may_start, front_starts, deep_stop};
 
 use crate::build::{
@@ -15,8 +15,8 @@ use crate::build::{
 };
 use crate::front::{MAX_DEPTH, expect, expect_number, past};
 use crate::stop::Stop;
-use crate::tree::{Addend, Call, Factor, Relation, Sign, Term};
 use ioa_tokens::{Kind, Token, Word};
+use ioa_trees::tree::{Addend, Call, Factor, Relation, Sign, Term};
 use std::alloc::Global;
 
 // The sign at the front and what follows it, if one comes next.

@@ -2,11 +2,11 @@
 //! the first fault, where no text goes on.
 ghost use Rattle.std.specs.Prelude.{◌≡◌, ◌<◌, ℕ, ◌+◌, Bool, true, false, List, ◌∷◌, ◌++◌, length};
 ghost use Rattle.ioa_tokens.specs.Tokens.{Tok};
-ghost use Rattle.ioa_front.specs.Nodes.{Node, source, yield};
-ghost use Rattle.ioa_front.specs.Grammar.{Is, IsText};
+ghost use Rattle.ioa_trees.specs.Nodes.{Node, source, yield};
+ghost use Rattle.ioa_trees.specs.Grammar.{Is, IsText};
 ghost use Rattle.ioa_front.specs.Machine.{start, go, Read, Syntax, Deep};
-ghost use Rattle.ioa_front.specs.Trees.{PlainSource};
-ghost use Rattle.ioa_front.specs.Spelling.{spell, IsSource};
+ghost use Rattle.ioa_trees.specs.Trees.{PlainSource};
+ghost use Rattle.ioa_trees.specs.Spelling.{spell, IsSource};
 ghost use Rattle.ioa_front.specs.Depths.{depths, WithinLimit};
 
 /// A text of the grammar has one tree.

@@ -1,12 +1,12 @@
 // The reader of state variables, transitions and tasks, all inside of no pair.
 ghost use Rattle.std.specs.Prelude.{◌≤◌, ◌+◌, ◌∷◌, [], length, map, IfOk, string_bytes};
 ghost use Rattle.ioa_tokens.specs.Tokens.{toks_of};
-ghost use Rattle.ioa_front.specs.Nodes.{eff_part, pre_part, task, transition, variable};
-ghost use Rattle.ioa_front.specs.Grammar.{maybe, outside, value_parts};
+ghost use Rattle.ioa_trees.specs.Nodes.{eff_part, pre_part, task, transition, variable};
+ghost use Rattle.ioa_trees.specs.Grammar.{maybe, outside, value_parts};
 ghost use Rattle.ioa_front.specs.Machine.{want, at};
-ghost use Rattle.ioa_front.specs.Spelling.{eff_node, pre_node, task_node, transition_node, variable_node};
+ghost use Rattle.ioa_trees.specs.Spelling.{eff_node, pre_node, task_node, transition_node, variable_node};
 ghost use Rattle.ioa_front.specs.Items.{variable_head};
-ghost use Rattle.ioa_front.specs.Views.{option_view, view_declared, view_statements, view_transition, view_variable};
+ghost use Rattle.ioa_trees.specs.Views.{option_view, view_declared, view_statements, view_transition, view_variable};
 ghost use Rattle.ioa_front.specs.Reads.{GivesLow, Perhaps};
 
 use crate::entries::read_entry;
@@ -15,10 +15,10 @@ use crate::names::read_names;
 use crate::statements::read_statements;
 use crate::stop::Stop;
 use crate::term::read_term;
-use crate::tree::{Declared, Statement, Term, Transition, Variable};
 use crate::types::read_type;
 use crate::values::read_init;
 use ioa_tokens::{Token, Word};
+use ioa_trees::tree::{Declared, Statement, Term, Transition, Variable};
 use std::alloc::Global;
 
 /// Reads a state variable.

@@ -2,17 +2,17 @@
 ghost use Rattle.std.specs.Prelude.{◌≡◌, ◌≤◌, ◌+◌, false, true, ◌∷◌, [], length, IfOk};
 ghost use Rattle.ioa_tokens.specs.declared.Word.TheVariants as w;
 ghost use Rattle.ioa_tokens.specs.Tokens.{toks_of, tok_of};
-ghost use Rattle.ioa_front.specs.Nodes.{signed, type};
-ghost use Rattle.ioa_front.specs.Grammar.{range_parts, seq_parts, length_parts, array_parts, element_parts, outside, token, word, number, inside};
+ghost use Rattle.ioa_trees.specs.Nodes.{signed, type};
+ghost use Rattle.ioa_trees.specs.Grammar.{range_parts, seq_parts, length_parts, array_parts, element_parts, outside, token, word, number, inside};
 ghost use Rattle.ioa_front.specs.Machine.{want, at, In};
-ghost use Rattle.ioa_front.specs.Spelling.{signed_node, type_node, key};
-ghost use Rattle.ioa_front.specs.Views.{view_type};
+ghost use Rattle.ioa_trees.specs.Spelling.{signed_node, type_node, key};
+ghost use Rattle.ioa_trees.specs.Views.{view_type};
 ghost use Rattle.ioa_front.specs.Reads.{Gives, GivesLow, GivesAny, may_start, deep_stop};
 
 use crate::front::{MAX_DEPTH, expect, expect_number};
 use crate::stop::Stop;
-use crate::tree::{Signed, TypeTree};
 use ioa_tokens::{Kind, Token, Word};
+use ioa_trees::tree::{Signed, TypeTree};
 use std::alloc::Global;
 
 fn read_signed<'a, 'b>(tokens: &'b [Token<'a>]) -> Result<(Signed, &'b [Token<'a>]), Stop>

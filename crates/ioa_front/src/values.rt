@@ -2,18 +2,18 @@
 ghost use Rattle.std.specs.Prelude.{◌≡◌, ◌≤◌, ◌+◌, ◌∷◌, [], length, IfOk};
 ghost use Rattle.ioa_tokens.specs.declared.Word.TheVariants as w;
 ghost use Rattle.ioa_tokens.specs.Tokens.{toks_of, tok_of};
-ghost use Rattle.ioa_front.specs.Nodes.{init, term};
-ghost use Rattle.ioa_front.specs.Grammar.{fill_parts};
+ghost use Rattle.ioa_trees.specs.Nodes.{init, term};
+ghost use Rattle.ioa_trees.specs.Grammar.{fill_parts};
 ghost use Rattle.ioa_front.specs.Machine.{want, at};
-ghost use Rattle.ioa_front.specs.Spelling.{init_node, key};
-ghost use Rattle.ioa_front.specs.Views.{view_init};
+ghost use Rattle.ioa_trees.specs.Spelling.{init_node, key};
+ghost use Rattle.ioa_trees.specs.Views.{view_init};
 ghost use Rattle.ioa_front.specs.Reads.{Gives, GivesLow, may_start, deep_stop};
 
 use crate::front::{MAX_DEPTH, expect, past};
 use crate::stop::Stop;
 use crate::term::{read_term, starts_negation};
-use crate::tree::Init;
 use ioa_tokens::{Kind, Token, Word};
+use ioa_trees::tree::Init;
 use std::alloc::Global;
 
 fn starts_init(kind: &Kind) -> bool

@@ -1,10 +1,10 @@
 use Rattle.std.proofs.Common.{List, ◌∙◌, ◌∷◌, ◌++◌, [], ap, sym, map, true, refl, arith, length, string_bytes}
 use Rattle.ioa_tokens.specs.Tokens.{toks_of}
-use Rattle.ioa_front.specs.Nodes.{Node, source, further}
-use Rattle.ioa_front.specs.Grammar.{outside}
+use Rattle.ioa_trees.specs.Nodes.{Node, source, further}
+use Rattle.ioa_trees.specs.Grammar.{outside}
 use Rattle.ioa_front.specs.Machine.{Bottom, In, At, go}
-use Rattle.ioa_front.specs.Spelling.{automata_nodes}
-use Rattle.ioa_front.specs.Views.{view_automaton}
+use Rattle.ioa_trees.specs.Spelling.{automata_nodes}
+use Rattle.ioa_trees.specs.Views.{view_automaton}
 use Rattle.ioa_front.specs.Blocks.{automata_parts, component_parts, further_parts}
 use Rattle.ioa_front.proofs.Joins.{automata_push, further_node}
 use Rattle.ioa_front.proofs.Moves.{no_many, stops_along}
@@ -40,7 +40,7 @@ returns-in_err-automaton-clause-goes c =
     let so = λ (done : List Node). done ++ automata_nodes (map view_automaton c.loop-alloc.all.items) (string_bytes c.loop-alloc.name) in
     let e = c.in_err-automaton.field-0.0 in
     goes_stops (λ x. automata_nodes (map view_automaton x.0.items) (string_bytes x.1)) (λ x. toks_of x.2.now) automata_parts component_parts (toks_of c.args.tokens.now) c.from_residual-in_err-automaton.result e
-      c.from_residual-in_err-automaton.ensures.0 c.from_residual-in_err-automaton.ensures.1
-      (λ done. stops_along e
-        (c.loop-alloc.invariant.reads done ∙ many_enters source further (so done) component_parts Bottom (toks_of c.loop-alloc.rest.now) (sym c.loop-alloc-test.ensures) refl)
-        (c.in_err-automaton.ensures.gives further [] [] (In source (so done) further_parts outside Bottom) refl))
+    c.from_residual-in_err-automaton.ensures.0 c.from_residual-in_err-automaton.ensures.1
+    (λ done. stops_along e
+    (c.loop-alloc.invariant.reads done ∙ many_enters source further (so done) component_parts Bottom (toks_of c.loop-alloc.rest.now) (sym c.loop-alloc-test.ensures) refl)
+    (c.in_err-automaton.ensures.gives further [] [] (In source (so done) further_parts outside Bottom) refl))

@@ -1,10 +1,10 @@
 use Rattle.std.proofs.Common.{◌∙◌, ◌++◌, ◌∷◌, [], ap, map, true, append_assoc, arith, string_bytes}
 use Rattle.ioa_tokens.specs.declared.Word.TheVariants as w
 use Rattle.ioa_tokens.specs.Tokens.{toks_of}
-use Rattle.ioa_front.specs.Nodes.{basic, tasks}
-use Rattle.ioa_front.specs.Grammar.{maybe, outside}
+use Rattle.ioa_trees.specs.Nodes.{basic, tasks}
+use Rattle.ioa_trees.specs.Grammar.{maybe, outside}
 use Rattle.ioa_front.specs.Machine.{go, at, At}
-use Rattle.ioa_front.specs.Spelling.{key, tasks_node}
+use Rattle.ioa_trees.specs.Spelling.{key, tasks_node}
 use Rattle.ioa_front.specs.Lists.{transition_item}
 use Rattle.ioa_front.specs.Blocks.{after_states}
 use Rattle.ioa_front.proofs.Moves.{low_depth}

@@ -1,10 +1,10 @@
 use Rattle.std.proofs.Common.{◌∙◌, ◌++◌, ◌∷◌, ap, map, true, append_assoc, arith}
 use Rattle.ioa_tokens.specs.Tokens.{toks_of}
-use Rattle.ioa_front.specs.Nodes.{basic, states}
-use Rattle.ioa_front.specs.Grammar.{maybe, outside}
+use Rattle.ioa_trees.specs.Nodes.{basic, states}
+use Rattle.ioa_trees.specs.Grammar.{maybe, outside}
 use Rattle.ioa_front.specs.Machine.{go, at}
-use Rattle.ioa_front.specs.Spelling.{states_node}
-use Rattle.ioa_front.specs.Views.{view_variable}
+use Rattle.ioa_trees.specs.Spelling.{states_node}
+use Rattle.ioa_trees.specs.Views.{view_variable}
 use Rattle.ioa_front.specs.Lists.{entry_item}
 use Rattle.ioa_front.specs.Blocks.{after_states}
 use Rattle.ioa_front.proofs.Moves.{low_depth}

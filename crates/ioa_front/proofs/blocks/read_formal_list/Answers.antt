@@ -1,10 +1,10 @@
 use Rattle.std.proofs.Common.{◌∙◌, ◌∷◌, ◌++◌, [], ap, sym, true}
 use Rattle.ioa_tokens.specs.declared.Word.TheVariants as w
 use Rattle.ioa_tokens.specs.Tokens.{toks_of}
-use Rattle.ioa_front.specs.Nodes.{basic}
-use Rattle.ioa_front.specs.Grammar.{token, word, inside, outside}
+use Rattle.ioa_trees.specs.Nodes.{basic}
+use Rattle.ioa_trees.specs.Grammar.{token, word, inside, outside}
 use Rattle.ioa_front.specs.Machine.{At, at, go}
-use Rattle.ioa_front.specs.Spelling.{key}
+use Rattle.ioa_trees.specs.Spelling.{key}
 use Rattle.ioa_front.specs.Items.{listed}
 use Rattle.ioa_front.specs.Blocks.{formal_item, formal_part_item, signature_parts}
 use Rattle.ioa_front.proofs.Moves.{no_formal_part}

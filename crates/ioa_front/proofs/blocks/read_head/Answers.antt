@@ -1,9 +1,9 @@
 use Rattle.std.proofs.Common.{◌∙◌, ap, sym, map, true}
 use Rattle.ioa_tokens.specs.Tokens.{toks_of}
-use Rattle.ioa_front.specs.Nodes.{basic}
-use Rattle.ioa_front.specs.Grammar.{after_signature}
+use Rattle.ioa_trees.specs.Nodes.{basic}
+use Rattle.ioa_trees.specs.Grammar.{after_signature}
 use Rattle.ioa_front.specs.Machine.{go, at, Want}
-use Rattle.ioa_front.specs.Views.{view_declared}
+use Rattle.ioa_trees.specs.Views.{view_declared}
 use Rattle.ioa_front.specs.Blocks.{head_nodes}
 use Rattle.ioa_front.proofs.Heads.{bare_head}
 use Rattle.ioa_front.proofs.blocks.read_head.Goals as goal

@@ -1,11 +1,11 @@
 use Rattle.std.proofs.Common.{◌∙◌, ◌++◌, [], ap, sym, map, true, append-nil}
 use Rattle.ioa_tokens.specs.Tokens.{toks_of}
-use Rattle.ioa_front.specs.Nodes.{basic}
-use Rattle.ioa_front.specs.Grammar.{outside}
+use Rattle.ioa_trees.specs.Nodes.{basic}
+use Rattle.ioa_trees.specs.Grammar.{outside}
 use Rattle.ioa_front.specs.Machine.{go, at}
-use Rattle.ioa_front.specs.Spelling.{states_node}
+use Rattle.ioa_trees.specs.Spelling.{states_node}
 use Rattle.ioa_front.specs.Blocks.{after_states}
-use Rattle.ioa_front.specs.Views.{view_variable}
+use Rattle.ioa_trees.specs.Views.{view_variable}
 use Rattle.ioa_front.proofs.Moves.{no_states}
 use Rattle.ioa_front.proofs.blocks.read_states.Goals as goal
 

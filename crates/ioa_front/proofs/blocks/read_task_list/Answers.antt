@@ -1,7 +1,7 @@
 use Rattle.std.proofs.Common.{◌∙◌, ◌∷◌, ◌++◌, ap, sym, map, true, arith, length}
 use Rattle.ioa_tokens.specs.Tokens.{toks_of}
-use Rattle.ioa_front.specs.Nodes.{task}
-use Rattle.ioa_front.specs.Grammar.{many, outside}
+use Rattle.ioa_trees.specs.Nodes.{task}
+use Rattle.ioa_trees.specs.Grammar.{many, outside}
 use Rattle.ioa_front.specs.Machine.{In, At, go}
 use Rattle.ioa_front.specs.Blocks.{task_item}
 use Rattle.ioa_front.proofs.Moves.{low_depth, no_many}

@@ -1,7 +1,7 @@
 use Rattle.std.proofs.Common.{◌≡◌, ◌≤◌, ◌<◌, length, List, ◌∷◌, ◌++◌, map, true}
 use Rattle.ioa_tokens.specs.Tokens.{toks_of}
-use Rattle.ioa_front.specs.Nodes.{Sort, Node, task}
-use Rattle.ioa_front.specs.Grammar.{Part, one, many, outside}
+use Rattle.ioa_trees.specs.Nodes.{Sort, Node, task}
+use Rattle.ioa_trees.specs.Grammar.{Part, one, many, outside}
 use Rattle.ioa_front.specs.Machine.{Frames, depth, at, At, go}
 use Rattle.ioa_front.specs.Blocks.{task_item}
 use Rattle.ioa_front.proofs.blocks.read_task_list.Given as goal

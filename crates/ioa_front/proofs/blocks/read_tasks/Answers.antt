@@ -1,9 +1,9 @@
 use Rattle.std.proofs.Common.{◌∙◌, ◌++◌, ◌∷◌, [], ap, sym, map, true, append-nil, string_bytes}
 use Rattle.ioa_tokens.specs.Tokens.{toks_of}
-use Rattle.ioa_front.specs.Nodes.{basic, tasks}
-use Rattle.ioa_front.specs.Grammar.{maybe, outside}
+use Rattle.ioa_trees.specs.Nodes.{basic, tasks}
+use Rattle.ioa_trees.specs.Grammar.{maybe, outside}
 use Rattle.ioa_front.specs.Machine.{go, at, At, In}
-use Rattle.ioa_front.specs.Spelling.{key, tasks_node}
+use Rattle.ioa_trees.specs.Spelling.{key, tasks_node}
 use Rattle.ioa_front.proofs.Moves.{no_tasks}
 use Rattle.ioa_front.proofs.Joins.{tasks_made}
 use Rattle.ioa_tokens.specs.declared.Word.TheVariants as w

@@ -1,9 +1,9 @@
 use Rattle.std.proofs.Common.{◌∙◌, ◌∷◌, []}
 use Rattle.ioa_tokens.specs.declared.Word.TheVariants as w
 use Rattle.ioa_tokens.specs.Tokens.{toks_of}
-use Rattle.ioa_front.specs.Nodes.{states}
-use Rattle.ioa_front.specs.Grammar.{outside}
-use Rattle.ioa_front.specs.Spelling.{key}
+use Rattle.ioa_trees.specs.Nodes.{states}
+use Rattle.ioa_trees.specs.Grammar.{outside}
+use Rattle.ioa_trees.specs.Spelling.{key}
 use Rattle.ioa_front.specs.Items.{listed}
 use Rattle.ioa_front.specs.Blocks.{variable_item, variable_part_item}
 use Rattle.ioa_front.proofs.Moves.{no_variable_part}

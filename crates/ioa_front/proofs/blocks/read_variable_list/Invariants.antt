@@ -1,10 +1,10 @@
 use Rattle.std.proofs.Common.{◌≡◌, ◌≤◌, ◌<◌, length, [], ◌∷◌, true, false, nat_lt}
 use Rattle.ioa_tokens.specs.declared.Word.TheVariants as w
 use Rattle.ioa_tokens.specs.Tokens.{toks_of}
-use Rattle.ioa_front.specs.Nodes.{states, variable_part}
-use Rattle.ioa_front.specs.Grammar.{many, outside}
+use Rattle.ioa_trees.specs.Nodes.{states, variable_part}
+use Rattle.ioa_trees.specs.Grammar.{many, outside}
 use Rattle.ioa_front.specs.Machine.{Frames, depth, at, At, go}
-use Rattle.ioa_front.specs.Spelling.{key}
+use Rattle.ioa_trees.specs.Spelling.{key}
 use Rattle.ioa_front.specs.Items.{listed}
 use Rattle.ioa_front.specs.Blocks.{variable_item, variable_part_item, variable_parts}
 use Rattle.ioa_front.proofs.blocks.read_variable_list.Given as goal

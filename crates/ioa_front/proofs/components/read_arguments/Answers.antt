@@ -1,10 +1,10 @@
 use Rattle.std.proofs.Common.{◌∙◌, ◌++◌, [], ap, sym, map, true, append-nil}
 use Rattle.ioa_tokens.specs.Tokens.{toks_of}
-use Rattle.ioa_front.specs.Nodes.{component, make}
-use Rattle.ioa_front.specs.Grammar.{outside}
+use Rattle.ioa_trees.specs.Nodes.{component, make}
+use Rattle.ioa_trees.specs.Grammar.{outside}
 use Rattle.ioa_front.specs.Machine.{go, have}
-use Rattle.ioa_front.specs.Spelling.{arguments_node}
-use Rattle.ioa_front.specs.Views.{view}
+use Rattle.ioa_trees.specs.Spelling.{arguments_node}
+use Rattle.ioa_trees.specs.Views.{view}
 use Rattle.ioa_front.proofs.Moves.{no_arguments}
 use Rattle.ioa_front.proofs.components.read_arguments.Goals as goal
 

@@ -1,10 +1,10 @@
 use Rattle.std.proofs.Common.{◌∙◌, ◌∷◌, ◌++◌, [], ap, sym, true}
 use Rattle.ioa_tokens.specs.declared.Word.TheVariants as w
 use Rattle.ioa_tokens.specs.Tokens.{toks_of}
-use Rattle.ioa_front.specs.Nodes.{parameters}
-use Rattle.ioa_front.specs.Grammar.{token, word, inside, outside}
+use Rattle.ioa_trees.specs.Nodes.{parameters}
+use Rattle.ioa_trees.specs.Grammar.{token, word, inside, outside}
 use Rattle.ioa_front.specs.Machine.{At, go, have}
-use Rattle.ioa_front.specs.Spelling.{branch, key}
+use Rattle.ioa_trees.specs.Spelling.{branch, key}
 use Rattle.ioa_front.specs.Items.{listed, parameter_item, parameter_part_item}
 use Rattle.ioa_front.proofs.Moves.{no_parameter_part}
 use Rattle.ioa_front.proofs.Items.{parameters_listed}

@@ -1,10 +1,10 @@
 use Rattle.std.proofs.Common.{◌≡◌, ◌≤◌, ◌<◌, length, [], ◌∷◌, true}
 use Rattle.ioa_tokens.specs.declared.Word.TheVariants as w
 use Rattle.ioa_tokens.specs.Tokens.{toks_of}
-use Rattle.ioa_front.specs.Nodes.{parameters, parameter_part}
-use Rattle.ioa_front.specs.Grammar.{token, word, many, inside, outside, parameters_parts}
+use Rattle.ioa_trees.specs.Nodes.{parameters, parameter_part}
+use Rattle.ioa_trees.specs.Grammar.{token, word, many, inside, outside, parameters_parts}
 use Rattle.ioa_front.specs.Machine.{Frames, depth, at, At, go}
-use Rattle.ioa_front.specs.Spelling.{key}
+use Rattle.ioa_trees.specs.Spelling.{key}
 use Rattle.ioa_front.specs.Items.{listed, parameter_item, parameter_part_item}
 use Rattle.ioa_front.proofs.entries.read_parameter_list.Given as goal
 

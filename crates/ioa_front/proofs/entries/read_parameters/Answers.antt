@@ -1,10 +1,10 @@
 use Rattle.std.proofs.Common.{◌∙◌, ◌++◌, [], ap, sym, map, true, append-nil}
 use Rattle.ioa_tokens.specs.Tokens.{toks_of}
-use Rattle.ioa_front.specs.Nodes.{entry, make}
-use Rattle.ioa_front.specs.Grammar.{outside}
+use Rattle.ioa_trees.specs.Nodes.{entry, make}
+use Rattle.ioa_trees.specs.Grammar.{outside}
 use Rattle.ioa_front.specs.Machine.{go, have}
-use Rattle.ioa_front.specs.Spelling.{parameters_node}
-use Rattle.ioa_front.specs.Views.{view_parameter}
+use Rattle.ioa_trees.specs.Spelling.{parameters_node}
+use Rattle.ioa_trees.specs.Views.{view_parameter}
 use Rattle.ioa_front.proofs.Moves.{no_parameters}
 use Rattle.ioa_front.proofs.entries.read_parameters.Goals as goal
 

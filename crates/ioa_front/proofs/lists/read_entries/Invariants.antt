@@ -1,7 +1,7 @@
 use Rattle.std.proofs.Common.{◌≡◌, ◌≤◌, length, List, ◌∷◌, ◌++◌, map, true}
 use Rattle.ioa_tokens.specs.Tokens.{toks_of}
-use Rattle.ioa_front.specs.Nodes.{Sort, Node, entry}
-use Rattle.ioa_front.specs.Grammar.{Part, one, many, outside}
+use Rattle.ioa_trees.specs.Nodes.{Sort, Node, entry}
+use Rattle.ioa_trees.specs.Grammar.{Part, one, many, outside}
 use Rattle.ioa_front.specs.Machine.{Frames, depth, at, At, go}
 use Rattle.ioa_front.specs.Lists.{entry_item}
 use Rattle.ioa_front.proofs.lists.read_entries.Given as goal

@@ -1,6 +1,6 @@
 use Rattle.std.proofs.Common.{◌∙◌, ◌++◌}
 use Rattle.ioa_tokens.specs.Tokens.{toks_of}
-use Rattle.ioa_front.specs.Grammar.{outside}
+use Rattle.ioa_trees.specs.Grammar.{outside}
 use Rattle.ioa_front.specs.Items.{names_nodes}
 use Rattle.ioa_front.proofs.Moves.{no_name_part}
 use Rattle.ioa_front.proofs.names.read_names.Goals as goal

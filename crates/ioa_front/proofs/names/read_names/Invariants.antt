@@ -1,7 +1,7 @@
 use Rattle.std.proofs.Common.{◌≡◌, ◌≤◌, ◌<◌, length, List, ◌∷◌, ◌++◌, true}
 use Rattle.ioa_tokens.specs.Tokens.{toks_of}
-use Rattle.ioa_front.specs.Nodes.{Sort, Node, name_part}
-use Rattle.ioa_front.specs.Grammar.{Part, token, name, many, outside}
+use Rattle.ioa_trees.specs.Nodes.{Sort, Node, name_part}
+use Rattle.ioa_trees.specs.Grammar.{Part, token, name, many, outside}
 use Rattle.ioa_front.specs.Machine.{Frames, At, go}
 use Rattle.ioa_front.specs.Items.{names_nodes}
 use Rattle.ioa_front.proofs.names.read_names.Given as goal

@@ -2,7 +2,7 @@ use Rattle.std.proofs.Common.{rules, ◌≡◌, ◌≤◌, ◌∙◌, length, ap
 use Rattle.ioa_tokens.specs.Cutting.{IsTokens}
 use Rattle.ioa_tokens.specs.Layout.{AreProper}
 use Rattle.ioa_tokens.specs.Tokens.{Placed, placed}
-use Rattle.ioa_front.specs.Spelling.{spell}
+use Rattle.ioa_trees.specs.Spelling.{spell}
 use Rattle.ioa_front.specs.Reading.{toks}
 use Rattle.ioa_front.specs.Theorem.{IsFound}
 use Rattle.ioa_front.proofs.Found.{only, readable, spelled, token_refused, tokens_only, tokens_refused, toks_placed}
@@ -14,10 +14,10 @@ returns-then-source-gt-MOST_BYTES-clause-refused c = c.if-source-gt-MOST_BYTES.t
 pub returns-in_err-found-clause-only : goal.returns-in_err-found-clause-only
 returns-in_err-found-clause-only c = λ x p s l.
     tokens_only c.args.source.now x c.from_residual.result c.in_err-found.field-0.0 c.from_residual.ensures.0 c.from_residual.ensures.1 c.in_err-found.ensures.err
-      (c.one_reading_law.ensures.apart c.args.source.now) (c.one_reading_law.ensures.ascii c.args.source.now) s
+    (c.one_reading_law.ensures.apart c.args.source.now) (c.one_reading_law.ensures.ascii c.args.source.now) s
 
 pub returns-in_err-found-clause-refused : goal.returns-in_err-found-clause-refused
-returns-in_err-found-clause-refused c = 
+returns-in_err-found-clause-refused c =
     tokens_refused c.args.source.now c.from_residual.result c.in_err-found.field-0.0 (omega (arith, c.if-source-gt-MOST_BYTES.false)) c.from_residual.ensures.0 c.from_residual.ensures.1 c.in_err-found.ensures.err
 
 pub returns-clause-spelled : goal.returns-clause-spelled
@@ -40,7 +40,7 @@ returns-clause-only c = λ x p s l.
     let ts = c.in_ok-found.found.items in
     let own : IsFound (placed ts) n c.read_found.result = subst (λ z. IsFound (placed z) n c.read_found.result) c.as_slice.ensures.value c.read_found.ensures in
     only (placed ts) n c.read_found.result own x p
-      (ap toks (c.one_reading_law.ensures.tokens c.args.source.now (placed ts) s.tokens c.in_ok-found.ensures.ok.1 s.cut) ∙ s.spelled)
+    (ap toks (c.one_reading_law.ensures.tokens c.args.source.now (placed ts) s.tokens c.in_ok-found.ensures.ok.1 s.cut) ∙ s.spelled)
 
 pub returns-clause-again : goal.returns-clause-again
 returns-clause-again c = λ x p e l.
@@ -48,7 +48,7 @@ returns-clause-again c = λ x p e l.
     let ts = c.in_ok-found.found.items in
     let own : IsFound (placed ts) n c.read_found.result = subst (λ z. IsFound (placed z) n c.read_found.result) c.as_slice.ensures.value c.read_found.ensures in
     only (placed ts) n c.read_found.result own x p
-      (c.read_back_law.ensures.same (spell x) (placed ts) p.1 (subst (λ z. IsTokens z (placed ts)) e c.in_ok-found.ensures.ok.1))
+    (c.read_back_law.ensures.same (spell x) (placed ts) p.1 (subst (λ z. IsTokens z (placed ts)) e c.in_ok-found.ensures.ok.1))
 
 pub returns-clause-refused : goal.returns-clause-refused
 returns-clause-refused c =

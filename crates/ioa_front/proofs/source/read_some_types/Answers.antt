@@ -1,7 +1,7 @@
 use Rattle.std.proofs.Common.{◌∙◌, ◌∷◌, ◌++◌, [], ap, sym, map, true, refl, arith}
 use Rattle.ioa_tokens.specs.Tokens.{toks_of}
-use Rattle.ioa_front.specs.Nodes.{source}
-use Rattle.ioa_front.specs.Grammar.{outside, whole}
+use Rattle.ioa_trees.specs.Nodes.{source}
+use Rattle.ioa_trees.specs.Grammar.{outside, whole}
 use Rattle.ioa_front.specs.Machine.{Bottom, In, At, go}
 use Rattle.ioa_front.specs.Blocks.{definition_item}
 use Rattle.ioa_front.proofs.Rows.{some_push}

@@ -1,13 +1,13 @@
 use Rattle.std.proofs.Common.{◌+◌, sym, ◌∙◌, ap, map, [], ◌∷◌, ◌++◌, true}
 use Rattle.ioa_tokens.specs.declared.Word.TheVariants as w
 use Rattle.ioa_tokens.specs.Tokens.{toks_of}
-use Rattle.ioa_front.specs.Nodes.{statement, statements, else_part}
-use Rattle.ioa_front.specs.Grammar.{maybe, token, word, outside, inside}
+use Rattle.ioa_trees.specs.Nodes.{statement, statements, else_part}
+use Rattle.ioa_trees.specs.Grammar.{maybe, token, word, outside, inside}
 use Rattle.ioa_front.specs.Machine.{In, At, go, have}
-use Rattle.ioa_front.specs.Trees.{If, pack_branches}
-use Rattle.ioa_front.specs.Spelling.{branch, key, statement_node, statements_node}
+use Rattle.ioa_trees.specs.Trees.{If, pack_branches}
+use Rattle.ioa_trees.specs.Spelling.{branch, key, statement_node, statements_node}
 use Rattle.ioa_front.specs.Items.{listed, statement_item, statement_part_item, choice_item, elseif_item}
-use Rattle.ioa_front.specs.Views.{view_branch, view_statements}
+use Rattle.ioa_trees.specs.Views.{view_branch, view_statements}
 use Rattle.ioa_front.proofs.Moves.{no_statement_part, no_else_part}
 use Rattle.ioa_front.proofs.Items.{statements_made, if_made, if_else_made}
 use Rattle.ioa_front.proofs.statements.+reading_statements.Goals as goal

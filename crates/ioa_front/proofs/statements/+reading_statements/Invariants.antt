@@ -1,10 +1,10 @@
 use Rattle.std.proofs.Common.{◌≡◌, ◌≤◌, ◌<◌, ◌+◌, ◌-◌, ◌*◌, length, true, ◌∷◌, []}
 use Rattle.ioa_tokens.specs.declared.Word.TheVariants as w
 use Rattle.ioa_tokens.specs.Tokens.{toks_of}
-use Rattle.ioa_front.specs.Nodes.{statement, statements, statement_part, elseif_part}
-use Rattle.ioa_front.specs.Grammar.{many, outside, inside, if_parts, else_parts}
+use Rattle.ioa_trees.specs.Nodes.{statement, statements, statement_part, elseif_part}
+use Rattle.ioa_trees.specs.Grammar.{many, outside, inside, if_parts, else_parts}
 use Rattle.ioa_front.specs.Machine.{Frames, depth, want, At, at, go}
-use Rattle.ioa_front.specs.Spelling.{key}
+use Rattle.ioa_trees.specs.Spelling.{key}
 use Rattle.ioa_front.specs.Items.{listed, statement_item, statement_part_item, choice_item, elseif_item}
 use Rattle.ioa_front.proofs.statements.+reading_statements.Given as goal
 

@@ -1,11 +1,11 @@
 use Rattle.std.proofs.Common.{sym, ◌∙◌, ap, map, [], ◌∷◌, true}
 use Rattle.ioa_tokens.specs.Tokens.{toks_of}
-use Rattle.ioa_front.specs.Nodes.{term, conjunction, comparison, compared, sum, addend, postfix}
-use Rattle.ioa_front.specs.Grammar.{maybe, outside}
+use Rattle.ioa_trees.specs.Nodes.{term, conjunction, comparison, compared, sum, addend, postfix}
+use Rattle.ioa_trees.specs.Grammar.{maybe, outside}
 use Rattle.ioa_front.specs.Machine.{In, go, have}
-use Rattle.ioa_front.specs.Spelling.{node}
+use Rattle.ioa_trees.specs.Spelling.{node}
 use Rattle.ioa_front.specs.Items.{or_item, and_item, index_item}
-use Rattle.ioa_front.specs.Views.{view}
+use Rattle.ioa_trees.specs.Views.{view}
 use Rattle.ioa_front.proofs.Moves.{no_or_part, no_and_part, no_index_part, no_many, no_maybe}
 use Rattle.ioa_front.proofs.Items.{or_made, and_made, index_made}
 use Rattle.ioa_front.proofs.term.+reading_terms.Goals as goal

@@ -1,11 +1,11 @@
 use Rattle.std.proofs.Common.{◌≡◌, ◌≤◌, ◌+◌, ◌-◌, ◌*◌, length, true, false, nat_lt, map, ◌∷◌, []}
 use Rattle.ioa_tokens.specs.Tokens.{toks_of}
-use Rattle.ioa_front.specs.Nodes.{term, conjunction, sum, product, postfix, or_part, and_part, addend, factor, index_part}
-use Rattle.ioa_front.specs.Grammar.{many, outside}
+use Rattle.ioa_trees.specs.Nodes.{term, conjunction, sum, product, postfix, or_part, and_part, addend, factor, index_part}
+use Rattle.ioa_trees.specs.Grammar.{many, outside}
 use Rattle.ioa_front.specs.Machine.{Frames, depth, want, At, go}
-use Rattle.ioa_front.specs.Spelling.{node}
+use Rattle.ioa_trees.specs.Spelling.{node}
 use Rattle.ioa_front.specs.Items.{or_item, and_item, addend_item, factor_item, index_item}
-use Rattle.ioa_front.specs.Views.{view}
+use Rattle.ioa_trees.specs.Views.{view}
 use Rattle.ioa_front.proofs.term.+reading_terms.Given as goal
 
 abbrev pub decreases-read_term : goal.decreases-read_term

@@ -1,10 +1,10 @@
 use Rattle.std.proofs.Common.{◌∙◌, ◌++◌, [], ap, sym, true, append-nil}
 use Rattle.ioa_tokens.specs.Tokens.{toks_of}
-use Rattle.ioa_front.specs.Nodes.{transition, make}
-use Rattle.ioa_front.specs.Grammar.{outside}
+use Rattle.ioa_trees.specs.Nodes.{transition, make}
+use Rattle.ioa_trees.specs.Grammar.{outside}
 use Rattle.ioa_front.specs.Machine.{go, have}
-use Rattle.ioa_front.specs.Spelling.{eff_node}
-use Rattle.ioa_front.specs.Views.{view_statements}
+use Rattle.ioa_trees.specs.Spelling.{eff_node}
+use Rattle.ioa_trees.specs.Views.{view_statements}
 use Rattle.ioa_front.proofs.Moves.{no_eff_part}
 use Rattle.ioa_front.proofs.transitions.read_eff.Goals as goal
 

@@ -1,6 +1,0 @@
-use Rattle.ioa_front.specs.Views.{view_automaton}
-use Rattle.ioa_front.proofs.Printed.{basic_put}
-use Rattle.ioa_front.proofs.print.automata.put_basic.Goals as goal
-
-pub returns : goal.returns
-returns c = basic_put _ _ _ (view_automaton c.args.automaton.now) c.in_ok-put_head.ensures c.in_ok-put_behaviour.ensures

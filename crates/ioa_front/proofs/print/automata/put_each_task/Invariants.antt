@@ -1,9 +1,0 @@
-use Rattle.std.proofs.Common.{◌≡◌, ◌++◌, drop, map}
-use Rattle.std.specs.Prelude.{string_bytes}
-use Rattle.ioa_front.specs.Nodes.{yields}
-use Rattle.ioa_front.specs.Spelling.{task_node}
-use Rattle.ioa_front.proofs.print.automata.put_each_task.Given as goal
-
-abbrev pub invariant-loop-task : goal.invariant-loop-task
-invariant-loop-task l =
-    l.page ++ yields (map task_node (map (λ t. map string_bytes t.items) (drop l.task-index l.tasks))) ≡ l.initial.page ++ yields (map task_node (map (λ t. map string_bytes t.items) l.tasks))

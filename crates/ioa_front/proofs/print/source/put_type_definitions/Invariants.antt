@@ -1,9 +1,0 @@
-use Rattle.std.proofs.Common.{◌≡◌, ◌++◌, drop, map}
-use Rattle.ioa_front.specs.Nodes.{yields}
-use Rattle.ioa_front.specs.Spelling.{type_definition_node}
-use Rattle.ioa_front.specs.Views.{view_type_definition}
-use Rattle.ioa_front.proofs.print.source.put_type_definitions.Given as goal
-
-abbrev pub invariant-loop-definition : goal.invariant-loop-definition
-invariant-loop-definition l =
-    l.page ++ yields (map type_definition_node (map view_type_definition (drop l.definition-index l.definitions))) ≡ l.initial.page ++ yields (map type_definition_node (map view_type_definition l.definitions))
