@@ -51,8 +51,13 @@ fn a_source_in_its_lines(rt: HostRuntime) -> Result<(), Fail> {
 fn refusals(rt: HostRuntime) -> Result<(), Fail> {
     let alloc = rt.alloc();
     let cut = WHOLE.find(" fi\n").unwrap_or(0);
-    let rows: [(&[u8], ReadError); 9] = [
+    let rows: [(&[u8], ReadError); 14] = [
         (b"", ReadError::Syntax(0)),
+        (&RING.as_bytes()[..2], ReadError::Syntax(0)),
+        (&RING.as_bytes()[..11], ReadError::Syntax(11)),
+        (&RING.as_bytes()[..12], ReadError::BadToken(11)),
+        (&RING.as_bytes()[..13], ReadError::Syntax(13)),
+        (&RING.as_bytes()[..15], ReadError::Syntax(15)),
         (b" \n% end", ReadError::Syntax(7)),
         (b"type A = enumeration of a, b", ReadError::Syntax(28)),
         (&WHOLE.as_bytes()[..cut], ReadError::Syntax(cut)),
