@@ -1,5 +1,5 @@
 -- From what the machine says of the tokens to what the bytes spell, or why they are refused.
-use Rattle.std.proofs.Common.{◌≡◌, ◌≤◌, ◌<◌, ◌+◌, ◌-◌, ℕ, zero, suc, Bool, true, false, ◌&&◌, nat_lt, List, [], ◌∷◌, ◌++◌, length, map, take, drop, slice_index_or, Option, Some, None, Result, Ok, Err, IsErr, IfOk, IfErr, refl, sym, ◌∙◌, ap, subst, cond, arith}
+use Rattle.std.proofs.Common.{◌≡◌, ◌≤◌, ◌<◌, ◌+◌, ◌-◌, ℕ, zero, suc, Bool, true, false, nat_lt, List, [], ◌∷◌, ◌++◌, length, take, drop, slice_index_or, Option, Some, None, Result, Ok, Err, IsErr, IfOk, IfErr, refl, sym, ◌∙◌, ap, subst, cond, arith}
 use Rattle.std.proofs.lemmas.List.{take-append-drop, length-drop}
 use Rattle.std.specs.Str.{IsAscii}
 use Rattle.std.specs.Result.{IsErrAnd}
@@ -17,9 +17,9 @@ use Rattle.ioa_trees.specs.Nodes.{Node, make}
 use Rattle.ioa_trees.specs.Grammar.{IsText}
 use Rattle.ioa_front.specs.Machine.{Frames, Bottom, In, State, Want, At, Done, Step, Verdict, Read, Syntax, Deep, nullable, finish, ending, move, on, go, start}
 use Rattle.ioa_trees.specs.Trees.{PlainSource}
-use Rattle.ioa_trees.specs.Spelling.{IsSource, source_node, spell}
+use Rattle.ioa_trees.specs.Spelling.{source_node, spell}
 use Rattle.ioa_trees.specs.Views.{view_source}
-use Rattle.ioa_front.specs.Reading.{AreShallow, Begins, Gets, IsFirstDeep, IsReadable, IsRefusal, IsSyntaxAt, IsTooDeep, Spells, Stuck, first_at, lifted, most_bytes, toks}
+use Rattle.ioa_front.specs.Reading.{Gets, IsReadable, IsRefusal, IsSyntaxAt, IsTooDeep, Spells, Stuck, first_at, lifted, most_bytes, toks}
 use Rattle.ioa_front.specs.Theorem.{IsFound, left_at}
 use Rattle.ioa_front.proofs.Prefix.{go_left, left}
 use Rattle.ioa_front.proofs.Sound.{read_formed}

@@ -1,11 +1,11 @@
 -- Moves at the beginning of an automaton.
-use Rattle.std.proofs.Common.{◌≡◌, ◌+◌, true, false, nat_lt, List, [], ◌∷◌, length, Result, Ok, Err, refl, sym, ◌∙◌, ap, arith}
+use Rattle.std.proofs.Common.{◌≡◌, true, false, nat_lt, List, [], ◌∷◌, length, Result, Ok, Err, refl, ◌∙◌, ap, arith}
 use Rattle.ioa_front.specs.declared.stop.Stop.{Stop}
 use Rattle.ioa_tokens.specs.declared.Word.TheVariants as w
 use Rattle.ioa_tokens.specs.Tokens.{Tok, Key, sees}
 use Rattle.ioa_trees.specs.Nodes.{Node, basic}
-use Rattle.ioa_trees.specs.Grammar.{Part, after_signature}
-use Rattle.ioa_front.specs.Machine.{Frames, depth, Want, at, want, go, Syntax}
+use Rattle.ioa_trees.specs.Grammar.{after_signature}
+use Rattle.ioa_front.specs.Machine.{Frames, depth, Want, at, go, Syntax}
 use Rattle.ioa_trees.specs.Spelling.{key}
 use Rattle.ioa_front.specs.Blocks.{formal_parts, Heads, HeadsInside}
 use Rattle.ioa_front.proofs.Moves.{low_depth, stops_along}

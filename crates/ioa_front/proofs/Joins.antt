@@ -1,5 +1,5 @@
 -- Lists of nodes in the blocks of an automaton and in a source.
-use Rattle.std.proofs.Common.{◌≡◌, ◌<◌, length, arith, List, [], ◌∷◌, ◌++◌, append_assoc, append-nil, map, refl, sym, ◌∙◌, ap, String, Global, string_bytes}
+use Rattle.std.proofs.Common.{◌≡◌, ◌<◌, length, arith, List, [], ◌∷◌, ◌++◌, append_assoc, map, refl, sym, ◌∙◌, ap, String, Global, string_bytes}
 use Rattle.std.specs.Prelude.{Vec}
 use Rattle.ioa_trees.specs.declared.tree.Automaton.{Automaton}
 use Rattle.ioa_trees.specs.declared.tree.ComponentTree.{ComponentTree}

@@ -3,19 +3,18 @@ use Rattle.std.specs.Prelude.{◌≡◌, true, List, [], ◌∷◌, ◌++◌, ma
 use Rattle.std.specs.declared.alloc.Global.{Global}
 use Rattle.std.specs.Prelude.{Vec}
 use Rattle.ioa_front.specs.declared.stop.Stop.{Stop}
-use Rattle.ioa_trees.specs.declared.tree.Automaton.{Automaton}
 use Rattle.ioa_trees.specs.declared.tree.ComponentTree.{ComponentTree}
 use Rattle.ioa_trees.specs.declared.tree.Declared.{Declared}
 use Rattle.ioa_trees.specs.declared.tree.TypeDefinition.{TypeDefinition}
 use Rattle.ioa_trees.specs.declared.tree.Variable.{Variable}
 use Rattle.ioa_tokens.specs.declared.Word.TheVariants as w
 use Rattle.ioa_tokens.specs.Tokens.{Tok}
-use Rattle.ioa_trees.specs.Nodes.{Sort, source, type_definition, basic, further, formal, formal_part, states, variable, variable_part, tasks, transition, component, component_part, Node}
+use Rattle.ioa_trees.specs.Nodes.{Sort, source, type_definition, basic, further, formal, formal_part, variable, variable_part, tasks, transition, component, component_part, Node}
 use Rattle.ioa_trees.specs.Grammar.{Part, token, name, word, one, maybe, many, outside, first, inside, after_signature, definition_parts, whole}
 use Rattle.ioa_front.specs.Machine.{Frames, Bottom, In, depth, at, want, go}
-use Rattle.ioa_trees.specs.Spelling.{key, named, branch, parts, formal_node, formals_nodes, variable_node, task_node, basic_node, component_node, type_definition_node}
-use Rattle.ioa_trees.specs.Trees.{PlainDeclared, PlainVariable}
-use Rattle.ioa_trees.specs.Views.{view_automaton, view_component, view_declared, view_type_definition, view_variable}
+use Rattle.ioa_trees.specs.Spelling.{key, branch, formal_node, formals_nodes, variable_node, task_node, component_node, type_definition_node}
+use Rattle.ioa_trees.specs.Trees.{PlainDeclared}
+use Rattle.ioa_trees.specs.Views.{view_component, view_declared, view_type_definition, view_variable}
 use Rattle.ioa_front.specs.Reads.{Stops}
 
 abbrev pub formal_item : Declared → Node

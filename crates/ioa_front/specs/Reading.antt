@@ -1,5 +1,5 @@
 -- What bytes spell, and why bytes are refused.
-use Rattle.std.specs.Prelude.{◌≡◌, ◌≤◌, ◌<◌, ℕ, ◌+◌, true, false, List, [], ◌∷◌, ◌++◌, length, map, Result, Ok, Err}
+use Rattle.std.specs.Prelude.{◌≡◌, ◌≤◌, ◌<◌, ℕ, true, false, List, [], ◌∷◌, ◌++◌, length, map, Result, Ok, Err}
 use Rattle.std.specs.Str.{IsAscii}
 use Rattle.ioa_tokens.specs.Bytes.{Text, IsFirstWide}
 use Rattle.ioa_tokens.specs.Tokens.{Tok, Placed}

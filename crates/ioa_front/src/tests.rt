@@ -4,10 +4,12 @@ use crate::{MOST_BYTES, ReadError, print, read};
 use std::alloc::Global;
 use std::test::Fail;
 
-const RING: &str = "type Id = 0..1\nautomaton Node(me: Id, nx: Id, first: Bool)\nsignature\ninput pass(const me)\noutput pass(const nx)\nstates has: Bool := first\ntransitions\ninput pass(const me)\neff has := true\noutput pass(const nx)\npre has\neff has := false\ntasks { pass }\nautomaton Ring\ncomponents a: Node(0, 1, true); b: Node(1, 0, false)\n";
+const RING: &str =
+    "type Id = 0..1\nautomaton Node(me: Id, nx: Id, first: Bool)\nsignature\ninput pass(const me)\noutput pass(const nx)\nstates has: Bool := first\ntransitions\ninput pass(const me)\neff has := true\noutput pass(const nx)\npre has\neff has := false\ntasks { pass }\nautomaton Ring\ncomponents a: Node(0, 1, true); b: Node(1, 0, false)\n";
 
 // All that the grammar has.
-const WHOLE: &str = "type T = - 1..3\ntype E = enumeration of a, b\ntype B = Bool\ntype Q = Seq[Int, 4]\ntype A = Array[T, Q]\nautomaton C(k: Int, f: Bool)\nsignature\ninput set(const k, v: T)\noutput out\ninternal step\nstates n: Int := 0, q: Q := empty, m: A := fill(fill(1))\ntransitions\ninput set(const k, v: T)\neff q := append(q, v); m[v] := q\noutput out\npre not (n = 0) = false and f or head(q) <= - 1 mod 4\neff if n < 1 then n := n + 1 elseif n /= 2 then n := len(q) * 2 - 1 else q := tail(q) fi\ninternal step\npre m[0][1] > 2 and n >= 0\neff for i: T do n := (n) od\ntasks { out } { step, out }\nautomaton D\nsignature\noutput go\ntransitions\noutput go\ntasks { go }\nautomaton S\ncomponents c: C(1, true); d: D\n";
+const WHOLE: &str =
+    "type T = - 1..3\ntype E = enumeration of a, b\ntype B = Bool\ntype Q = Seq[Int, 4]\ntype A = Array[T, Q]\nautomaton C(k: Int, f: Bool)\nsignature\ninput set(const k, v: T)\noutput out\ninternal step\nstates n: Int := 0, q: Q := empty, m: A := fill(fill(1))\ntransitions\ninput set(const k, v: T)\neff q := append(q, v); m[v] := q\noutput out\npre not (n = 0) = false and f or head(q) <= - 1 mod 4\neff if n < 1 then n := n + 1 elseif n /= 2 then n := len(q) * 2 - 1 else q := tail(q) fi\ninternal step\npre m[0][1] > 2 and n >= 0\neff for i: T do n := (n) od\ntasks { out } { step, out }\nautomaton D\nsignature\noutput go\ntransitions\noutput go\ntasks { go }\nautomaton S\ncomponents c: C(1, true); d: D\n";
 
 const BEFORE: &str = "automaton C signature internal up transitions internal up pre ";
 
@@ -15,12 +17,18 @@ fn printed(alloc: Global, source: &[u8]) -> Result<Vec<u8>, Fail> {
     Ok(print(alloc, &read(alloc, source)?)?)
 }
 
-// A precondition of one number inside of so many parentheses.
-fn nested(alloc: Global, open: usize, close: usize) -> Result<String, Fail> {
+// The front of a precondition that begins with so many parentheses.
+fn opened(alloc: Global, open: usize) -> Result<String, Fail> {
     let mut text = String::from_str(alloc, BEFORE)?;
     for _ in 0..open {
         text.push('(')?;
     }
+    Ok(text)
+}
+
+// A precondition of one number inside of so many parentheses.
+fn nested(alloc: Global, open: usize, close: usize) -> Result<String, Fail> {
+    let mut text = opened(alloc, open)?;
     text.push('1')?;
     for _ in 0..close {
         text.push(')')?;
@@ -33,7 +41,10 @@ fn nested(alloc: Global, open: usize, close: usize) -> Result<String, Fail> {
 fn layouts_are_given_back(rt: HostRuntime) -> Result<(), Fail> {
     let alloc = rt.alloc();
     for text in [RING, WHOLE] {
-        assert_eq!(rt; printed(alloc, text.as_bytes())?.as_slice(), text.as_bytes());
+        assert_eq!(rt;
+            printed(alloc, text.as_bytes())?.as_slice(),
+            text.as_bytes()
+        );
     }
     Ok(())
 }
@@ -41,9 +52,14 @@ fn layouts_are_given_back(rt: HostRuntime) -> Result<(), Fail> {
 #[test]
 fn a_source_in_its_lines(rt: HostRuntime) -> Result<(), Fail> {
     let alloc = rt.alloc();
-    let source = "automaton C signature internal up states n: Int := 09223372036854775807 % all of it\ntransitions internal up eff n:=n+1 tasks{up}automaton S components c:C";
-    let wanted = "automaton C\nsignature\ninternal up\nstates n: Int := 9223372036854775807\ntransitions\ninternal up\neff n := n + 1\ntasks { up }\nautomaton S\ncomponents c: C\n";
-    assert_eq!(rt; printed(alloc, source.as_bytes())?.as_slice(), wanted.as_bytes());
+    let source =
+        "automaton C signature internal up states n: Int := 09223372036854775807 % all of it\ntransitions internal up eff n:=n+1 tasks{up}automaton S components c:C";
+    let wanted =
+        "automaton C\nsignature\ninternal up\nstates n: Int := 9223372036854775807\ntransitions\ninternal up\neff n := n + 1\ntasks { up }\nautomaton S\ncomponents c: C\n";
+    assert_eq!(rt;
+        printed(alloc, source.as_bytes())?.as_slice(),
+        wanted.as_bytes()
+    );
     Ok(())
 }
 
@@ -81,11 +97,12 @@ fn the_depth_of_a_number(rt: HostRuntime) -> Result<(), Fail> {
     let alloc = rt.alloc();
     assert!(rt; read(alloc, nested(alloc, 64, 64)?.as_bytes()).is_ok());
     let deep = nested(alloc, 65, 65)?;
+    let short = opened(alloc, 65)?;
     let open = nested(alloc, 64, 63)?;
     let at = BEFORE.len() + 65;
     let rows: [(&[u8], ReadError); 3] = [
         (deep.as_bytes(), ReadError::TooDeep),
-        (&deep.as_bytes()[..at], ReadError::Syntax(at)),
+        (short.as_bytes(), ReadError::Syntax(at)),
         (open.as_bytes(), ReadError::Syntax(at + 64)),
     ];
     for (source, wanted) in rows {

@@ -1,4 +1,4 @@
-use Rattle.std.proofs.Common.{◌∙◌, ◌++◌, [], ap, sym, map, true, append-nil}
+use Rattle.std.proofs.Common.{◌∙◌, ◌++◌, ap, sym, map, true, append-nil}
 use Rattle.ioa_tokens.specs.Tokens.{toks_of}
 use Rattle.ioa_trees.specs.Nodes.{basic}
 use Rattle.ioa_trees.specs.Grammar.{outside}

@@ -1,4 +1,3 @@
-use Rattle.std.proofs.Common.{◌∙◌, sym}
 use Rattle.ioa_front.proofs.Found.{found_at}
 use Rattle.ioa_front.proofs.reading.place_of.Goals as goal
 

@@ -1,7 +1,7 @@
-use Rattle.std.proofs.Common.{rules, ◌≡◌, ◌≤◌, ◌∙◌, length, ap, sym, subst, arith, List, map}
+use Rattle.std.proofs.Common.{◌∙◌, length, ap, sym, subst, arith}
 use Rattle.ioa_tokens.specs.Cutting.{IsTokens}
 use Rattle.ioa_tokens.specs.Layout.{AreProper}
-use Rattle.ioa_tokens.specs.Tokens.{Placed, placed}
+use Rattle.ioa_tokens.specs.Tokens.{placed}
 use Rattle.ioa_trees.specs.Spelling.{spell}
 use Rattle.ioa_front.specs.Reading.{toks}
 use Rattle.ioa_front.specs.Theorem.{IsFound}

@@ -1,5 +1,4 @@
-use Rattle.std.proofs.Common.{◌∙◌, [], sym}
-use Rattle.ioa_trees.specs.Nodes.{source}
+use Rattle.std.proofs.Common.{◌∙◌, []}
 use Rattle.ioa_trees.specs.Spelling.{source_node}
 use Rattle.ioa_trees.specs.Views.{view_source}
 use Rattle.ioa_front.proofs.Rows.{left_over}

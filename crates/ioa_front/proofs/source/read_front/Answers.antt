@@ -1,4 +1,4 @@
-use Rattle.std.proofs.Common.{◌≡◌, ◌∙◌, List, ◌∷◌, ◌++◌, [], append_assoc, ap, sym, map, true, string_bytes}
+use Rattle.std.proofs.Common.{◌∙◌, List, ◌∷◌, ◌++◌, [], append_assoc, ap, sym, map, true, string_bytes}
 use Rattle.ioa_tokens.specs.declared.Word.TheVariants as w
 use Rattle.ioa_tokens.specs.Tokens.{toks_of}
 use Rattle.ioa_trees.specs.Nodes.{Node, source}

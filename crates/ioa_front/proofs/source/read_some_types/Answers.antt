@@ -1,4 +1,4 @@
-use Rattle.std.proofs.Common.{◌∙◌, ◌∷◌, ◌++◌, [], ap, sym, map, true, refl, arith}
+use Rattle.std.proofs.Common.{◌∙◌, ◌++◌, ap, sym, map, true, refl, arith}
 use Rattle.ioa_tokens.specs.Tokens.{toks_of}
 use Rattle.ioa_trees.specs.Nodes.{source}
 use Rattle.ioa_trees.specs.Grammar.{outside, whole}
