@@ -1,22 +1,13 @@
 //! The program `warp`.
 #![tactic(auto)]
 
-mod exchanged;
-pub mod fault;
-pub mod files;
-pub mod first;
-pub mod machine;
-pub mod report;
-pub mod serve;
+mod machine;
 
 use crate::machine::MachineFiles;
-use crate::serve::serve;
+use service::serve::serve;
 use std::process::ExitCode;
 use std::{env, io};
 use trace::Counted;
-
-#[cfg(test)]
-mod tests;
 
 fn main(rt: HostRuntime) -> io::Result<ExitCode> {
     let alloc = rt.alloc();

@@ -1,0 +1,9 @@
+pub mod Answers
+pub mod First
+pub mod Gathered
+pub mod PrintRefusals
+pub mod Printing
+pub mod Reading
+pub mod Reports
+pub mod Tables
+pub mod Whole

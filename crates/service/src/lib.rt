@@ -1,0 +1,15 @@
+//! What the program `warp` answers to its words, over files and writers of any kind.
+#![tactic(auto)]
+
+mod exchanged;
+pub mod fault;
+pub mod files;
+pub mod first;
+pub mod printing;
+pub mod report;
+pub mod serve;
+
+pub use files::{FileFault, Files};
+
+#[cfg(test)]
+mod tests;

@@ -1,0 +1,159 @@
+//! The words of the command line, served.
+ghost use Rattle.std.specs.Prelude.{◌≡◌, ◌≤◌, ℕ, List, IfOk, IfErr, length, map, string_bytes};
+ghost use Rattle.std.specs.Io.KnownBytes.{Appends};
+ghost use Rattle.clap.specs.declared.error.ErrorKind.TheVariants.{DisplayHelp};
+ghost use Rattle.command_line.specs.Words.{HasFault, IsRefused};
+ghost use Rattle.service.specs.declared.report.Report.{Report};
+ghost use Rattle.trace.specs.Counts.{writer_of};
+ghost use Rattle.service.specs.Reading.{IsReadOf};
+ghost use Rattle.service.specs.Reports.{status_of, IsReport, IsReportOn, IsFirstReport, IsPrintReport, IsFileFault, IsUnread, IsUnserved, most_bytes};
+
+use crate::files::{FileFault, Files};
+use crate::first::first_run;
+use crate::printing::{print_source, write_text};
+use crate::report::{Report, report_of};
+use clap::error::Error;
+use command_line::{Asked, Refused, read_words};
+use std::alloc::Global;
+use std::io::Write;
+use terms::Refusal;
+use trace::Counted;
+
+/// The most bytes that a table may have.
+pub const MOST_BYTES: u64 = 16_777_216;
+
+/// One byte more than a source may have: a longer file is refused for its size.
+const SOURCE_BYTES: u64 = 65_537;
+
+/// Serves the words after the program's name: what is asked goes to `out`, as help does; faults and what is wrong with the words go to
+/// `err`, and the answer is the exit status. A failed write to `err` is passed over.
+pub fn serve<F: Files, W: Write, E: Write>(
+    alloc: Global,
+    words: &[String],
+    files: &F,
+    out: &mut Counted<W>,
+    err: &mut E,
+) -> u8
+    ensures status { (report : Report) × (result ≡ status_of report) × IsReport (map string_bytes words.now) (F.has files.now) (F.lacks files.now) (out.new ≡ out.old) (Appends (W.contents (writer_of out.old)) (W.contents (writer_of out.new))) report }
+{
+    let report = answer(alloc, words, files, out, err);
+    let _ = report.tell(err);
+    report.status()
+}
+
+fn answer<F: Files, W: Write, E: Write>(
+    alloc: Global,
+    words: &[String],
+    files: &F,
+    out: &mut Counted<W>,
+    err: &mut E,
+) -> Report
+    ensures report { IsReport (map string_bytes words.now) (F.has files.now) (F.lacks files.now) (out.new ≡ out.old) (Appends (W.contents (writer_of out.old)) (W.contents (writer_of out.new))) result }
+{
+    match read_words(alloc, words) {
+        Ok(asked) => do_asked(alloc, asked, files, out),
+        Err(refused) => refuse(alloc, &refused, out, err),
+    }
+}
+
+// What is asked for.
+fn do_asked<F: Files, W: Write>(
+    alloc: Global,
+    asked: Asked,
+    files: &F,
+    out: &mut Counted<W>,
+) -> Report
+    ensures report { IsReportOn asked.entry (F.has files.now) (F.lacks files.now) (out.new ≡ out.old) (Appends (W.contents (writer_of out.old)) (W.contents (writer_of out.new))) result }
+{
+    match asked {
+        Asked::Print { source } => print_file(alloc, source, files, out),
+        Asked::First { table } => judge(alloc, table, files, out),
+    }
+}
+
+// Words that ask for nothing.
+fn refuse<W: Write, E: Write>(
+    alloc: Global,
+    refused: &Refused,
+    out: &mut Counted<W>,
+    err: &mut E,
+) -> Report
+    ensures report { (words : List (List ℕ)) → IsRefused words refused.now → IsUnserved words (out.new ≡ out.old) (Appends (W.contents (writer_of out.old)) (W.contents (writer_of out.new))) result }
+{
+    match refused {
+        Refused::NoMemory => Report::Fault(1),
+        Refused::Help(error) => help(alloc, error, out),
+        Refused::Words(error) => {
+            let _ = write!(err, "{error}");
+            Report::Misused
+        }
+    }
+}
+
+fn help<W: Write>(alloc: Global, error: &Error, out: &mut Counted<W>) -> Report
+    ensures report { (words : List (List ℕ)) → HasFault words DisplayHelp → IsUnserved words (out.new ≡ out.old) (Appends (W.contents (writer_of out.old)) (W.contents (writer_of out.new))) result }
+{
+    let text = match format!(in alloc; "{error}") {
+        Ok(text) => text,
+        Err(_) => return Report::Fault(1),
+    };
+    match write_text(text.as_str().as_bytes(), out) {
+        Ok(()) => Report::Done,
+        Err(fault) => Report::Fault(fault.number()),
+    }
+}
+
+fn judge<F: Files, W: Write>(alloc: Global, name: &str, files: &F, out: &mut Counted<W>) -> Report
+    ensures report { IsFirstReport (F.has files.now name.now) (F.lacks files.now name.now) (out.new ≡ out.old) (Appends (W.contents (writer_of out.old)) (W.contents (writer_of out.new))) result }
+{
+    let table = match read_whole(alloc, name, files) {
+        Ok(table) => table,
+        Err(number) => return Report::Fault(number),
+    };
+    match first_run(alloc, table.as_slice(), out) {
+        Ok(()) => Report::Done,
+        Err(fault) => report_of(&fault),
+    }
+}
+
+fn print_file<F: Files, W: Write>(
+    alloc: Global,
+    name: &str,
+    files: &F,
+    out: &mut Counted<W>,
+) -> Report
+    ensures report { IsPrintReport (F.has files.now name.now) (F.lacks files.now name.now) (out.new ≡ out.old) (Appends (W.contents (writer_of out.old)) (W.contents (writer_of out.new))) result }
+{
+    let source = match read_front(alloc, name, SOURCE_BYTES, files) {
+        Ok(source) => source,
+        Err(number) => return Report::Fault(number),
+    };
+    match print_source(alloc, source.as_slice(), out) {
+        Ok(()) => Report::Done,
+        Err(refused) => report_of(&refused),
+    }
+}
+
+// All of a table, or the number of the fault.
+fn read_whole<F: Files>(alloc: Global, name: &str, files: &F) -> Result<Vec<u8>, u8>
+    ensures ok { IfOk result (λ bytes. F.has files.now name.now bytes.items × (length bytes.items ≤ most_bytes)) }
+    ensures err { IfErr result (λ number. IsFileFault (F.has files.now name.now) (F.lacks files.now name.now) number) }
+{
+    match read_front(alloc, name, MOST_BYTES + 1, files) {
+        Ok(bytes) if bytes.len() as u64 <= MOST_BYTES => Ok(bytes),
+        Ok(_) => Err(64),
+        Err(number) => Err(number),
+    }
+}
+
+// The first bytes of a file, or the number of the fault.
+fn read_front<F: Files>(alloc: Global, name: &str, most: u64, files: &F) -> Result<Vec<u8>, u8>
+    ensures ok { IfOk result (λ bytes. IsReadOf (F.has files.now name.now) most bytes.items) }
+    ensures err { IfErr result (λ number. IsUnread (F.lacks files.now name.now) number) }
+{
+    match files.read(alloc, name, most) {
+        Ok(bytes) => Ok(bytes),
+        Err(FileFault::NoMemory) => Err(1),
+        Err(FileFault::Failed) => Err(63),
+    }
+}

@@ -1,0 +1,91 @@
+//! One case.
+
+use serde_json::{Error, Value};
+use service::serve::serve;
+use service::{FileFault, Files};
+use std::alloc::{AllocError, Global};
+use trace::Counted;
+
+/// A case, read from its line.
+#[derive(Drop)]
+pub struct Case {
+    value: Value,
+}
+
+/// The files of a case, by their names.
+#[derive(Clone, Copy)]
+struct CaseFiles<'a> {
+    files: &'a Value,
+}
+
+impl<'a> Files for CaseFiles<'a> {
+    ghost has = { λ _ _ _. Unit {0} };
+
+    ghost lacks = { λ _ _. Unit {0} };
+
+    fn read(&self, alloc: Global, name: &str, most: u64) -> Result<Vec<u8>, FileFault> {
+        let Some(content) = self.files.get(name).and_then(Value::as_str) else {
+            return Err(FileFault::Failed);
+        };
+        let mut bytes = match bytes_of(alloc, content) {
+            Ok(bytes) => bytes,
+            Err(_) => return Err(FileFault::NoMemory),
+        };
+        bytes.truncate(most as usize);
+        Ok(bytes)
+    }
+}
+
+// A character is one byte; one above 255 stands for none.
+fn bytes_of(alloc: Global, content: &str) -> Result<Vec<u8>, AllocError> {
+    let mut bytes = Vec::new(alloc);
+    for character in content.chars() {
+        bytes.push(u8::try_from(u32::from(character)).unwrap_or(b'?'))?;
+    }
+    Ok(bytes)
+}
+
+impl Case {
+    pub fn read(alloc: Global, line: &str) -> Result<Case, Error> {
+        let value = Value::from_str(alloc, line)?;
+        Ok(Case { value })
+    }
+
+    /// Whether the service answers with the wanted status and texts.
+    pub fn comes_out(&self, alloc: Global) -> Result<bool, AllocError> {
+        let words = self.words(alloc)?;
+        let Some(files) = self.value.get("files") else {
+            return Ok(false);
+        };
+        let files = CaseFiles { files };
+        let mut out = Counted::new(Vec::new(alloc));
+        let mut err = Vec::new(alloc);
+        let status = serve(alloc, words.as_slice(), &files, &mut out, &mut err);
+        let status_is_right = self.value.get("status").and_then(Value::as_u64)
+            == Some(u64::from(status));
+        let out_is_right = self.has_text(alloc, "stdout", out.into_inner().as_slice())?;
+        let err_is_right = self.has_text(alloc, "stderr", err.as_slice())?;
+        Ok(status_is_right && out_is_right && err_is_right)
+    }
+
+    fn words(&self, alloc: Global) -> Result<Vec<String>, AllocError> {
+        let mut words = Vec::new(alloc);
+        let Some(said) = self.value.get("words").and_then(Value::as_array) else {
+            return Ok(words);
+        };
+        for word in said {
+            let text = word.as_str().unwrap_or("");
+            words.push(String::from_str(alloc, text)?)?;
+        }
+        Ok(words)
+    }
+
+    // Whether the bytes are what the case wants under this name; anything will do where it says nothing.
+    fn has_text(&self, alloc: Global, name: &str, bytes: &[u8]) -> Result<bool, AllocError> {
+        let Some(wanted) = self.value.get(name).and_then(Value::as_str) else {
+            return Ok(true);
+        };
+        let wanted = bytes_of(alloc, wanted)?;
+        Ok(wanted.as_slice() == bytes)
+    }
+}

@@ -1,0 +1,45 @@
+//! Feeds cases with known answers to the program's service, and counts those that come out as they should.
+//!
+//! A line of a file of cases is one case in JSON: the words after the program's name, the files by their names (a
+//! character is one byte), what standard output and standard error have to be (`null`: anything), and the status.
+#![tactic(auto)]
+
+mod case;
+
+use crate::case::Case;
+use std::alloc::Global;
+use std::process::ExitCode;
+use std::{env, fs};
+
+/// How many cases came out as they should, and how many didn't.
+#[derive(Clone, Copy, Default)]
+struct Count {
+    passed: u64,
+    failed: u64,
+}
+
+fn main(rt: HostRuntime) -> anyhow::Result<ExitCode> {
+    let alloc = rt.alloc();
+    let mut count = Count {
+        passed: 0,
+        failed: 0,
+    };
+    for name in env::args(&rt)?.skip(1) {
+        let text = fs::read_to_string(&rt, name.as_str())?;
+        for (number, line) in text.as_str().lines().enumerate() {
+            if has_passed(alloc, line)? {
+                count.passed = count.passed.saturating_add(1);
+            } else {
+                count.failed = count.failed.saturating_add(1);
+                eprintln!(rt; "{name}:{}: failed", number.saturating_add(1))?;
+            }
+        }
+    }
+    println!(rt; "{} passed, {} failed", count.passed, count.failed)?;
+    Ok(ExitCode::from(if count.failed == 0 { 0 } else { 1 }))
+}
+
+fn has_passed(alloc: Global, line: &str) -> anyhow::Result<bool> {
+    let case = Case::read(alloc, line)?;
+    Ok(case.comes_out(alloc)?)
+}
