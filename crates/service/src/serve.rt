@@ -23,7 +23,7 @@ use trace::Counted;
 pub const MOST_BYTES: u64 = 16_777_216;
 
 /// One byte more than a source may have: a longer file is refused for its size.
-const SOURCE_BYTES: u64 = 65_537;
+const SOURCE_BYTES: u64 = ioa_front::MOST_BYTES as u64 + 1;
 
 /// Serves the words after the program's name: what is asked goes to `out`, as help does; faults and what is wrong with the words go to
 /// `err`, and the answer is the exit status. A failed write to `err` is passed over.

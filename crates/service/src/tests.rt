@@ -257,7 +257,7 @@ fn the_limit_of_a_source(rt: HostRuntime) -> Result<(), Fail> {
     // Blanks up to the limit of 65,536 bytes, and one more.
     let mut bytes = Vec::new(alloc);
     bytes.extend_from_slice(RING_SOURCE.as_bytes())?;
-    while bytes.len() < 65_536 {
+    for _k in bytes.len()..65_536 {
         bytes.push(b' ')?;
     }
     for (longer, printed, said, status) in [
