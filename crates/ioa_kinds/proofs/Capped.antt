@@ -22,10 +22,12 @@ both_small a b h k =
 
 pub capped_times : (a b : ℕ) → capped (capped a * capped b) ≡ capped (a * b)
 capped_times a b = elim (cases_lt a 65537) as (λ w. capped (capped a * capped b) ≡ capped (a * b)) [
-    inl h ↦ elim (cases_lt b 65537) as (λ w. capped (capped a * capped b) ≡ capped (a * b)) [
-        inl k ↦ both_small a b (omega arith) (omega arith)
-      | inr k ↦ ap capped (mul_comm (capped a) (capped b)) ∙ left_big b a k ∙ ap capped (mul_comm b a) ]
-  | inr h ↦ left_big a b h ]
+  | inl h ↦ elim (cases_lt b 65537) as (λ w. capped (capped a * capped b) ≡ capped (a * b)) [
+    | inl k ↦ both_small a b (omega arith) (omega arith)
+    | inr k ↦ ap capped (mul_comm (capped a) (capped b)) ∙ left_big b a k ∙ ap capped (mul_comm b a)
+  ]
+  | inr h ↦ left_big a b h
+]
 
 pub product_is : {r x y : ℕ} (a b : ℕ) → r ≡ capped (x * y) → x ≡ capped a → y ≡ capped b → r ≡ capped (a * b)
 product_is a b p q r = p ∙ ap capped (cc) ∙ capped_times a b

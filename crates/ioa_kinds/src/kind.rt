@@ -124,7 +124,7 @@ pub fn can_be_listed(kind: &Kind) -> bool
 {
     match kind {
         Kind::Truth => true,
-        Kind::Range(_, _) => true,
+        Kind::Range(..) => true,
         Kind::Enumeration(_, _) => true,
         Kind::Whole => false,
         Kind::Seq(_, _) => false,

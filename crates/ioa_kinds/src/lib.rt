@@ -6,3 +6,6 @@ pub mod shape;
 
 pub use kind::Kind;
 pub use shape::Shape;
+
+#[cfg(test)]
+mod tests;

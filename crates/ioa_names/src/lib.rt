@@ -6,3 +6,6 @@ pub mod names;
 
 pub use meaning::Meaning;
 pub use names::Names;
+
+#[cfg(test)]
+mod tests;
