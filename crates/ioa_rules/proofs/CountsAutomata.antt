@@ -15,7 +15,7 @@ pub parts_counts : {A : Type 0} (s : Sort) (v : Word) (f : A → Node) (g : A �
 parts_counts s v f g e [] = refl
 parts_counts s v f g e (x ∷ xs) = omega (arith, e x, parts_counts s v f g e xs)
 
-row_counts : {A : Type 0} (f : A → Node) (g : A → ℕ) → ((x : A) → count (f x) ≡ g x) → (xs : List A) → counts (pack (map f xs)) ≡ row_size g xs
+pub row_counts : {A : Type 0} (f : A → Node) (g : A → ℕ) → ((x : A) → count (f x) ≡ g x) → (xs : List A) → counts (pack (map f xs)) ≡ row_size g xs
 row_counts f g e [] = refl
 row_counts f g e (x ∷ xs) = omega (arith, e x, row_counts f g e xs)
 
@@ -24,10 +24,10 @@ closed_counts : {A : Type 0} (s : Sort) (v : Word) (f : A → Node) (g : A → �
     → (x : A) (xs : List A) → count (f x) + counts (pack (parts s v f xs ++ (n ∷ []))) ≡ listed_size g (x ∷ xs) + 1
 closed_counts s v f g n e one x xs = omega (arith, e x, one, parts_counts s v f g e xs, counts_append (parts s v f xs) (n ∷ []))
 
-formal_counts : (d : PlainDeclared) → count (formal_node d) ≡ declared_size d
+pub formal_counts : (d : PlainDeclared) → count (formal_node d) ≡ declared_size d
 formal_counts d = omega (arith, type_counts d.of)
 
-parameter_counts : (p : PlainParameter) → count (parameter_node p) ≡ parameter_size p
+pub parameter_counts : (p : PlainParameter) → count (parameter_node p) ≡ parameter_size p
 parameter_counts (Constant q) = refl
 parameter_counts (Typed d) = omega (arith, type_counts d.of)
 
@@ -38,14 +38,14 @@ parameters_counts (p ∷ ps) = omega (arith, closed_counts parameter_part w.Comm
 pub entry_counts : (e : PlainEntry) → count (entry_node e) ≡ entry_size e
 entry_counts e = omega (arith, parameters_counts e.parameters)
 
-variable_counts : (v : PlainVariable) → count (variable_node v) ≡ variable_size v
+pub variable_counts : (v : PlainVariable) → count (variable_node v) ≡ variable_size v
 variable_counts v = omega (arith, type_counts v.declared.of, init_counts v.start)
 
-states_counts : (vs : List PlainVariable) → counts (pack (states_node vs)) ≡ after_word (listed_size variable_size vs) vs
+pub states_counts : (vs : List PlainVariable) → counts (pack (states_node vs)) ≡ after_word (listed_size variable_size vs) vs
 states_counts [] = refl
 states_counts (v ∷ vs) = omega (arith, variable_counts v, parts_counts variable_part w.Comma variable_node variable_size variable_counts vs)
 
-pre_counts : (t : Option PlainTerm) → counts (pack (pre_node t)) ≡ pre_size t
+pub pre_counts : (t : Option PlainTerm) → counts (pack (pre_node t)) ≡ pre_size t
 pre_counts None = refl
 pre_counts (Some t) = omega (arith, term_counts t)
 
@@ -56,18 +56,18 @@ eff_counts (more_statements s ss) = omega (arith, statements_counts (more_statem
 pub transition_counts : (t : PlainTransition) → count (transition_node t) ≡ transition_size t
 transition_counts t = omega (arith, entry_counts t.entry, counts_append (pre_node t.pre) (eff_node t.eff), pre_counts t.pre, eff_counts t.eff)
 
-name_counts : (q : Bytes) → count (named q) ≡ name_size q
+pub name_counts : (q : Bytes) → count (named q) ≡ name_size q
 name_counts q = refl
 
-task_counts : (ns : List Bytes) → count (task_node ns) ≡ task_size ns
+pub task_counts : (ns : List Bytes) → count (task_node ns) ≡ task_size ns
 task_counts [] = refl
 task_counts (n ∷ ns) = omega (arith, closed_counts name_part w.Comma named name_size (key w.CloseBrace) name_counts refl n ns)
 
-tasks_counts : (ts : List (List Bytes)) → counts (pack (tasks_node ts)) ≡ after_word (row_size task_size ts) ts
+pub tasks_counts : (ts : List (List Bytes)) → counts (pack (tasks_node ts)) ≡ after_word (row_size task_size ts) ts
 tasks_counts [] = refl
 tasks_counts (t ∷ ts) = omega (arith, task_counts t, row_counts task_node task_size task_counts ts)
 
-formals_counts : (ds : List PlainDeclared) → counts (pack (formals_nodes ds)) ≡ bracketed_size declared_size ds
+pub formals_counts : (ds : List PlainDeclared) → counts (pack (formals_nodes ds)) ≡ bracketed_size declared_size ds
 formals_counts [] = refl
 formals_counts (d ∷ ds) = omega (arith, closed_counts formal_part w.Comma formal_node declared_size (key w.Close) formal_counts refl d ds)
 

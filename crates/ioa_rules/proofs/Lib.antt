@@ -5,3 +5,5 @@ pub mod CountsTerms
 pub mod CountsStatements
 pub mod CountsAutomata
 pub mod Placed
+pub mod Inside
+pub mod Held

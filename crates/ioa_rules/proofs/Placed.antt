@@ -1,21 +1,22 @@
 -- Where the parts of a source stand among its tokens.
 use Rattle.std.proofs.Common.{◌≡◌, ◌<◌, ℕ, ◌+◌, List, [], ◌∷◌, ◌++◌, map, length, take, drop, length-append, append_assoc, append-nil, take_at, drop_at, refl, sym, ap, ◌∙◌, arith}
-use Rattle.std.proofs.lemmas.List.{map-append}
+use Rattle.std.proofs.lemmas.List.{map-append, drop-drop}
+use Rattle.ioa_tokens.specs.declared.Word.{Word}
 use Rattle.ioa_tokens.specs.declared.Word.TheVariants as w
 use Rattle.ioa_tokens.specs.Tokens.{Tok, Name, Key}
-use Rattle.ioa_trees.specs.Nodes.{component_part, Node, pack, yield, yields, yield_nodes}
-use Rattle.ioa_trees.specs.Spelling.{key, branch, parts, basic_node, component_node, components_nodes, type_definition_node, next_name, further_nodes, automata_nodes, spell}
+use Rattle.ioa_trees.specs.Nodes.{Sort, component_part, Node, pack, yield, yields, yield_nodes}
+use Rattle.ioa_trees.specs.Spelling.{key, named, branch, parts, separated, basic_node, component_node, components_nodes, type_definition_node, next_name, further_nodes, automata_nodes, spell}
 use Rattle.ioa_trees.specs.Trees.{Bytes, PlainAutomaton, PlainComponent, PlainTypeDefinition, PlainSource}
 use Rattle.ioa_rules.specs.Sizes.{behind, listed_size, automaton_size, definition_size, component_size}
 use Rattle.ioa_rules.specs.SourceRules.{definitions_size, automata_size, composed_at}
-use Rattle.ioa_rules.proofs.Counts.{counted, counts, all_counted}
+use Rattle.ioa_rules.proofs.Counts.{count, counted, counts, all_counted, counts_append}
 use Rattle.ioa_rules.proofs.CountsAutomata.{parts_counts, basic_counts, component_counts, definition_counts}
 
-yields_pack : (ns : List Node) → yield_nodes (pack ns) ≡ yields ns
+pub yields_pack : (ns : List Node) → yield_nodes (pack ns) ≡ yields ns
 yields_pack [] = refl
 yields_pack (n ∷ ns) = ap (λ z. yield n ++ z) (yields_pack ns)
 
-yields_append : (ns ms : List Node) → yields (ns ++ ms) ≡ yields ns ++ yields ms
+pub yields_append : (ns ms : List Node) → yields (ns ++ ms) ≡ yields ns ++ yields ms
 yields_append [] ms = refl
 yields_append (n ∷ ns) ms = ap (λ z. yield n ++ z) (yields_append ns ms) ∙ sym (append_assoc (yield n) (yields ns) (yields ms))
 
@@ -130,62 +131,69 @@ automaton_placed x before after a e =
 list_counted : (ns : List Node) → length (yields ns) ≡ counts (pack ns)
 list_counted ns = ap length (sym (yields_pack ns)) ∙ all_counted (pack ns)
 
--- the components after the first
-abbrev later : List PlainComponent → List Node
-later cs = parts component_part w.Semicolon component_node cs
+-- the nodes before an item of a list, where a sign stands between two
+abbrev pub leading : {A : Type 0} → Sort → Word → (A → Node) → List A → List Node
+leading s v f [] = []
+leading s v f (b ∷ bs) = f b ∷ (parts s v f bs ++ (key v ∷ []))
 
-abbrev behind_sign : PlainComponent → Node
-behind_sign c = branch component_part (key w.Semicolon ∷ (component_node c ∷ []))
+pub leading_counts : {A : Type 0} (s : Sort) (v : Word) (f : A → Node) (g : A → ℕ) → ((x : A) → count (f x) ≡ g x)
+    → (bs : List A) → counts (pack (leading s v f bs)) ≡ behind g bs
+leading_counts s v f g e [] = refl
+leading_counts s v f g e (b ∷ bs) = omega (arith, e b, counts_append (parts s v f bs) (key v ∷ []), parts_counts s v f g e bs)
 
--- the tokens before a component, behind `components`
-abbrev leading : List PlainComponent → List Tok
-leading [] = []
-leading (b ∷ bs) = yield (component_node b) ++ (yields (later bs) ++ (Key w.Semicolon ∷ []))
+pub leading_tokens : {A : Type 0} (s : Sort) (v : Word) (f : A → Node) (bs after : List A) (x : A) (rest : List Node)
+    → yields (separated s v f (bs ++ x ∷ after) ++ rest) ≡ yields (leading s v f bs ++ (f x ∷ (parts s v f after ++ rest)))
+leading_tokens s v f [] after x rest = refl
+leading_tokens s v f (b ∷ bs) after x rest =
+    let more : List Node = parts s v f after ++ rest in
+    ap (λ z. yield (f b) ++ z)
+      (ap (λ z. yields (z ++ rest)) (map-append (λ x. branch s (key v ∷ (f x ∷ []))) bs (x ∷ after))
+        ∙ (ap yields (append_assoc (parts s v f bs) (parts s v f (x ∷ after)) rest)
+        ∙ (yields_append (parts s v f bs) (branch s (key v ∷ (f x ∷ [])) ∷ more)
+        ∙ (ap (λ z. yields (parts s v f bs) ++ (Key v ∷ (z ++ yields more))) (append-nil (yield (f x)))
+        ∙ (sym (yields_append (parts s v f bs) (key v ∷ (f x ∷ more)))
+        ∙ ap yields (sym (append_assoc (parts s v f bs) (key v ∷ []) (f x ∷ more))))))))
 
-later_long : (cs : List PlainComponent) → length (yields (later cs)) ≡ behind component_size cs
-later_long cs = list_counted (later cs) ∙ parts_counts component_part w.Semicolon component_node component_size component_counts cs
+components_separated : (cs : List PlainComponent) → components_nodes cs ≡ separated component_part w.Semicolon component_node cs
+components_separated [] = refl
+components_separated (c ∷ cs) = refl
 
-component_long : (c : PlainComponent) → length (yield (component_node c)) ≡ component_size c
-component_long c = counted (component_node c) ∙ component_counts c
+-- past some more nodes
+pub advance : (ts : List Tok) (n m k : ℕ) (pre post : List Node)
+    → drop n ts ≡ yields (pre ++ post) → counts (pack pre) ≡ m → n + m ≡ k → drop k ts ≡ yields post
+advance ts n m k pre post e f g =
+    ap (λ z. drop z ts) (sym g)
+      ∙ (sym (drop-drop m n ts)
+      ∙ (ap (drop m) (e ∙ yields_append pre post)
+      ∙ drop_at (yields pre) (yields post) m (list_counted pre ∙ f)))
 
-leading_long : (bs : List PlainComponent) → length (leading bs) ≡ behind component_size bs
-leading_long [] = refl
-leading_long (b ∷ bs) =
-    omega (arith, length-append (yield (component_node b)) (yields (later bs) ++ (Key w.Semicolon ∷ [])),
-      length-append (yields (later bs)) (Key w.Semicolon ∷ []), component_long b, later_long bs)
-
-leading_tokens : (bs after : List PlainComponent) (c : PlainComponent)
-    → yields (components_nodes (bs ++ c ∷ after)) ≡ leading bs ++ (yield (component_node c) ++ yields (later after))
-leading_tokens [] after c = refl
-leading_tokens (b ∷ bs) after c =
-    let this : List Tok = yield (component_node c) in
-    let rest : List Tok = yields (later after) in
-    let sign : List Tok = Key w.Semicolon ∷ [] in
-    ap (λ z. yield (component_node b) ++ z)
-      (ap yields (map-append behind_sign bs (c ∷ after))
-        ∙ (yields_append (later bs) (later (c ∷ after))
-        ∙ (ap (λ z. yields (later bs) ++ (sign ++ (z ++ rest))) (append-nil this)
-        ∙ sym (append_assoc (yields (later bs)) sign (this ++ rest)))))
-    ∙ sym (append_assoc (yield (component_node b)) (yields (later bs) ++ sign) (this ++ rest))
+-- the first node of what is left
+pub taken : (ts : List Tok) (k m : ℕ) (n : Node) (ns : List Node) → drop k ts ≡ yields (n ∷ ns) → count n ≡ m → take m (drop k ts) ≡ yield n
+taken ts k m n ns e f = ap (take m) e ∙ take_at (yield n) (yields ns) m (counted n ∙ f)
 
 pub component_placed : (x : PlainSource) (before after : List PlainComponent) (c : PlainComponent)
     → 0 < length x.automata → x.composed.components ≡ before ++ c ∷ after
     → take (component_size c) (drop (composed_at x + 3 + behind component_size before) (spell x)) ≡ yield (component_node c)
 component_placed x before after c h e =
-    let this : List Tok = yield (component_node c) in
-    let rest : List Tok = yields (later after) in
-    let start : List Tok = Key w.Automaton ∷ (Name x.composed.name ∷ (Key w.Components ∷ leading before)) in
-    placed (spell x) (front x ++ start) this rest (composed_at x + 3 + behind component_size before) (component_size c)
-      (split_tokens x h
-        ∙ (ap (λ z. front x ++ (last x.composed.name ++ (Key w.Components ∷ z))) (ap (λ z. yields (components_nodes z)) e ∙ leading_tokens before after c)
-        ∙ sym (append_assoc (front x) start (this ++ rest))))
-      (omega (arith, length-append (front x) start, front_long x, leading_long before)) (component_long c)
+    let signed : List Node = leading component_part w.Semicolon component_node before in
+    let rest : List Node = component_node c ∷ (parts component_part w.Semicolon component_node after ++ []) in
+    let start : List Node = key w.Automaton ∷ (named x.composed.name ∷ (key w.Components ∷ [])) in
+    taken (spell x) (composed_at x + 3 + behind component_size before) (component_size c) (component_node c) (parts component_part w.Semicolon component_node after ++ [])
+      (advance (spell x) (composed_at x + 3) (behind component_size before) (composed_at x + 3 + behind component_size before) signed rest
+        (advance (spell x) (composed_at x) 3 (composed_at x + 3) start (components_nodes x.composed.components) (composed_placed x h) refl refl
+          ∙ (ap yields (components_separated x.composed.components)
+          ∙ (ap (λ z. yields (separated component_part w.Semicolon component_node z)) e
+          ∙ (ap yields (sym (append-nil (separated component_part w.Semicolon component_node (before ++ c ∷ after))))
+          ∙ leading_tokens component_part w.Semicolon component_node before after c []))))
+        (leading_counts component_part w.Semicolon component_node component_size component_counts before) refl)
+      (component_counts c)
 
-components_long : (cs : List PlainComponent) → length (yields (components_nodes cs)) ≡ listed_size component_size cs
+components_long : (cs : List PlainComponent) → counts (pack (components_nodes cs)) ≡ listed_size component_size cs
 components_long [] = refl
-components_long (c ∷ cs) = omega (arith, length-append (yield (component_node c)) (yields (later cs)), component_long c, later_long cs)
+components_long (c ∷ cs) = omega (arith, component_counts c, parts_counts component_part w.Semicolon component_node component_size component_counts cs)
 
 pub all_long : (x : PlainSource) → 0 < length x.automata → length (spell x) ≡ composed_at x + 3 + listed_size component_size x.composed.components
 all_long x h =
     let split = split_tokens x h in
-    omega (arith, ap length split, length-append (front x) (last x.composed.name ++ ending x), front_long x, components_long x.composed.components)
+    omega (arith, ap length split, length-append (front x) (last x.composed.name ++ ending x), front_long x,
+      list_counted (components_nodes x.composed.components), components_long x.composed.components)

@@ -98,7 +98,7 @@ abbrev pub listed_size : {A : Type 0} → (A → ℕ) → List A → ℕ
 listed_size f [] = 0
 listed_size f (x ∷ xs) = f x + behind f xs
 
--- the same in parentheses, and nothing where there are none
+-- the same in parentheses or braces, and nothing where there are none
 abbrev pub bracketed_size : {A : Type 0} → (A → ℕ) → List A → ℕ
 bracketed_size f [] = 0
 bracketed_size f (x ∷ xs) = listed_size f (x ∷ xs) + 2
