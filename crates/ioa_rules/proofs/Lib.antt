@@ -1,2 +1,9 @@
 pub mod Rows
 pub mod Least
+pub mod Counts
+pub mod CountsTerms
+pub mod CountsStatements
+pub mod CountsAutomata
+pub mod Placed
+pub mod Inside
+pub mod Held

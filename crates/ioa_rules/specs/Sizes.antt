@@ -66,7 +66,8 @@ at_size (Some t) = size t + 2
 abbrev mutual
   pub statement_size : PlainStatement → ℕ
   statement_size (Assign q i v) = at_size i + init_size v + 2
-  statement_size (If bs ss) = branches_size bs + else_size ss + 1
+  statement_size (If no_branch ss) = else_size ss + 2
+  statement_size (If (more_branches t us bs) ss) = branches_size (more_branches t us bs) + else_size ss + 1
   statement_size (For d ss) = type_size d.of + statements_size ss + 5
 
   -- each behind `if` or `elseif`
@@ -97,7 +98,7 @@ abbrev pub listed_size : {A : Type 0} → (A → ℕ) → List A → ℕ
 listed_size f [] = 0
 listed_size f (x ∷ xs) = f x + behind f xs
 
--- the same in parentheses, and nothing where there are none
+-- the same in parentheses or braces, and nothing where there are none
 abbrev pub bracketed_size : {A : Type 0} → (A → ℕ) → List A → ℕ
 bracketed_size f [] = 0
 bracketed_size f (x ∷ xs) = listed_size f (x ∷ xs) + 2
@@ -137,7 +138,7 @@ abbrev pub transition_size : PlainTransition → ℕ
 transition_size t = entry_size t.entry + pre_size t.pre + eff_size t.eff
 
 abbrev pub task_size : List Bytes → ℕ
-task_size ns = listed_size name_size ns + 2
+task_size ns = bracketed_size name_size ns
 
 -- behind a word, where there are some
 abbrev pub after_word : {A : Type 0} → ℕ → List A → ℕ
@@ -153,7 +154,8 @@ automaton_size a =
 
 abbrev pub body_size : PlainTypeBody → ℕ
 body_size (Same t) = type_size t
-body_size (Enumeration ns) = listed_size name_size ns + 2
+body_size (Enumeration []) = 1
+body_size (Enumeration (n ∷ ns)) = listed_size name_size (n ∷ ns) + 2
 
 -- from `type` on
 abbrev pub definition_size : PlainTypeDefinition → ℕ
