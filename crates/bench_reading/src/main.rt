@@ -9,8 +9,13 @@ use std::env;
 use std::time::{Clock, Instant};
 
 const ROUNDS: u32 = 20;
-const BEFORE: &str = "automaton C signature internal up states n: Int := 0 transitions internal up pre n < 5 eff n := 0";
-const STATEMENT: &str = "; if n = 1 and not (n < 2) then n := n + 1 * (2 - n) mod 7 else n := len(q[0]) fi";
+
+const BEFORE: &str =
+    "automaton C signature internal up states n: Int := 0 transitions internal up pre n < 5 eff n := 0";
+
+const STATEMENT: &str =
+    "; if n = 1 and not (n < 2) then n := n + 1 * (2 - n) mod 7 else n := len(q[0]) fi";
+
 const AFTER: &str = " tasks {up} automaton S components c: C";
 
 // A source of just the greatest size: as many statements as fit, and blanks.
@@ -41,7 +46,11 @@ fn read_often(clock: &impl Clock, alloc: Global, text: &str) -> Result<(u64, Sou
 fn measure(rt: &(impl Print + Clock + AllocGlobal)) -> Result<()> {
     let text = largest(rt.alloc())?;
     let (cost, source) = read_often(rt, rt.alloc(), text.as_str())?;
-    println!(rt; "{} bytes are read in {} microseconds", text.len(), cost / 1_000)?;
+    println!(rt;
+        "{} bytes are read in {} microseconds",
+        text.len(),
+        cost / 1_000
+    )?;
     let printed = print(rt.alloc(), &source)?;
     println!(rt; "{} bytes are printed", printed.len())?;
     Ok(())

@@ -6,8 +6,7 @@ ghost use Rattle.trace.specs.Puts.{written_of};
 ghost use Rattle.service.specs.Printing.{IsPrinted, IsUnprinted};
 
 use crate::fault::PrintFault;
-use ioa_front::print;
-use ioa_front::read;
+use ioa_front::{print, read};
 use std::alloc::Global;
 use std::io::Write;
 use trace::{Counted, WriteFault};
