@@ -1,2 +1,5 @@
 pub mod Rows
 pub mod Least
+pub mod NoFaults
+pub mod TypesMeant
+pub mod TermsMeant

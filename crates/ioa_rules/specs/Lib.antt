@@ -9,3 +9,4 @@ pub mod EffectRules
 pub mod EntryRules
 pub mod AutomatonRules
 pub mod SourceRules
+pub mod Meant
