@@ -1,10 +1,13 @@
 //! What holds of the rules.
 ghost use Rattle.std.specs.Prelude.{◌≡◌, ℕ, Some, None, IsSome, List, []};
-ghost use Rattle.ioa_trees.specs.Trees.{PlainType, PlainTerm};
+ghost use Rattle.ioa_trees.specs.Trees.{PlainType, PlainTerm, PlainInit, PlainDeclared, PlainStatements};
 ghost use Rattle.ioa_rules.specs.Faults.{Fault, IsLeast, keep};
+ghost use Rattle.ioa_rules.specs.Kinds.{Kind};
 ghost use Rattle.ioa_rules.specs.Scopes.{Scope};
 ghost use Rattle.ioa_rules.specs.TypeRules.{kind_of, type_faults};
 ghost use Rattle.ioa_rules.specs.TermRules.{judge, faults};
+ghost use Rattle.ioa_rules.specs.ValueRules.{put, inner_faults, misfits};
+ghost use Rattle.ioa_rules.specs.EffectRules.{in_loop, effects_of, statements_faults};
 ghost use Rattle.ioa_rules.specs.Meant.{AllMeant};
 
 /// The least fault so far, kept over a list, is the least of the list; none is kept only where there is none.
@@ -22,4 +25,15 @@ pub fn types_meant_law()
 pub fn terms_meant_law()
     ensures meant { (s : Scope) → AllMeant s → (at : ℕ) (t : PlainTerm) → faults s at t ≡ [] → IsSome (judge s t) }
     ensures faultless { (s : Scope) (at : ℕ) (t : PlainTerm) → IsSome (judge s t) → faults s at t ≡ [] }
+{}
+
+/// A value without faults that fits its place has a meaning there.
+pub fn values_meant_law()
+    ensures meant { (s : Scope) → AllMeant s → (k : Kind) (at place : ℕ) (v : PlainInit) → inner_faults s at v ≡ [] → misfits s (Some k) place v ≡ [] → IsSome (put s k v) }
+{}
+
+/// Statements without faults have an effect; a scope stays meant in a loop whose type has a kind.
+pub fn effects_meant_law()
+    ensures scope { (s : Scope) (n : ℕ) (d : PlainDeclared) → AllMeant s → IsSome (kind_of s d.of) → AllMeant (in_loop s n d) }
+    ensures meant { (s : Scope) → AllMeant s → (n at : ℕ) (ss : PlainStatements) → statements_faults s n at ss ≡ [] → IsSome (effects_of s n ss) }
 {}
