@@ -6,3 +6,5 @@ pub mod TermsMeant
 pub mod ValuesMeant
 pub mod ScopesMeant
 pub mod EffectsMeant
+pub mod SameHeads
+pub mod EntriesMeant

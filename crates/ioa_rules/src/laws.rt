@@ -1,6 +1,6 @@
 //! What holds of the rules.
-ghost use Rattle.std.specs.Prelude.{◌≡◌, ℕ, Some, None, IsSome, List, []};
-ghost use Rattle.ioa_trees.specs.Trees.{PlainType, PlainTerm, PlainInit, PlainDeclared, PlainStatements};
+ghost use Rattle.std.specs.Prelude.{◌≡◌, ℕ, Bool, Some, None, IsSome, List, []};
+ghost use Rattle.ioa_trees.specs.Trees.{PlainType, PlainTerm, PlainInit, PlainDeclared, PlainStatements, PlainParameter, PlainEntry, PlainTransition};
 ghost use Rattle.ioa_rules.specs.Faults.{Fault, IsLeast, keep};
 ghost use Rattle.ioa_rules.specs.Kinds.{Kind};
 ghost use Rattle.ioa_rules.specs.Scopes.{Scope};
@@ -8,7 +8,8 @@ ghost use Rattle.ioa_rules.specs.TypeRules.{kind_of, type_faults};
 ghost use Rattle.ioa_rules.specs.TermRules.{judge, faults};
 ghost use Rattle.ioa_rules.specs.ValueRules.{put, inner_faults, misfits};
 ghost use Rattle.ioa_rules.specs.EffectRules.{in_loop, effects_of, statements_faults};
-ghost use Rattle.ioa_rules.specs.Meant.{AllMeant};
+ghost use Rattle.ioa_rules.specs.EntryRules.{parameters_faults, with_parameters, slots, transition_faults, pre_of};
+ghost use Rattle.ioa_rules.specs.Meant.{AllMeant, AllSome};
 
 /// The least fault so far, kept over a list, is the least of the list; none is kept only where there is none.
 pub fn least_law()
@@ -36,4 +37,11 @@ pub fn values_meant_law()
 pub fn effects_meant_law()
     ensures scope { (s : Scope) (n : ℕ) (d : PlainDeclared) → AllMeant s → IsSome (kind_of s d.of) → AllMeant (in_loop s n d) }
     ensures meant { (s : Scope) → AllMeant s → (n at : ℕ) (ss : PlainStatements) → statements_faults s n at ss ≡ [] → IsSome (effects_of s n ss) }
+{}
+
+/// Parameters without faults have slots, and the scope stays meant with them; a transition without faults has a precondition and an effect.
+pub fn entries_meant_law()
+    ensures slots { (s : Scope) → AllMeant s → (c : Bool) (at : ℕ) (ps : List PlainParameter) → parameters_faults s c at ps ≡ [] → AllSome (slots s ps) }
+    ensures scope { (s : Scope) → AllMeant s → (c : Bool) (at n : ℕ) (ps : List PlainParameter) → parameters_faults s c at ps ≡ [] → AllMeant (with_parameters s n ps) }
+    ensures transition { (s : Scope) → AllMeant s → (entries : List PlainEntry) (before : List PlainTransition) (at : ℕ) (t : PlainTransition) → transition_faults s entries before at t ≡ [] → IsSome (pre_of s t.pre) × IsSome (effects_of s 0 t.eff) }
 {}
