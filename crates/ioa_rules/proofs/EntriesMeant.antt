@@ -132,21 +132,21 @@ entry_found : (P : PlainEntry → Type 0) (t : PlainEntry) (es : List PlainEntry
 entry_found P t [] all e h = absurd (cc)
 entry_found P t (x ∷ es) all e h = found_by P (agrees t x) x e (entry_for t es) (All-head P x es all) (entry_found P t es (All-tail P x es all) e) h
 
-abbrev Scoped : Scope → PlainEntry → Type 0
+abbrev pub Scoped : Scope → PlainEntry → Type 0
 Scoped s e = AllMeant (with_parameters s 0 e.parameters)
 
-scoped_by : (s : Scope) (es : List PlainEntry) (at : ℕ) (t : PlainEntry) → All (Scoped s) es → (o : Option PlainEntry) → entry_for t es ≡ o → head_faults es at t ≡ [] → Scoped s t
-scoped_by s es at t all None e h =
+head_by : (s : Scope) (es : List PlainEntry) (at : ℕ) (t : PlainEntry) → All (Scoped s) es → (o : Option PlainEntry) → entry_for t es ≡ o → head_faults es at t ≡ [] → Scoped s t
+head_by s es at t all None e h =
     let wrong : head_faults es at t ≡ at_fault at 10 = rw e refl in
     absurd (cc)
-scoped_by s es at t all (Some x) e h =
+head_by s es at t all (Some x) e h =
     let test : head_faults es at t ≡ where_wrong (not (same_parameters t.parameters x.parameters)) at 12 = rw e refl in
     let same = parameters_same t.parameters x.parameters (right_if (same_parameters t.parameters x.parameters) at 12 (sym test ∙ h)) in
     subst (λ ps. AllMeant (with_parameters s 0 ps)) (sym same) (entry_found (Scoped s) t es all x e)
 
 -- a transition has the parameters of its entry
-pub scoped : (s : Scope) (es : List PlainEntry) (at : ℕ) (t : PlainEntry) → All (Scoped s) es → head_faults es at t ≡ [] → AllMeant (with_parameters s 0 t.parameters)
-scoped s es at t all h = scoped_by s es at t all (entry_for t es) refl h
+pub meant_with_head : (s : Scope) (es : List PlainEntry) (at : ℕ) (t : PlainEntry) → All (Scoped s) es → head_faults es at t ≡ [] → AllMeant (with_parameters s 0 t.parameters)
+meant_with_head s es at t all h = head_by s es at t all (entry_for t es) refl h
 
 -- ---- entries with their transitions
 

@@ -8,3 +8,5 @@ pub mod ScopesMeant
 pub mod EffectsMeant
 pub mod SameHeads
 pub mod EntriesMeant
+pub mod AutomataMeant
+pub mod SourcesMeant

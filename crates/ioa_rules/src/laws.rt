@@ -1,6 +1,6 @@
 //! What holds of the rules.
 ghost use Rattle.std.specs.Prelude.{◌≡◌, ℕ, Bool, Some, None, IsSome, List, []};
-ghost use Rattle.ioa_trees.specs.Trees.{PlainType, PlainTerm, PlainInit, PlainDeclared, PlainStatements, PlainParameter, PlainEntry, PlainTransition};
+ghost use Rattle.ioa_trees.specs.Trees.{PlainType, PlainTerm, PlainInit, PlainDeclared, PlainStatements, PlainParameter, PlainEntry, PlainTransition, PlainAutomaton, PlainSource};
 ghost use Rattle.ioa_rules.specs.Faults.{Fault, IsLeast, keep};
 ghost use Rattle.ioa_rules.specs.Kinds.{Kind};
 ghost use Rattle.ioa_rules.specs.Scopes.{Scope};
@@ -9,7 +9,9 @@ ghost use Rattle.ioa_rules.specs.TermRules.{judge, faults};
 ghost use Rattle.ioa_rules.specs.ValueRules.{put, inner_faults, misfits};
 ghost use Rattle.ioa_rules.specs.EffectRules.{in_loop, effects_of, statements_faults};
 ghost use Rattle.ioa_rules.specs.EntryRules.{parameters_faults, with_parameters, slots, transition_faults, pre_of};
-ghost use Rattle.ioa_rules.specs.Meant.{AllMeant, AllSome};
+ghost use Rattle.ioa_rules.specs.AutomatonRules.{body_faults, meaning_of};
+ghost use Rattle.ioa_rules.specs.SourceRules.{source_faults, source_meaning};
+ghost use Rattle.ioa_rules.specs.Meant.{AllMeant, AllSome, IsWholeAutomaton, IsWhole};
 
 /// The least fault so far, kept over a list, is the least of the list; none is kept only where there is none.
 pub fn least_law()
@@ -44,4 +46,14 @@ pub fn entries_meant_law()
     ensures slots { (s : Scope) → AllMeant s → (c : Bool) (at : ℕ) (ps : List PlainParameter) → parameters_faults s c at ps ≡ [] → AllSome (slots s ps) }
     ensures scope { (s : Scope) → AllMeant s → (c : Bool) (at n : ℕ) (ps : List PlainParameter) → parameters_faults s c at ps ≡ [] → AllMeant (with_parameters s n ps) }
     ensures transition { (s : Scope) → AllMeant s → (entries : List PlainEntry) (before : List PlainTransition) (at : ℕ) (t : PlainTransition) → transition_faults s entries before at t ≡ [] → IsSome (pre_of s t.pre) × IsSome (effects_of s 0 t.eff) }
+{}
+
+/// Of the meaning of an automaton without faults no part is missing.
+pub fn automata_meant_law()
+    ensures meant { (s : Scope) → AllMeant s → (at : ℕ) (a : PlainAutomaton) → body_faults s at a ≡ [] → IsWholeAutomaton (meaning_of s a) }
+{}
+
+/// Of the meaning of a source without faults no part is missing, but for the automata of components that aren't known.
+pub fn sources_meant_law()
+    ensures meant { (x : PlainSource) → source_faults x ≡ [] → IsWhole (source_meaning x) }
 {}
