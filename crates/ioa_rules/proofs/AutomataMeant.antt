@@ -1,16 +1,16 @@
 -- An automaton without faults has a whole meaning.
-use Rattle.std.proofs.Common.{◌≡◌, ℕ, ◌+◌, Bool, true, false, not, Option, Some, None, IsSome, nat_lt, List, [], ◌∷◌, ◌++◌, length, map, refl}
-use Rattle.std.specs.List.{list_any, All}
+use Rattle.std.proofs.Common.{◌≡◌, ℕ, ◌+◌, Option, IsSome, nat_lt, List, [], ◌∷◌, ◌++◌, length, map}
+use Rattle.std.specs.List.{All}
 use Rattle.std.proofs.lemmas.List.Elements.{All-nil, All-cons, All-head, All-tail, All-weaker}
 use Rattle.terms.specs.TermTree.{TermTree}
-use Rattle.ioa_trees.specs.Trees.{Bytes, PlainDeclared, PlainEntry, PlainVariable, PlainTransition, PlainAutomaton}
-use Rattle.ioa_rules.specs.Faults.{Fault, where_wrong}
+use Rattle.ioa_trees.specs.Trees.{PlainDeclared, PlainVariable, PlainTransition, PlainAutomaton}
+use Rattle.ioa_rules.specs.Faults.{where_wrong}
 use Rattle.ioa_rules.specs.Kinds.{Kind}
 use Rattle.ioa_rules.specs.Scopes.{Scope, OfFormal, OfVariable, declare, doubled}
 use Rattle.ioa_rules.specs.Sizes.{declared_size, type_size, variable_size}
 use Rattle.ioa_rules.specs.TypeRules.{kind_of, type_faults, unscalar}
 use Rattle.ioa_rules.specs.ValueRules.{put_in, inner_faults, misfits}
-use Rattle.ioa_rules.specs.EntryRules.{with_parameters, with_entries, entries_faults, head_faults, transition_faults, transitions_faults, transition_for, meant_by}
+use Rattle.ioa_rules.specs.EntryRules.{with_parameters, with_entries, entries_faults, transition_faults, transitions_faults, transition_for, meant_by}
 use Rattle.ioa_rules.specs.AutomatonRules.{with_formals, formals_faults, with_variables, weight_of, goes_over, variable_faults, variables_faults, tasks_faults, signature_at, states_at, transitions_at, tasks_at, inside, around, body_faults, formal_kinds, meaning_of}
 use Rattle.ioa_rules.specs.Meant.{AllMeant, AllSome, IsWholeEntry, IsWholeAutomaton}
 use Rattle.ioa_rules.proofs.NoFaults.{nil_left, nil_right}

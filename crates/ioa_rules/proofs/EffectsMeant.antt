@@ -1,11 +1,11 @@
 -- Statements without faults have an effect.
-use Rattle.std.proofs.Common.{◌≡◌, ℕ, ◌+◌, Bool, true, false, not, Option, Some, None, IsSome, nat_le, List, [], ◌∷◌, ◌++◌, refl, if◌then◌else◌}
+use Rattle.std.proofs.Common.{◌≡◌, ℕ, ◌+◌, true, false, not, Option, Some, None, IsSome, nat_le, [], ◌++◌, refl}
 use Rattle.terms.specs.TermTree.{TermTree}
 use Rattle.terms.specs.EffectTree.{EffectTree}
 use Rattle.ioa_trees.specs.Trees as tree
 use Rattle.ioa_trees.specs.Trees.{Bytes, PlainTerm, PlainInit, PlainDeclared, PlainStatement, PlainStatements, PlainBranches, no_statement, more_statements, no_branch, more_branches}
-use Rattle.ioa_rules.specs.Faults.{Fault, where_wrong}
-use Rattle.ioa_rules.specs.Kinds.{Kind, Truth, Whole, Range, Enum, SeqOf, ArrayOf, fits, is_truth, can_be_listed}
+use Rattle.ioa_rules.specs.Faults.{where_wrong}
+use Rattle.ioa_rules.specs.Kinds.{Kind, Truth, Whole, Range, Enum, SeqOf, ArrayOf, fits, is_truth}
 use Rattle.ioa_rules.specs.Scopes.{Scope, Meaning, OfType, OfMember, OfAutomaton, OfComposed, OfFormal, OfVariable, OfParameter, OfLoop, named, doubled, is_value, is_variable}
 use Rattle.ioa_rules.specs.Sizes.{type_size, size, at_size, statement_size, statements_size, branches_size}
 use Rattle.ioa_rules.specs.TermRules.{Judged, judge, faults, wants, unfit, value_meant, truth_of}

@@ -1,15 +1,15 @@
 -- Parameters without faults have slots; a transition without faults has a precondition and an effect.
-use Rattle.std.proofs.Common.{◌≡◌, ℕ, ◌+◌, Bool, true, false, not, ◌&&◌, ◌||◌, Option, Some, None, IsSome, List, [], ◌∷◌, ◌++◌, refl, sym, ap, ◌∙◌, subst, if◌then◌else◌}
+use Rattle.std.proofs.Common.{◌≡◌, ℕ, ◌+◌, Bool, true, false, not, ◌&&◌, ◌||◌, Option, Some, None, IsSome, List, [], ◌∷◌, ◌++◌, refl, sym, ◌∙◌, subst, if◌then◌else◌}
 use Rattle.std.specs.List.{list_any, All}
 use Rattle.std.proofs.lemmas.List.Elements.{All-nil, All-cons, All-head, All-tail}
 use Rattle.ioa_trees.specs.declared.tree.EntryKind.{EntryKind}
 use Rattle.ioa_trees.specs.Trees as tree
 use Rattle.ioa_trees.specs.Trees.{Bytes, PlainTerm, PlainParameter, PlainEntry, PlainTransition}
-use Rattle.ioa_rules.specs.Faults.{Fault, at_fault, where_wrong}
+use Rattle.ioa_rules.specs.Faults.{at_fault, where_wrong}
 use Rattle.ioa_rules.specs.Kinds.{Kind, is_truth}
 use Rattle.ioa_rules.specs.Scopes.{Scope, Meaning, OfType, OfMember, OfAutomaton, OfComposed, OfFormal, OfVariable, OfParameter, OfLoop, named, declare, doubled, is_formal}
 use Rattle.ioa_rules.specs.Sizes.{parameter_size, entry_size, pre_size, transition_size}
-use Rattle.ioa_rules.specs.TermRules.{Judged, judge, faults, wants, truth_of}
+use Rattle.ioa_rules.specs.TermRules.{judge, faults, wants}
 use Rattle.ioa_rules.specs.TypeRules.{kind_of, type_faults}
 use Rattle.ioa_rules.specs.EffectRules.{effects_of, statements_faults}
 use Rattle.ioa_rules.specs.EntryRules.{is_input, is_controlled, agrees, same_parameters, entry_for, with_parameters, sort_faults, parameters_faults, is_large, clashes, has_task, entry_faults, entries_faults, head_faults, pre_faults, transition_faults, transitions_faults, Slot, formal_of, free_of, slots, pre_of, meant_by, transition_for}

@@ -1,6 +1,6 @@
 -- Lists of faults that are empty.
-use Rattle.std.proofs.Common.{◌≡◌, ℕ, Bool, true, false, not, Option, Some, None, IsSome, List, [], ◌∷◌, ◌++◌, refl, if◌then◌else◌}
-use Rattle.ioa_rules.specs.Faults.{Fault, where_wrong}
+use Rattle.std.proofs.Common.{◌≡◌, ℕ, Bool, true, false, not, Some, None, IsSome, List, [], ◌∷◌, ◌++◌, refl, if◌then◌else◌}
+use Rattle.ioa_rules.specs.Faults.{where_wrong}
 
 pub nil_left : {X : Type 0} (xs ys : List X) → xs ++ ys ≡ [] → xs ≡ []
 nil_left [] ys h = refl

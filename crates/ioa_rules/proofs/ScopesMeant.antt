@@ -1,9 +1,9 @@
 -- Scopes with one more name.
-use Rattle.std.proofs.Common.{◌≡◌, ℕ, ◌+◌, Bool, true, false, not, Option, Some, None, IsSome, List, [], ◌∷◌, ◌⊎◌, inl, inr, refl, sym, ap, ap₂, ◌∙◌, subst, cond, bytes_eq, if◌then◌else◌}
+use Rattle.std.proofs.Common.{◌≡◌, ℕ, Bool, true, false, Option, Some, None, IsSome, [], ◌∷◌, ◌⊎◌, inl, inr, refl, sym, ap, ap₂, ◌∙◌, subst, cond, bytes_eq, if◌then◌else◌}
 use Rattle.ioa_trees.specs.Trees as tree
 use Rattle.ioa_trees.specs.Trees.{Bytes, PlainType}
 use Rattle.ioa_rules.specs.Kinds.{Kind}
-use Rattle.ioa_rules.specs.Scopes.{Scope, Meaning, OfType, OfMember, OfAutomaton, OfComposed, OfFormal, OfVariable, OfParameter, OfLoop, named, declare, is_type, is_value, kind_meant}
+use Rattle.ioa_rules.specs.Scopes.{Scope, Meaning, OfType, OfMember, OfAutomaton, OfFormal, OfVariable, OfParameter, OfLoop, named, declare, is_type, is_value, kind_meant}
 use Rattle.ioa_rules.specs.TermRules.{value_meant}
 use Rattle.ioa_rules.specs.TypeRules.{kind_of, seq_of, array_of}
 use Rattle.ioa_rules.specs.EntryRules.{formal_of}

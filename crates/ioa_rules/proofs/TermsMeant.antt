@@ -1,5 +1,5 @@
 -- A term has a meaning exactly where it has no fault.
-use Rattle.std.proofs.Common.{◌≡◌, ℕ, ◌+◌, pos, Bool, true, false, not, ◌&&◌, Option, Some, None, IsSome, nat_eq, List, [], ◌∷◌, ◌++◌, refl, if◌then◌else◌}
+use Rattle.std.proofs.Common.{◌≡◌, ℕ, ◌+◌, pos, true, not, Option, Some, None, IsSome, nat_eq, [], ◌++◌, refl}
 use Rattle.terms.specs.TermTree as core
 use Rattle.terms.specs.TermTree.{TermTree}
 use Rattle.terms.specs.declared.term.Operator.{Operator}
@@ -9,11 +9,11 @@ use Rattle.ioa_trees.specs.declared.tree.Call.TheVariants as call
 use Rattle.ioa_trees.specs.declared.tree.Relation.{Relation}
 use Rattle.ioa_trees.specs.Trees as tree
 use Rattle.ioa_trees.specs.Trees.{PlainTerm, PlainTerms, PlainFactors, PlainAddends, no_term, more_terms, no_factor, more_factors, no_addend, more_addends}
-use Rattle.ioa_rules.specs.Faults.{Fault, where_wrong}
-use Rattle.ioa_rules.specs.Kinds.{Kind, Truth, Whole, Range, Enum, SeqOf, ArrayOf, is_whole, is_truth, is_seq, is_array, fits, listed_of}
+use Rattle.ioa_rules.specs.Faults.{where_wrong}
+use Rattle.ioa_rules.specs.Kinds.{Kind, Truth, Whole, Range, Enum, SeqOf, ArrayOf, is_whole, is_truth, is_seq, fits, listed_of}
 use Rattle.ioa_rules.specs.Scopes.{Scope, Meaning, OfType, OfMember, OfAutomaton, OfComposed, OfFormal, OfVariable, OfParameter, OfLoop, named, is_value}
 use Rattle.ioa_rules.specs.Sizes.{size}
-use Rattle.ioa_rules.specs.TermRules.{Judged, judge, judged, of_kind, value_meant, whole_of, truth_of, of_core, on_core, joined, placed, called_on, call_of, appended_to, append_of, element, element_of, operator_of, compares, compared, compare_of, modulo_of, indexed, multiplied, added, combined, wants, unfit, append_faults, index_faults, compare_faults, faults, indexes_faults, factors_faults, addends_faults, truths_faults}
+use Rattle.ioa_rules.specs.TermRules.{Judged, judge, judged, value_meant, whole_of, truth_of, of_core, on_core, joined, placed, called_on, call_of, appended_to, append_of, element, element_of, operator_of, compares, compared, compare_of, modulo_of, indexed, multiplied, added, combined, wants, append_faults, index_faults, compare_faults, faults, indexes_faults, factors_faults, addends_faults, truths_faults}
 use Rattle.ioa_rules.specs.Meant.{AllMeant}
 use Rattle.ioa_rules.proofs.NoFaults.{nil_left, nil_right, nil_both, right_if, not_wrong, where_right, where_not_wrong, passed, passed_not}
 

@@ -1,8 +1,8 @@
 -- A type without faults has a kind.
-use Rattle.std.proofs.Common.{◌≡◌, ℕ, ◌+◌, Bool, true, false, not, ◌||◌, Option, Some, None, IsSome, nat_eq, nat_lt, int_lt, List, [], ◌∷◌, ◌++◌, refl}
+use Rattle.std.proofs.Common.{◌≡◌, ℕ, ◌+◌, true, not, Option, Some, None, IsSome, int_lt, [], ◌++◌, refl}
 use Rattle.ioa_trees.specs.Trees as tree
 use Rattle.ioa_trees.specs.Trees.{PlainType}
-use Rattle.ioa_rules.specs.Faults.{Fault, where_wrong}
+use Rattle.ioa_rules.specs.Faults.{where_wrong}
 use Rattle.ioa_rules.specs.Kinds.{Kind, Truth, Whole, Range, Enum, SeqOf, ArrayOf, number, can_be_listed}
 use Rattle.ioa_rules.specs.Scopes.{Scope, named, is_type, kind_meant}
 use Rattle.ioa_rules.specs.Sizes.{type_size}

@@ -1,13 +1,13 @@
 -- A value without faults that fits its place has a meaning there.
-use Rattle.std.proofs.Common.{◌≡◌, ℕ, ◌+◌, Bool, true, false, not, Option, Some, None, IsSome, List, [], ◌∷◌, ◌++◌, refl, if◌then◌else◌}
+use Rattle.std.proofs.Common.{◌≡◌, ℕ, ◌+◌, true, false, Option, Some, None, IsSome, List, [], ◌∷◌, refl}
 use Rattle.terms.specs.TermTree as core
 use Rattle.terms.specs.TermTree.{TermTree}
 use Rattle.ioa_trees.specs.Trees as tree
 use Rattle.ioa_trees.specs.Trees.{PlainInit}
-use Rattle.ioa_rules.specs.Faults.{Fault, where_wrong}
+use Rattle.ioa_rules.specs.Faults.{Fault}
 use Rattle.ioa_rules.specs.Kinds.{Kind, Truth, Whole, Range, Enum, SeqOf, ArrayOf, count, fits}
 use Rattle.ioa_rules.specs.Scopes.{Scope}
-use Rattle.ioa_rules.specs.TermRules.{Judged, judge, faults, unfit, on_core}
+use Rattle.ioa_rules.specs.TermRules.{Judged, judge, unfit}
 use Rattle.ioa_rules.specs.ValueRules.{value_in, put, put_in, inner_faults, misfits, is_misfit}
 use Rattle.ioa_rules.specs.Meant.{AllMeant}
 use Rattle.ioa_rules.proofs.NoFaults.{right_if}
