@@ -7,3 +7,13 @@ pub mod CountsAutomata
 pub mod Placed
 pub mod Inside
 pub mod Held
+pub mod NoFaults
+pub mod TypesMeant
+pub mod TermsMeant
+pub mod ValuesMeant
+pub mod ScopesMeant
+pub mod EffectsMeant
+pub mod SameHeads
+pub mod EntriesMeant
+pub mod AutomataMeant
+pub mod SourcesMeant

@@ -10,3 +10,4 @@ pub mod EntryRules
 pub mod AutomatonRules
 pub mod SourceRules
 pub mod Places
+pub mod Meant
