@@ -90,15 +90,15 @@ automaton_if s m at a h =
     let started = variables_if i mi (with_entries i a.entries) 0 (states_at at a + 1) a.variables (nil_left fd (fe ++ ff) hd) in
     let scopes : All (Scoped i) a.entries = All-weaker (EntryMeant i a.transitions) (Scoped i) (λ e x. x.scoped) a.entries entries in
     let each : (before : List PlainTransition) (place : ℕ) (t : PlainTransition) → transition_faults (around s a t) a.entries before place t ≡ [] → IsDone (around s a) t =
-        λ before place t e.
-          let here = meant_with_head i a.entries (place + 1) t.entry scopes (head_if (around s a t) a.entries before place t e) in
-          transition_if (around s a t) (meant_with_variables i (with_parameters i 0 t.entry.parameters) here 0 a.variables started) a.entries before place t e in
+    λ before place t e.
+    let here = meant_with_head i a.entries (place + 1) t.entry scopes (head_if (around s a t) a.entries before place t e) in
+    transition_if (around s a t) (meant_with_variables i (with_parameters i 0 t.entry.parameters) here 0 a.variables started) a.entries before place t e in
     let done = transitions_if (around s a) a.entries each [] (transitions_at at a + 1) a.transitions (nil_left fe ff he) in
     let meant : All (λ e. IsWholeEntry (meant_by (around s a) i e (transition_for e a.transitions))) a.entries =
-        All-weaker (EntryMeant i a.transitions) (λ e. IsWholeEntry (meant_by (around s a) i e (transition_for e a.transitions))) (λ e x. chosen (around s a) i e x.slotted a.transitions x.offered done) a.entries entries in
+    All-weaker (EntryMeant i a.transitions) (λ e. IsWholeEntry (meant_by (around s a) i e (transition_for e a.transitions))) (λ e x. chosen (around s a) i e x.slotted a.transitions x.offered done) a.entries entries in
     record {
       formals = formals.1;
       entries = mapped IsWholeEntry (λ e. meant_by (around s a) i e (transition_for e a.transitions)) a.entries meant;
       variables = mapped (λ (o : Option Kind). IsSome o) (λ v. kind_of i v.declared.of) a.variables (All-weaker (IsStarted i) (λ v. IsSome (kind_of i v.declared.of)) (λ v x. x.0) a.variables started);
-      start = mapped (λ (o : Option TermTree). IsSome o) (λ v. put_in i (kind_of i v.declared.of) v.start) a.variables (All-weaker (IsStarted i) (λ v. IsSome (put_in i (kind_of i v.declared.of) v.start)) (λ v x. x.1) a.variables started)
+      start = mapped (λ (o : Option TermTree). IsSome o) (λ v. put_in i (kind_of i v.declared.of) v.start) a.variables (All-weaker (IsStarted i) (λ v. IsSome (put_in i (kind_of i v.declared.of) v.start)) (λ v x. x.1) a.variables started);
     }

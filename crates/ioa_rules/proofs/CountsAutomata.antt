@@ -73,13 +73,17 @@ formals_counts (d ∷ ds) = omega (arith, closed_counts formal_part w.Comma form
 
 body_counts : (a : PlainAutomaton) → counts (pack (body_nodes a))
     ≡ row_size entry_size a.entries + after_word (listed_size variable_size a.variables) a.variables
-      + 1 + row_size transition_size a.transitions + after_word (row_size task_size a.tasks) a.tasks
-body_counts a = omega (arith,
-    counts_append (map entry_node a.entries) (states_node a.variables ++ (key w.Transitions ∷ (map transition_node a.transitions ++ tasks_node a.tasks))),
-    counts_append (states_node a.variables) (key w.Transitions ∷ (map transition_node a.transitions ++ tasks_node a.tasks)),
-    counts_append (map transition_node a.transitions) (tasks_node a.tasks),
-    row_counts entry_node entry_size entry_counts a.entries, states_counts a.variables,
-    row_counts transition_node transition_size transition_counts a.transitions, tasks_counts a.tasks)
+    + 1 + row_size transition_size a.transitions + after_word (row_size task_size a.tasks) a.tasks
+body_counts a = omega (
+  arith,
+  counts_append (map entry_node a.entries) (states_node a.variables ++ (key w.Transitions ∷ (map transition_node a.transitions ++ tasks_node a.tasks))),
+  counts_append (states_node a.variables) (key w.Transitions ∷ (map transition_node a.transitions ++ tasks_node a.tasks)),
+  counts_append (map transition_node a.transitions) (tasks_node a.tasks),
+  row_counts entry_node entry_size entry_counts a.entries,
+  states_counts a.variables,
+  row_counts transition_node transition_size transition_counts a.transitions,
+  tasks_counts a.tasks,
+)
 
 -- `automaton` and the name stand before it
 pub basic_counts : (a : PlainAutomaton) → count (basic_node a) + 2 ≡ automaton_size a

@@ -89,7 +89,7 @@ entry_if s m before ts tasks at e h =
     record {
       slotted = slots_if s m (is_controlled e.kind) (at + 3) e.parameters i;
       scoped = meant_with_parameters s m (is_controlled e.kind) (at + 3) 0 e.parameters i;
-      offered = right_if o at 13 (nil_left d f w)
+      offered = right_if o at 13 (nil_left d f w);
     }
 
 pub entries_if : (s : Scope) → AllMeant s → (before : List PlainEntry) (ts : List PlainTransition) (tasks : List (List Bytes)) (at : ℕ) (es : List PlainEntry) → entries_faults s before ts tasks at es ≡ [] → All (EntryMeant s ts) es

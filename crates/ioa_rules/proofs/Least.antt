@@ -44,8 +44,9 @@ from (Some g) x f e = from_by (is_before x g) x g f e
 one_of : (o : Option Fault) (xs : List Fault) (f : Fault) → keep o xs ≡ Some f → (o ≡ Some f) ⊎ IsIn f xs
 one_of o [] f e = inl e
 one_of o (x ∷ xs) f e = elim (one_of (note x o) xs f e) as (λ w. (o ≡ Some f) ⊎ ((f ≡ x) ⊎ IsIn f xs)) [
-    inl h ↦ elim (from o x f h) as (λ w. (o ≡ Some f) ⊎ ((f ≡ x) ⊎ IsIn f xs)) [ inl i ↦ inr (inl i) | inr i ↦ inl i ]
-  | inr h ↦ inr (inr h) ]
+  | inl h ↦ elim (from o x f h) as (λ w. (o ≡ Some f) ⊎ ((f ≡ x) ⊎ IsIn f xs)) [ inl i ↦ inr (inl i) | inr i ↦ inl i ]
+  | inr h ↦ inr (inr h)
+]
 
 never_none : (xs : List Fault) (g : Fault) → keep (Some g) xs ≡ None → ⊥
 never_none [] g e = cc
@@ -55,7 +56,7 @@ never_none (x ∷ xs) g e = elim (is_before x g) as (λ b. keep (if b then Some 
 pub kept_least : (xs : List Fault) (f : Fault) → keep None xs ≡ Some f → IsLeast f xs
 kept_least xs f e = record {
   is_one = elim (one_of None xs f e) as (λ w. IsIn f xs) [ inl h ↦ absurd (cc) | inr h ↦ h ];
-  least = all_below None xs f e
+  least = all_below None xs f e;
 }
 
 -- nothing was kept of no fault alone

@@ -61,8 +61,8 @@ further_tokens : (rest : List PlainAutomaton) (s : Bytes) → last (next_name re
 further_tokens [] s = refl
 further_tokens (a ∷ rest) s =
     ap (λ z. Key w.Automaton ∷ (Name a.name ∷ z))
-      (append_assoc (yield (basic_node a)) (last (next_name rest s)) (yields (further_nodes rest s))
-        ∙ ap (λ z. yield (basic_node a) ++ z) (further_tokens rest s))
+    (append_assoc (yield (basic_node a)) (last (next_name rest s)) (yields (further_nodes rest s))
+    ∙ ap (λ z. yield (basic_node a) ++ z) (further_tokens rest s))
     ∙ sym (append_assoc (one a) (some rest) (last s))
 
 automata_tokens : (as' : List PlainAutomaton) (s : Bytes) → 0 < length as' → yields (automata_nodes as' s) ≡ some as' ++ last s
@@ -78,15 +78,15 @@ source_tokens : (x : PlainSource) → spell x ≡ typed x.types ++ (yields (auto
 source_tokens x =
     let rest : List Node = automata_nodes x.automata x.composed.name ++ (key w.Components ∷ components_nodes x.composed.components) in
     yields_pack (map type_definition_node x.types ++ rest)
-      ∙ (yields_append (map type_definition_node x.types) rest
-      ∙ ap (λ z. typed x.types ++ z) (yields_append (automata_nodes x.automata x.composed.name) (key w.Components ∷ components_nodes x.composed.components)))
+    ∙ (yields_append (map type_definition_node x.types) rest
+    ∙ ap (λ z. typed x.types ++ z) (yields_append (automata_nodes x.automata x.composed.name) (key w.Components ∷ components_nodes x.composed.components)))
 
 -- the same where there is an automaton
 whole_tokens : (x : PlainSource) → 0 < length x.automata → spell x ≡ typed x.types ++ (some x.automata ++ (last x.composed.name ++ ending x))
 whole_tokens x h =
     source_tokens x
-      ∙ ap (λ z. typed x.types ++ z)
-          (ap (λ z. z ++ ending x) (automata_tokens x.automata x.composed.name h) ∙ append_assoc (some x.automata) (last x.composed.name) (ending x))
+    ∙ ap (λ z. typed x.types ++ z)
+    (ap (λ z. z ++ ending x) (automata_tokens x.automata x.composed.name h) ∙ append_assoc (some x.automata) (last x.composed.name) (ending x))
 
 abbrev front : PlainSource → List Tok
 front x = typed x.types ++ some x.automata
@@ -112,9 +112,9 @@ pub definition_placed : (x : PlainSource) (before after : List PlainTypeDefiniti
 definition_placed x before after d e =
     let rest : List Tok = yields (automata_nodes x.automata x.composed.name) ++ ending x in
     placed (spell x) (typed before) (yield (type_definition_node d)) (typed after ++ rest) (definitions_size before) (definition_size d)
-      (source_tokens x ∙ (ap (λ z. typed z ++ rest) e
-        ∙ (ap (λ z. z ++ rest) (typed_append before (d ∷ after)) ∙ middle (typed before) (yield (type_definition_node d)) (typed after) rest)))
-      (typed_long before) (counted (type_definition_node d) ∙ definition_counts d)
+    (source_tokens x ∙ (ap (λ z. typed z ++ rest) e
+    ∙ (ap (λ z. z ++ rest) (typed_append before (d ∷ after)) ∙ middle (typed before) (yield (type_definition_node d)) (typed after) rest)))
+    (typed_long before) (counted (type_definition_node d) ∙ definition_counts d)
 
 pub automaton_placed : (x : PlainSource) (before after : List PlainAutomaton) (a : PlainAutomaton) → x.automata ≡ before ++ a ∷ after
     → take (automaton_size a) (drop (definitions_size x.types + automata_size before) (spell x)) ≡ Key w.Automaton ∷ (Name a.name ∷ yield (basic_node a))
@@ -122,11 +122,11 @@ automaton_placed x before after a e =
     let rest : List Tok = last x.composed.name ++ ending x in
     let many : 0 < length x.automata = omega (arith, ap length e, length-append before (a ∷ after)) in
     placed (spell x) (typed x.types ++ some before) (one a) (some after ++ rest) (definitions_size x.types + automata_size before) (automaton_size a)
-      (whole_tokens x many ∙ (ap (λ z. typed x.types ++ (some z ++ rest)) e
-        ∙ (ap (λ z. typed x.types ++ (z ++ rest)) (some_append before (a ∷ after))
-        ∙ (ap (λ z. typed x.types ++ z) (middle (some before) (one a) (some after) rest)
-        ∙ sym (append_assoc (typed x.types) (some before) (one a ++ (some after ++ rest)))))))
-      (omega (arith, length-append (typed x.types) (some before), typed_long x.types, some_long before)) (one_long a)
+    (whole_tokens x many ∙ (ap (λ z. typed x.types ++ (some z ++ rest)) e
+    ∙ (ap (λ z. typed x.types ++ (z ++ rest)) (some_append before (a ∷ after))
+    ∙ (ap (λ z. typed x.types ++ z) (middle (some before) (one a) (some after) rest)
+    ∙ sym (append_assoc (typed x.types) (some before) (one a ++ (some after ++ rest)))))))
+    (omega (arith, length-append (typed x.types) (some before), typed_long x.types, some_long before)) (one_long a)
 
 list_counted : (ns : List Node) → length (yields ns) ≡ counts (pack ns)
 list_counted ns = ap length (sym (yields_pack ns)) ∙ all_counted (pack ns)
@@ -147,12 +147,12 @@ leading_tokens s v f [] after x rest = refl
 leading_tokens s v f (b ∷ bs) after x rest =
     let more : List Node = parts s v f after ++ rest in
     ap (λ z. yield (f b) ++ z)
-      (ap (λ z. yields (z ++ rest)) (map-append (λ x. branch s (key v ∷ (f x ∷ []))) bs (x ∷ after))
-        ∙ (ap yields (append_assoc (parts s v f bs) (parts s v f (x ∷ after)) rest)
-        ∙ (yields_append (parts s v f bs) (branch s (key v ∷ (f x ∷ [])) ∷ more)
-        ∙ (ap (λ z. yields (parts s v f bs) ++ (Key v ∷ (z ++ yields more))) (append-nil (yield (f x)))
-        ∙ (sym (yields_append (parts s v f bs) (key v ∷ (f x ∷ more)))
-        ∙ ap yields (sym (append_assoc (parts s v f bs) (key v ∷ []) (f x ∷ more))))))))
+    (ap (λ z. yields (z ++ rest)) (map-append (λ x. branch s (key v ∷ (f x ∷ []))) bs (x ∷ after))
+    ∙ (ap yields (append_assoc (parts s v f bs) (parts s v f (x ∷ after)) rest)
+    ∙ (yields_append (parts s v f bs) (branch s (key v ∷ (f x ∷ [])) ∷ more)
+    ∙ (ap (λ z. yields (parts s v f bs) ++ (Key v ∷ (z ++ yields more))) (append-nil (yield (f x)))
+    ∙ (sym (yields_append (parts s v f bs) (key v ∷ (f x ∷ more)))
+    ∙ ap yields (sym (append_assoc (parts s v f bs) (key v ∷ []) (f x ∷ more))))))))
 
 components_separated : (cs : List PlainComponent) → components_nodes cs ≡ separated component_part w.Semicolon component_node cs
 components_separated [] = refl
@@ -163,9 +163,9 @@ pub advance : (ts : List Tok) (n m k : ℕ) (pre post : List Node)
     → drop n ts ≡ yields (pre ++ post) → counts (pack pre) ≡ m → n + m ≡ k → drop k ts ≡ yields post
 advance ts n m k pre post e f g =
     ap (λ z. drop z ts) (sym g)
-      ∙ (sym (drop-drop m n ts)
-      ∙ (ap (drop m) (e ∙ yields_append pre post)
-      ∙ drop_at (yields pre) (yields post) m (list_counted pre ∙ f)))
+    ∙ (sym (drop-drop m n ts)
+    ∙ (ap (drop m) (e ∙ yields_append pre post)
+    ∙ drop_at (yields pre) (yields post) m (list_counted pre ∙ f)))
 
 -- the first node of what is left
 pub taken : (ts : List Tok) (k m : ℕ) (n : Node) (ns : List Node) → drop k ts ≡ yields (n ∷ ns) → count n ≡ m → take m (drop k ts) ≡ yield n
@@ -179,14 +179,14 @@ component_placed x before after c h e =
     let rest : List Node = component_node c ∷ (parts component_part w.Semicolon component_node after ++ []) in
     let start : List Node = key w.Automaton ∷ (named x.composed.name ∷ (key w.Components ∷ [])) in
     taken (spell x) (composed_at x + 3 + behind component_size before) (component_size c) (component_node c) (parts component_part w.Semicolon component_node after ++ [])
-      (advance (spell x) (composed_at x + 3) (behind component_size before) (composed_at x + 3 + behind component_size before) signed rest
-        (advance (spell x) (composed_at x) 3 (composed_at x + 3) start (components_nodes x.composed.components) (composed_placed x h) refl refl
-          ∙ (ap yields (components_separated x.composed.components)
-          ∙ (ap (λ z. yields (separated component_part w.Semicolon component_node z)) e
-          ∙ (ap yields (sym (append-nil (separated component_part w.Semicolon component_node (before ++ c ∷ after))))
-          ∙ leading_tokens component_part w.Semicolon component_node before after c []))))
-        (leading_counts component_part w.Semicolon component_node component_size component_counts before) refl)
-      (component_counts c)
+    (advance (spell x) (composed_at x + 3) (behind component_size before) (composed_at x + 3 + behind component_size before) signed rest
+    (advance (spell x) (composed_at x) 3 (composed_at x + 3) start (components_nodes x.composed.components) (composed_placed x h) refl refl
+    ∙ (ap yields (components_separated x.composed.components)
+    ∙ (ap (λ z. yields (separated component_part w.Semicolon component_node z)) e
+    ∙ (ap yields (sym (append-nil (separated component_part w.Semicolon component_node (before ++ c ∷ after))))
+    ∙ leading_tokens component_part w.Semicolon component_node before after c []))))
+    (leading_counts component_part w.Semicolon component_node component_size component_counts before) refl)
+    (component_counts c)
 
 components_long : (cs : List PlainComponent) → counts (pack (components_nodes cs)) ≡ listed_size component_size cs
 components_long [] = refl
@@ -195,5 +195,11 @@ components_long (c ∷ cs) = omega (arith, component_counts c, parts_counts comp
 pub all_long : (x : PlainSource) → 0 < length x.automata → length (spell x) ≡ composed_at x + 3 + listed_size component_size x.composed.components
 all_long x h =
     let split = split_tokens x h in
-    omega (arith, ap length split, length-append (front x) (last x.composed.name ++ ending x), front_long x,
-      list_counted (components_nodes x.composed.components), components_long x.composed.components)
+    omega (
+      arith,
+      ap length split,
+      length-append (front x) (last x.composed.name ++ ending x),
+      front_long x,
+      list_counted (components_nodes x.composed.components),
+      components_long x.composed.components,
+    )

@@ -6,30 +6,40 @@ use Rattle.ioa_trees.specs.declared.tree.Relation.TheVariants as relation
 use Rattle.ioa_trees.specs.declared.tree.Sign.TheVariants as sign
 use Rattle.ioa_trees.specs.declared.tree.EntryKind.{EntryKind}
 use Rattle.ioa_trees.specs.declared.tree.EntryKind.TheVariants as kind
-use Rattle.ioa_trees.specs.Trees.{Bytes, PlainType, Bools, Ints, Range, Named, SeqOf, ArrayOf, PlainTerm, Number, True, False, Variable, Group, Called, Append, Index, Minus, Product, Sum, Compare, Not, And, Or, PlainTerms, no_term, more_terms, PlainFactor, Times, Modulo, PlainFactors, no_factor, more_factors, PlainAddends, no_addend, more_addends, PlainInit, Empty, Fill, Value, PlainDeclared, PlainStatement, Assign, If, For, PlainStatements, no_statement, more_statements, PlainBranches, no_branch, more_branches, PlainParameter, Constant, Typed, PlainEntry, PlainVariable, PlainTransition, PlainAutomaton, PlainComponent, PlainComposed, PlainTypeBody, Same, Enumeration, PlainTypeDefinition, PlainSource}
+use Rattle.ioa_trees.specs.Trees.{Bytes, PlainType, Bools, Ints, Range, Named, SeqOf, ArrayOf, PlainTerm, Number, True, False, Variable, Group, Called, Append, Minus, Product, Sum, Compare, Not, And, Or, no_term, more_terms, Times, Modulo, no_factor, more_factors, no_addend, more_addends, PlainInit, Empty, Fill, Value, PlainDeclared, Assign, If, For, PlainStatements, no_statement, more_statements, no_branch, more_branches, PlainParameter, Constant, Typed, PlainEntry, PlainVariable, PlainTransition, PlainAutomaton, PlainComponent, PlainTypeBody, Same, Enumeration, PlainTypeDefinition, PlainSource}
 use Rattle.ioa_rules.specs.Faults.{Fault, keep}
 use Rattle.ioa_rules.specs.SourceRules.{source_faults}
 
 abbrev signed : Bool → ℕ → Signed
 signed b n = record { is_negative = b; size = n }
+
 abbrev declared : Bytes → PlainType → PlainDeclared
 declared q t = record { name = q; of = t }
+
 abbrev entry : EntryKind → Bytes → List PlainParameter → PlainEntry
 entry k q ps = record { kind = k; name = q; parameters = ps }
+
 abbrev variable : PlainDeclared → PlainInit → PlainVariable
 variable d v = record { declared = d; start = v }
+
 abbrev transition : PlainEntry → Option PlainTerm → PlainStatements → PlainTransition
 transition e p f = record { entry = e; pre = p; eff = f }
+
 abbrev automaton : Bytes → List PlainDeclared → List PlainEntry → List PlainVariable → List PlainTransition → List (List Bytes) → PlainAutomaton
 automaton q fs es vs ts ks = record { name = q; formals = fs; entries = es; variables = vs; transitions = ts; tasks = ks }
+
 abbrev component : Bytes → Bytes → List PlainTerm → PlainComponent
 component q a ts = record { name = q; automaton = a; arguments = ts }
+
 abbrev definition : Bytes → PlainTypeBody → PlainTypeDefinition
 definition q b = record { name = q; body = b }
+
 abbrev source : List PlainTypeDefinition → List PlainAutomaton → Bytes → List PlainComponent → PlainSource
 source ds as' q cs = record { types = ds; automata = as'; composed = record { name = q; components = cs } }
+
 abbrev least : PlainSource → Option Fault
 least x = keep None (source_faults x)
+
 abbrev fault : ℕ → ℕ → Option Fault
 fault number place = Some (record { place = place; number = number })
 

@@ -41,7 +41,7 @@ values_by x y m (inr e) f g = subst (λ z. is_value z ≡ true → IsSome (value
 pub meant_with : (q : Bytes) (m : Meaning) (s : Scope) → AllMeant s → (is_type (Some m) ≡ true → IsSome (kind_meant (Some m))) → (is_value (Some m) ≡ true → IsSome (value_meant (Some m))) → AllMeant (declare q m s)
 meant_with q m s h f g = record {
   types = λ p. types_by (named p s) (named p (declare q m s)) m (grown p q m s) (h.types p) f;
-  values = λ p. values_by (named p s) (named p (declare q m s)) m (grown p q m s) (h.values p) g
+  values = λ p. values_by (named p s) (named p (declare q m s)) m (grown p q m s) (h.values p) g;
 }
 
 pub with_type : (q : Bytes) (k : Option Kind) (s : Scope) → AllMeant s → IsSome k → AllMeant (declare q (OfType k) s)

@@ -122,5 +122,5 @@ source_if x h =
     let automata = automata_if (types_scope x) types [] 0 (definitions_size x.types) x.automata (nil_left b (c ++ d) u) in
     record {
       automata = automata.1;
-      components = components_if (whole_scope x) automata.0 (table_of x) automata.1 [] (composed_at x + 3) x.composed.components (nil_right c d v)
+      components = components_if (whole_scope x) automata.0 (table_of x) automata.1 [] (composed_at x + 3) x.composed.components (nil_right c d v);
     }

@@ -1,12 +1,12 @@
 -- Automata that aren't composed: what they mean, and their faults.
-use Rattle.std.specs.Prelude.{ℕ, ◌+◌, Bool, true, false, not, ◌&&◌, ◌||◌, Option, Some, None, nat_le, nat_lt, bytes_eq, if◌then◌else◌, List, [], ◌∷◌, ◌++◌, length, map}
+use Rattle.std.specs.Prelude.{ℕ, ◌+◌, Bool, not, ◌&&◌, ◌||◌, Option, Some, None, nat_le, nat_lt, bytes_eq, if◌then◌else◌, List, [], ◌∷◌, ◌++◌, length, map}
 use Rattle.std.specs.List.{list_any}
 use Rattle.terms.specs.TermTree.{TermTree}
 use Rattle.ioa_trees.specs.Trees as tree
 use Rattle.ioa_trees.specs.Trees.{Bytes, PlainDeclared, PlainParameter, PlainEntry, PlainVariable, PlainTransition, PlainStatement, PlainStatements, PlainBranches, no_statement, more_statements, no_branch, more_branches, PlainAutomaton}
 use Rattle.ioa_rules.specs.Faults.{Fault, where_wrong}
 use Rattle.ioa_rules.specs.Kinds.{Kind, weight, most_weight}
-use Rattle.ioa_rules.specs.Scopes.{Scope, OfFormal, OfVariable, named, declare, doubled}
+use Rattle.ioa_rules.specs.Scopes.{Scope, OfFormal, OfVariable, declare, doubled}
 use Rattle.ioa_rules.specs.Sizes.{declared_size, type_size, variable_size, bracketed_size, row_size, listed_size, after_word, entry_size, transition_size, task_size}
 use Rattle.ioa_rules.specs.TypeRules.{kind_of, type_faults, unscalar}
 use Rattle.ioa_rules.specs.ValueRules.{put_in, inner_faults, misfits}
@@ -22,9 +22,9 @@ abbrev pub formals_faults : Scope → ℕ → ℕ → List PlainDeclared → Lis
 formals_faults s n at [] = []
 formals_faults s n at (d ∷ ds) =
     doubled s at d.name
-      ++ (type_faults s (at + 2) d.of
-      ++ (unscalar (at + 2) (kind_of s d.of)
-      ++ formals_faults (declare d.name (OfFormal n (kind_of s d.of)) s) (n + 1) (at + declared_size d + 1) ds))
+    ++ (type_faults s (at + 2) d.of
+    ++ (unscalar (at + 2) (kind_of s d.of)
+    ++ formals_faults (declare d.name (OfFormal n (kind_of s d.of)) s) (n + 1) (at + declared_size d + 1) ds))
 
 -- ---- state variables
 
@@ -43,17 +43,17 @@ goes_over before k = nat_le before most_weight && nat_lt most_weight (before + w
 abbrev pub variable_faults : Scope → Scope → ℕ → ℕ → PlainVariable → List Fault
 variable_faults seen s before at v =
     doubled s at v.declared.name
-      ++ (type_faults seen (at + 2) v.declared.of
-      ++ (where_wrong (goes_over before (kind_of seen v.declared.of)) (at + 2) 17
-      ++ (inner_faults seen (at + type_size v.declared.of + 3) v.start
-      ++ misfits seen (kind_of seen v.declared.of) (at + type_size v.declared.of + 3) v.start)))
+    ++ (type_faults seen (at + 2) v.declared.of
+    ++ (where_wrong (goes_over before (kind_of seen v.declared.of)) (at + 2) 17
+    ++ (inner_faults seen (at + type_size v.declared.of + 3) v.start
+    ++ misfits seen (kind_of seen v.declared.of) (at + type_size v.declared.of + 3) v.start)))
 
 -- types and start values see what is seen before the signature; a name is doubled against the parameters of all entries too
 abbrev pub variables_faults : Scope → Scope → ℕ → ℕ → List PlainVariable → List Fault
 variables_faults seen s before at [] = []
 variables_faults seen s before at (v ∷ vs) =
     variable_faults seen s before at v
-      ++ variables_faults seen (declare v.declared.name (OfVariable 0 (kind_of seen v.declared.of)) s) (before + weight_of (kind_of seen v.declared.of)) (at + variable_size v + 1) vs
+    ++ variables_faults seen (declare v.declared.name (OfVariable 0 (kind_of seen v.declared.of)) s) (before + weight_of (kind_of seen v.declared.of)) (at + variable_size v + 1) vs
 
 -- ---- tasks
 
@@ -98,11 +98,11 @@ around s a t = with_variables (inside s a) (with_parameters (inside s a) 0 t.ent
 abbrev pub body_faults : Scope → ℕ → PlainAutomaton → List Fault
 body_faults s at a =
     where_wrong (nat_lt 16 (length a.formals)) (at + 1) 17
-      ++ (formals_faults s 0 (at + 3) a.formals
-      ++ (entries_faults (inside s a) [] a.transitions a.tasks (signature_at at a + 1) a.entries
-      ++ (variables_faults (inside s a) (with_entries (inside s a) a.entries) 0 (states_at at a + 1) a.variables
-      ++ (transitions_faults (around s a) a.entries [] (transitions_at at a + 1) a.transitions
-      ++ tasks_faults a.entries [] (tasks_at at a + 1) a.tasks))))
+    ++ (formals_faults s 0 (at + 3) a.formals
+    ++ (entries_faults (inside s a) [] a.transitions a.tasks (signature_at at a + 1) a.entries
+    ++ (variables_faults (inside s a) (with_entries (inside s a) a.entries) 0 (states_at at a + 1) a.variables
+    ++ (transitions_faults (around s a) a.entries [] (transitions_at at a + 1) a.transitions
+    ++ tasks_faults a.entries [] (tasks_at at a + 1) a.tasks))))
 
 -- ---- the names that it declares
 
@@ -132,9 +132,9 @@ all_of f (x ∷ xs) = f x ++ all_of f xs
 abbrev pub locals : PlainAutomaton → List Bytes
 locals a =
     map (λ d. d.name) a.formals
-      ++ (all_of (λ e. typed_names e.parameters) a.entries
-      ++ (map (λ v. v.declared.name) a.variables
-      ++ all_of (λ t. all_loops t.eff) a.transitions))
+    ++ (all_of (λ e. typed_names e.parameters) a.entries
+    ++ (map (λ v. v.declared.name) a.variables
+    ++ all_of (λ t. all_loops t.eff) a.transitions))
 
 -- ---- what it means
 

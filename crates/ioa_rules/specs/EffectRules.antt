@@ -1,15 +1,14 @@
 -- Statements: what they do, and their faults.
-use Rattle.std.specs.Prelude.{ℕ, ◌+◌, Bool, true, false, not, ◌&&◌, Option, Some, None, nat_le, if◌then◌else◌, List, [], ◌++◌}
+use Rattle.std.specs.Prelude.{ℕ, ◌+◌, not, Option, Some, None, nat_le, if◌then◌else◌, List, [], ◌++◌}
 use Rattle.terms.specs.TermTree.{TermTree}
 use Rattle.terms.specs.EffectTree as effect
 use Rattle.terms.specs.EffectTree.{EffectTree}
-use Rattle.terms.specs.declared.scalar.Listed.{Listed}
 use Rattle.ioa_trees.specs.Trees as tree
 use Rattle.ioa_trees.specs.Trees.{Bytes, PlainTerm, PlainInit, PlainStatement, PlainStatements, PlainBranches, no_statement, more_statements, no_branch, more_branches}
 use Rattle.ioa_rules.specs.Faults.{Fault, where_wrong}
 use Rattle.ioa_rules.specs.Kinds.{Kind, ArrayOf, fits, is_truth, is_array, listed_of, can_be_listed}
 use Rattle.ioa_rules.specs.Scopes.{Scope, Meaning, OfVariable, OfLoop, named, declare, doubled, is_variable}
-use Rattle.ioa_rules.specs.Sizes.{type_size, size, at_size, init_size, statement_size, statements_size, branches_size}
+use Rattle.ioa_rules.specs.Sizes.{type_size, size, at_size, statement_size, statements_size, branches_size}
 use Rattle.ioa_rules.specs.TermRules.{Judged, judge, faults, wants, unfit, truth_of}
 use Rattle.ioa_rules.specs.TypeRules.{kind_of, type_faults, unlisted}
 use Rattle.ioa_rules.specs.ValueRules.{put_in, inner_faults, item_kind, is_misfit}
@@ -68,10 +67,10 @@ at_faults s at (Some i) = faults s (at + 1) i
 abbrev pub assignment_faults : Scope → ℕ → Bytes → Option PlainTerm → PlainInit → List Fault
 assignment_faults s at q i v =
     where_wrong (not (is_variable (named q s))) at 10
-      ++ (at_faults s (at + 1) i
-      ++ (inner_faults s (at + at_size i + 2) v
-      ++ (left_faults s at (cell_kind (named q s)) i
-      ++ where_wrong (is_misfit s (left_kind (cell_kind (named q s)) i) v) at 12)))
+    ++ (at_faults s (at + 1) i
+    ++ (inner_faults s (at + at_size i + 2) v
+    ++ (left_faults s at (cell_kind (named q s)) i
+    ++ where_wrong (is_misfit s (left_kind (cell_kind (named q s)) i) v) at 12)))
 
 -- ---- statements, inside of so many loops
 
@@ -114,19 +113,19 @@ abbrev mutual
   statement_faults s n at (tree.If bs ss) = branches_faults s n at bs ++ statements_faults s n (at + branches_size bs + 1) ss
   statement_faults s n at (tree.For d ss) =
       where_wrong (nat_le 3 n) at 17
-        ++ (doubled s (at + 1) d.name
-        ++ (type_faults s (at + 3) d.of
-        ++ (unlisted (at + 3) (kind_of s d.of)
-        ++ statements_faults (in_loop s n d) (n + 1) (at + type_size d.of + 4) ss)))
+      ++ (doubled s (at + 1) d.name
+      ++ (type_faults s (at + 3) d.of
+      ++ (unlisted (at + 3) (kind_of s d.of)
+      ++ statements_faults (in_loop s n d) (n + 1) (at + type_size d.of + 4) ss)))
 
   -- each behind `if` or `elseif`
   pub branches_faults : Scope → ℕ → ℕ → PlainBranches → List Fault
   branches_faults s n at no_branch = []
   branches_faults s n at (more_branches t ss bs) =
       faults s (at + 1) t
-        ++ (wants is_truth (at + 1) (judge s t)
-        ++ (statements_faults s n (at + size t + 2) ss
-        ++ branches_faults s n (at + size t + statements_size ss + 2) bs))
+      ++ (wants is_truth (at + 1) (judge s t)
+      ++ (statements_faults s n (at + size t + 2) ss
+      ++ branches_faults s n (at + size t + statements_size ss + 2) bs))
 
   -- with one token between two of them
   pub statements_faults : Scope → ℕ → ℕ → PlainStatements → List Fault

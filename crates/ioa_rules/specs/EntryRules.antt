@@ -1,10 +1,8 @@
 -- Entries of a signature and transitions: their parameters, what they mean, and their faults.
 use Rattle.std.specs.Prelude.{ℕ, ◌+◌, ◌*◌, Bool, true, false, not, ◌&&◌, ◌||◌, Option, Some, None, nat_eq, nat_lt, bytes_eq, if◌then◌else◌, List, [], ◌∷◌, ◌++◌, length}
 use Rattle.std.specs.List.{list_any}
-use Rattle.std.specs.Option.{is_some}
 use Rattle.terms.specs.TermTree as core
 use Rattle.terms.specs.TermTree.{TermTree}
-use Rattle.terms.specs.EffectTree as effect
 use Rattle.terms.specs.EffectTree.{EffectTree}
 use Rattle.terms.specs.declared.scalar.Scalar.TheVariants as scalar
 use Rattle.ioa_trees.specs.declared.tree.EntryKind.{EntryKind}
@@ -13,10 +11,10 @@ use Rattle.ioa_trees.specs.declared.tree.Signed.{Signed}
 use Rattle.ioa_trees.specs.Trees as tree
 use Rattle.ioa_trees.specs.Trees.{Bytes, PlainType, PlainTerm, PlainParameter, PlainEntry, PlainTransition, PlainStatements}
 use Rattle.ioa_rules.specs.Faults.{Fault, where_wrong}
-use Rattle.ioa_rules.specs.Kinds.{Kind, count, can_be_listed, is_truth, same_number, number}
+use Rattle.ioa_rules.specs.Kinds.{Kind, count, can_be_listed, is_truth}
 use Rattle.ioa_rules.specs.Scopes.{Scope, Meaning, OfFormal, OfParameter, named, declare, doubled, is_formal}
 use Rattle.ioa_rules.specs.Sizes.{parameter_size, entry_size, pre_size, transition_size}
-use Rattle.ioa_rules.specs.TermRules.{Judged, judge, faults, wants, truth_of}
+use Rattle.ioa_rules.specs.TermRules.{judge, faults, wants, truth_of}
 use Rattle.ioa_rules.specs.TypeRules.{kind_of, type_faults, unlisted, unscalar}
 use Rattle.ioa_rules.specs.EffectRules.{effects_of, statements_faults}
 
@@ -85,9 +83,9 @@ parameters_faults s controlled at [] = []
 parameters_faults s controlled at (tree.Constant q ∷ ps) = where_wrong (not (is_formal (named q s))) (at + 1) 10 ++ parameters_faults s controlled (at + 3) ps
 parameters_faults s controlled at (tree.Typed d ∷ ps) =
     doubled s at d.name
-      ++ (type_faults s (at + 2) d.of
-      ++ (sort_faults controlled (at + 2) (kind_of s d.of)
-      ++ parameters_faults (declare d.name (OfParameter 0 (kind_of s d.of)) s) controlled (at + parameter_size (tree.Typed d) + 1) ps))
+    ++ (type_faults s (at + 2) d.of
+    ++ (sort_faults controlled (at + 2) (kind_of s d.of)
+    ++ parameters_faults (declare d.name (OfParameter 0 (kind_of s d.of)) s) controlled (at + parameter_size (tree.Typed d) + 1) ps))
 
 -- how many tuples the typed parameters have; nothing where one can't be listed
 abbrev pub times : Option ℕ → Option ℕ → Option ℕ
@@ -124,10 +122,10 @@ has_task tasks q = list_any (λ t. list_any (bytes_eq q) t) tasks
 abbrev pub entry_faults : Scope → List PlainEntry → List PlainTransition → List (List Bytes) → ℕ → PlainEntry → List Fault
 entry_faults s before transitions tasks at e =
     where_wrong (list_any (clashes e) before) (at + 1) 11
-      ++ (parameters_faults s (is_controlled e.kind) (at + 3) e.parameters
-      ++ (where_wrong (is_large s e) at 17
-      ++ (where_wrong (not (list_any (λ t. agrees e t.entry) transitions)) at 13
-      ++ where_wrong (is_controlled e.kind && not (has_task tasks e.name)) at 16)))
+    ++ (parameters_faults s (is_controlled e.kind) (at + 3) e.parameters
+    ++ (where_wrong (is_large s e) at 17
+    ++ (where_wrong (not (list_any (λ t. agrees e t.entry) transitions)) at 13
+    ++ where_wrong (is_controlled e.kind && not (has_task tasks e.name)) at 16)))
 
 abbrev pub entries_faults : Scope → List PlainEntry → List PlainTransition → List (List Bytes) → ℕ → List PlainEntry → List Fault
 entries_faults s before transitions tasks at [] = []
@@ -156,9 +154,9 @@ pre_faults s k at (Some t) = where_wrong (is_input k) at 15 ++ (faults s (at + 1
 abbrev pub transition_faults : Scope → List PlainEntry → List PlainTransition → ℕ → PlainTransition → List Fault
 transition_faults s entries before at t =
     head_faults entries (at + 1) t.entry
-      ++ (where_wrong (list_any (λ b. agrees t.entry b.entry) before) at 14
-      ++ (pre_faults s t.entry.kind (at + entry_size t.entry) t.pre
-      ++ statements_faults s 0 (at + entry_size t.entry + pre_size t.pre + 1) t.eff))
+    ++ (where_wrong (list_any (λ b. agrees t.entry b.entry) before) at 14
+    ++ (pre_faults s t.entry.kind (at + entry_size t.entry) t.pre
+    ++ statements_faults s 0 (at + entry_size t.entry + pre_size t.pre + 1) t.eff))
 
 -- what a state sees: globals, formals and state variables; a transition sees its parameters before the variables
 abbrev pub transitions_faults : (PlainTransition → Scope) → List PlainEntry → List PlainTransition → ℕ → List PlainTransition → List Fault

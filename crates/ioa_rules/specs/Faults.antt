@@ -1,5 +1,5 @@
 -- Faults: the least place decides, then the least number.
-use Rattle.std.specs.Prelude.{◌≡◌, ℕ, Bool, true, false, ◌&&◌, ◌||◌, ◌⊎◌, Option, Some, None, if◌then◌else◌, nat_lt, nat_eq, List, [], ◌∷◌, ◌++◌}
+use Rattle.std.specs.Prelude.{◌≡◌, ℕ, Bool, false, ◌&&◌, ◌||◌, ◌⊎◌, Option, Some, None, if◌then◌else◌, nat_lt, nat_eq, List, [], ◌∷◌}
 
 -- the number of a token, counted from 0 without comments, and the number of the fault
 pub record Fault : Type 0 where

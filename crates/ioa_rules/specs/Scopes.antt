@@ -1,11 +1,9 @@
 -- Names and what they mean, in the order of their declarations: the first declaration of a name counts.
-use Rattle.std.specs.Prelude.{ℕ, Bool, true, false, not, Option, Some, None, if◌then◌else◌, List, [], ◌∷◌, bytes_eq}
+use Rattle.std.specs.Prelude.{ℕ, Bool, true, false, Option, Some, None, if◌then◌else◌, List, [], ◌∷◌, bytes_eq}
 use Rattle.std.specs.Map.{lookup}
 use Rattle.std.specs.Option.{is_some}
-use Rattle.terms.specs.TermTree.{TermTree, Known, Formal, Parameter, Loop, Cell}
-use Rattle.terms.specs.declared.scalar.Scalar.TheVariants as scalar
 use Rattle.ioa_trees.specs.Trees.{Bytes}
-use Rattle.ioa_rules.specs.Kinds.{Kind, Enum}
+use Rattle.ioa_rules.specs.Kinds.{Kind}
 use Rattle.ioa_rules.specs.Faults.{Fault, where_wrong}
 
 -- A type, a formal, a state variable, a parameter or a loop variable has a kind, unless its type means nothing.

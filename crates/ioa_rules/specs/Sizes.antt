@@ -1,5 +1,5 @@
 -- How many tokens each part of a source has.
-use Rattle.std.specs.Prelude.{ℕ, ◌+◌, Bool, if◌then◌else◌, List, [], ◌∷◌, Option, Some, None}
+use Rattle.std.specs.Prelude.{ℕ, ◌+◌, if◌then◌else◌, List, [], ◌∷◌, Option, Some, None}
 use Rattle.ioa_trees.specs.declared.tree.Signed.{Signed}
 use Rattle.ioa_trees.specs.Trees.{Bytes, PlainType, Bools, Ints, Range, Named, SeqOf, ArrayOf, PlainTerm, Number, True, False, Variable, Group, Called, Append, Index, Minus, Product, Sum, Compare, Not, And, Or, PlainTerms, no_term, more_terms, PlainFactor, Times, Modulo, PlainFactors, no_factor, more_factors, PlainAddends, no_addend, more_addends, PlainInit, Empty, Fill, Value, PlainDeclared, PlainStatement, Assign, If, For, PlainStatements, no_statement, more_statements, PlainBranches, no_branch, more_branches, PlainParameter, Constant, Typed, PlainEntry, PlainVariable, PlainTransition, PlainAutomaton, PlainComponent, PlainTypeBody, Same, Enumeration, PlainTypeDefinition}
 
@@ -149,8 +149,8 @@ after_word n (x ∷ xs) = n + 1
 abbrev pub automaton_size : PlainAutomaton → ℕ
 automaton_size a =
     2 + bracketed_size declared_size a.formals + 1 + row_size entry_size a.entries
-      + after_word (listed_size variable_size a.variables) a.variables
-      + 1 + row_size transition_size a.transitions + after_word (row_size task_size a.tasks) a.tasks
+    + after_word (listed_size variable_size a.variables) a.variables
+    + 1 + row_size transition_size a.transitions + after_word (row_size task_size a.tasks) a.tasks
 
 abbrev pub body_size : PlainTypeBody → ℕ
 body_size (Same t) = type_size t

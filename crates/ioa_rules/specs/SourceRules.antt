@@ -1,5 +1,5 @@
 -- Whole sources: what they mean without their names, and their faults.
-use Rattle.std.specs.Prelude.{ℕ, ◌+◌, Bool, true, false, not, ◌||◌, Option, Some, None, nat_eq, bytes_eq, if◌then◌else◌, List, [], ◌∷◌, ◌++◌, length, slice_get}
+use Rattle.std.specs.Prelude.{ℕ, ◌+◌, not, ◌||◌, Option, Some, None, nat_eq, bytes_eq, List, [], ◌∷◌, ◌++◌, length, slice_get}
 use Rattle.std.specs.List.{list_any}
 use Rattle.std.specs.Option.{is_some}
 use Rattle.terms.specs.TermTree.{TermTree}
@@ -12,7 +12,7 @@ use Rattle.ioa_rules.specs.Sizes.{definition_size, automaton_size, component_siz
 use Rattle.ioa_rules.specs.TermRules.{judge, faults, unfit}
 use Rattle.ioa_rules.specs.TypeRules.{kind_of, type_faults}
 use Rattle.ioa_rules.specs.ValueRules.{value_in}
-use Rattle.ioa_rules.specs.AutomatonRules.{MeantAutomaton, body_faults, locals, meaning_of, formal_kinds}
+use Rattle.ioa_rules.specs.AutomatonRules.{MeantAutomaton, body_faults, locals, meaning_of}
 
 -- ---- types
 
@@ -80,8 +80,8 @@ abbrev pub automata_faults : Scope → List Bytes → ℕ → ℕ → List Plain
 automata_faults s used n at [] = []
 automata_faults s used n at (a ∷ rest) =
     taken_before s used (at + 1) a.name
-      ++ (body_faults (with_automaton s n a) at a
-      ++ automata_faults (with_automaton s n a) (used ++ locals a) (n + 1) (at + automaton_size a) rest)
+    ++ (body_faults (with_automaton s n a) at a
+    ++ automata_faults (with_automaton s n a) (used ++ locals a) (n + 1) (at + automaton_size a) rest)
 
 abbrev pub automata_size : List PlainAutomaton → ℕ
 automata_size [] = 0
@@ -127,8 +127,8 @@ formals_at table (Some n) = of (slice_get table n)
 abbrev pub component_faults : Scope → List MeantAutomaton → List Bytes → ℕ → PlainComponent → List Fault
 component_faults s table before at c =
     where_wrong (list_any (bytes_eq c.name) before) at 11
-      ++ (arguments_faults s (at + 4) c.arguments
-      ++ compared_with s (formals_at table (automaton_meant (named c.automaton s))) at c)
+    ++ (arguments_faults s (at + 4) c.arguments
+    ++ compared_with s (formals_at table (automaton_meant (named c.automaton s))) at c)
 
 abbrev pub components_faults : Scope → List MeantAutomaton → List Bytes → ℕ → List PlainComponent → List Fault
 components_faults s table before at [] = []
@@ -182,9 +182,9 @@ composed_at x = definitions_size x.types + automata_size x.automata
 abbrev pub source_faults : PlainSource → List Fault
 source_faults x =
     definitions_faults [] 0 0 x.types
-      ++ (automata_faults (types_scope x) [] 0 (definitions_size x.types) x.automata
-      ++ (taken_before (whole_scope x) (all_locals x.automata) (composed_at x + 1) x.composed.name
-      ++ components_faults (whole_scope x) (table_of x) [] (composed_at x + 3) x.composed.components))
+    ++ (automata_faults (types_scope x) [] 0 (definitions_size x.types) x.automata
+    ++ (taken_before (whole_scope x) (all_locals x.automata) (composed_at x + 1) x.composed.name
+    ++ components_faults (whole_scope x) (table_of x) [] (composed_at x + 3) x.composed.components))
 
 pub record MeantSource : Type 0 where
   pub members : List Bytes

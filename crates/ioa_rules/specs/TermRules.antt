@@ -1,5 +1,5 @@
 -- Terms: what they mean, a term without names and a kind, and their faults.
-use Rattle.std.specs.Prelude.{ℕ, ◌+◌, ℤ, pos, Bool, true, false, not, ◌&&◌, Option, Some, None, nat_eq, if◌then◌else◌, List, [], ◌++◌}
+use Rattle.std.specs.Prelude.{ℕ, ◌+◌, pos, Bool, true, false, not, ◌&&◌, Option, Some, None, nat_eq, if◌then◌else◌, List, [], ◌++◌}
 use Rattle.terms.specs.TermTree as core
 use Rattle.terms.specs.TermTree.{TermTree}
 use Rattle.terms.specs.declared.scalar.Scalar.TheVariants as scalar
@@ -14,7 +14,7 @@ use Rattle.ioa_trees.specs.declared.tree.Sign.TheVariants as sign
 use Rattle.ioa_trees.specs.Trees as tree
 use Rattle.ioa_trees.specs.Trees.{PlainTerm, PlainTerms, PlainFactors, PlainAddends, no_term, more_terms, no_factor, more_factors, no_addend, more_addends}
 use Rattle.ioa_rules.specs.Faults.{Fault, where_wrong}
-use Rattle.ioa_rules.specs.Kinds.{Kind, Truth, Whole, Range, Enum, SeqOf, ArrayOf, is_whole, is_truth, is_seq, is_array, same, fits, listed_of, shape_of}
+use Rattle.ioa_rules.specs.Kinds.{Kind, Truth, Whole, Range, Enum, SeqOf, ArrayOf, is_whole, is_truth, is_seq, fits, listed_of, shape_of}
 use Rattle.ioa_rules.specs.Scopes.{Scope, Meaning, OfMember, OfFormal, OfVariable, OfParameter, OfLoop, named, is_value}
 use Rattle.ioa_rules.specs.Sizes.{size}
 

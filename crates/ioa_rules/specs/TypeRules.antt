@@ -1,9 +1,9 @@
 -- Types: what they mean, and their faults.
-use Rattle.std.specs.Prelude.{ℕ, ◌+◌, Bool, true, false, not, ◌||◌, Option, Some, None, nat_eq, nat_lt, int_lt, if◌then◌else◌, List, [], ◌++◌}
+use Rattle.std.specs.Prelude.{ℕ, ◌+◌, Bool, not, ◌||◌, Option, Some, None, nat_eq, nat_lt, int_lt, if◌then◌else◌, List, [], ◌++◌}
 use Rattle.ioa_trees.specs.Trees as tree
 use Rattle.ioa_trees.specs.Trees.{PlainType}
 use Rattle.ioa_rules.specs.Faults.{Fault, at_fault, where_wrong}
-use Rattle.ioa_rules.specs.Kinds.{Kind, Truth, Whole, Range, Enum, SeqOf, ArrayOf, number, count, can_be_listed, is_scalar, weight, most_listed, most_weight}
+use Rattle.ioa_rules.specs.Kinds.{Kind, Truth, Whole, Range, SeqOf, ArrayOf, number, count, can_be_listed, is_scalar, weight, most_listed, most_weight}
 use Rattle.ioa_rules.specs.Scopes.{Scope, named, is_type, kind_meant}
 use Rattle.ioa_rules.specs.Sizes.{type_size}
 

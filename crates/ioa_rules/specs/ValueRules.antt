@@ -1,5 +1,5 @@
 -- What is put in a place: its meaning there, and its faults.
-use Rattle.std.specs.Prelude.{ℕ, ◌+◌, Bool, true, false, not, ◌||◌, Option, Some, None, if◌then◌else◌, List, [], ◌++◌}
+use Rattle.std.specs.Prelude.{ℕ, ◌+◌, Bool, true, false, not, Option, Some, None, if◌then◌else◌, List, []}
 use Rattle.terms.specs.TermTree as core
 use Rattle.terms.specs.TermTree.{TermTree}
 use Rattle.ioa_trees.specs.Trees as tree
