@@ -75,41 +75,49 @@ fn kinds_are_one_or_not(rt: HostRuntime) -> Result<(), Fail> {
     Ok(())
 }
 
+fn sorts(shape: Shape<'_>) -> [bool; 4] {
+    [
+        is_truth(shape),
+        is_whole(shape),
+        is_seq(shape),
+        is_array(shape),
+    ]
+}
+
+fn fits_in(place: &Kind, kind: &Kind) -> bool {
+    fits(shape_of(place), shape_of(kind))
+}
+
 #[test]
 fn what_fits_a_place(rt: HostRuntime) -> Result<(), Fail> {
     let alloc = rt.alloc();
     let bits = array(alloc, Kind::Range(0, 7), Kind::Truth)?;
     let numbers = seq(alloc, Kind::Whole, 3)?;
-    let rows = [
-        (Shape::Range(0, 3), Shape::Whole, true),
-        (Shape::Whole, Shape::Range(0, 3), true),
-        (Shape::Truth, Shape::Whole, false),
-        (Shape::Whole, Shape::Truth, false),
-        (Shape::Truth, Shape::Truth, true),
-        (Shape::Enumeration(0, 2), Shape::Enumeration(0, 2), true),
-        (Shape::Enumeration(0, 2), Shape::Enumeration(2, 2), false),
-        (shape_of(&bits), shape_of(&bits), true),
-        (shape_of(&numbers), shape_of(&bits), false),
-    ];
-    for (place, shape, wanted) in rows {
-        assert_eq!(rt; fits(place, shape), wanted);
-    }
-    let tests = [
-        (Shape::Truth, [true, false, false, false]),
-        (Shape::Whole, [false, true, false, false]),
-        (Shape::Range(1, 2), [false, true, false, false]),
-        (Shape::Enumeration(1, 2), [false, false, false, false]),
-        (shape_of(&numbers), [false, false, true, false]),
-        (shape_of(&bits), [false, false, false, true]),
-    ];
-    for (shape, wanted) in tests {
-        let found = [
-            is_truth(shape),
-            is_whole(shape),
-            is_seq(shape),
-            is_array(shape),
-        ];
-        assert_eq!(rt; found, wanted);
-    }
+    assert!(rt; fits(Shape::Range(0, 3), Shape::Whole));
+    assert!(rt; fits(Shape::Whole, Shape::Range(0, 3)));
+    assert!(rt; !fits(Shape::Truth, Shape::Whole));
+    assert!(rt; !fits(Shape::Whole, Shape::Truth));
+    assert!(rt; fits(Shape::Truth, Shape::Truth));
+    assert!(rt; fits(Shape::Enumeration(0, 2), Shape::Enumeration(0, 2)));
+    assert!(rt; !fits(Shape::Enumeration(0, 2), Shape::Enumeration(2, 2)));
+    assert!(rt; fits_in(&bits, &bits));
+    assert!(rt; !fits_in(&numbers, &bits));
+    Ok(())
+}
+
+#[test]
+fn sorts_of_kinds(rt: HostRuntime) -> Result<(), Fail> {
+    let alloc = rt.alloc();
+    let bits = array(alloc, Kind::Range(0, 7), Kind::Truth)?;
+    let numbers = seq(alloc, Kind::Whole, 3)?;
+    assert_eq!(rt; sorts(Shape::Truth), [true, false, false, false]);
+    assert_eq!(rt; sorts(Shape::Whole), [false, true, false, false]);
+    assert_eq!(rt; sorts(Shape::Range(1, 2)), [false, true, false, false]);
+    assert_eq!(rt;
+        sorts(Shape::Enumeration(1, 2)),
+        [false, false, false, false]
+    );
+    assert_eq!(rt; sorts(shape_of(&numbers)), [false, false, true, false]);
+    assert_eq!(rt; sorts(shape_of(&bits)), [false, false, false, true]);
     Ok(())
 }
