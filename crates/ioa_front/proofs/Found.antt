@@ -10,7 +10,7 @@ use Rattle.ioa_tokens.specs.Tokens.{Tok, Placed, placed, placed_of, toks_of}
 use Rattle.ioa_tokens.specs.declared.Token.{Token}
 use Rattle.ioa_tokens.specs.declared.TokensError.{TokensError}
 use Rattle.ioa_tokens.specs.declared.TokensError.TheVariants as refused
-use Rattle.ioa_trees.specs.declared.tree.Source.{Source}
+use Rattle.ioa_trees.specs.declared.tree.SourceTree.{SourceTree}
 use Rattle.ioa_front.specs.declared.fault.ReadError.{ReadError}
 use Rattle.ioa_front.specs.declared.fault.ReadError.TheVariants as fault
 use Rattle.ioa_trees.specs.Nodes.{Node, make}
@@ -38,7 +38,7 @@ toks_append : (ps qs : List Placed) → toks (ps ++ qs) ≡ toks ps ++ toks qs
 toks_append [] qs = refl
 toks_append (p ∷ ps) qs = ap (λ z. p.tok ∷ z) (toks_append ps qs)
 
-count : (ps : List Placed) → length (toks ps) ≡ length ps
+pub count : (ps : List Placed) → length (toks ps) ≡ length ps
 count [] = refl
 count (p ∷ ps) = ap suc (count ps)
 
@@ -96,11 +96,11 @@ some_left s (t ∷ ts) n h = at_move (move s t) h (λ m. some_left m ts n)
 
 -- ---- the promises
 
-pub spelled : (source : Text) (ps : List Placed) (end : ℕ) (r : Result Source ReadError) → IsAscii source → IsTokens source ps → IsFound ps end r → IfOk r (λ s. Spells source (view_source s))
+pub spelled : (source : Text) (ps : List Placed) (end : ℕ) (r : Result SourceTree ReadError) → IsAscii source → IsTokens source ps → IsFound ps end r → IfOk r (λ s. Spells source (view_source s))
 spelled source ps end (Ok s) a c h = record { ascii = a; tokens = ps; cut = c; spelled = sym (read_spells true (toks ps) (source_node (view_source s)) h) }
 spelled source ps end (Err e) a c h = tt
 
-pub readable : (ps : List Placed) (end : ℕ) (r : Result Source ReadError) → AreProper (toks ps) → IsFound ps end r → IfOk r (λ s. IsReadable (view_source s))
+pub readable : (ps : List Placed) (end : ℕ) (r : Result SourceTree ReadError) → AreProper (toks ps) → IsFound ps end r → IfOk r (λ s. IsReadable (view_source s))
 readable ps end (Ok s) p h = (read_formed true (toks ps) (source_node (view_source s)) h, subst AreProper (sym (read_spells true (toks ps) (source_node (view_source s)) h)) p)
 readable ps end (Err e) p h = tt
 
@@ -109,13 +109,13 @@ node_of other (Read n) = n
 node_of other (Syntax n) = other
 node_of other (Deep n) = other
 
-pub only : (ps : List Placed) (end : ℕ) (r : Result Source ReadError) → IsFound ps end r → (x : PlainSource) → IsReadable x → toks ps ≡ spell x → Gets x r
+pub only : (ps : List Placed) (end : ℕ) (r : Result SourceTree ReadError) → IsFound ps end r → (x : PlainSource) → IsReadable x → toks ps ≡ spell x → Gets x r
 only ps end r h x p e = by_answer r h
   where
     read : go true start (toks ps) ≡ Read (source_node x)
     read = ap (λ z. go true start z) e ∙ read_again true (source_node x) p.0
 
-    by_answer : (r : Result Source ReadError) → IsFound ps end r → Gets x r
+    by_answer : (r : Result SourceTree ReadError) → IsFound ps end r → Gets x r
     by_answer (Ok s) h = same_source true (view_source s) x (read_formed true (toks ps) (source_node (view_source s)) h) p.0 (ap (node_of (source_node x)) (sym h ∙ read))
     by_answer (Err fault.NoMemory) h = refl
     by_answer (Err (fault.NotAscii at)) h = absurd h
@@ -164,7 +164,7 @@ deep_at source before (p ∷ rest) c l h =
     one_more [] t more = refl
     one_more (u ∷ pre) t more = ap (λ z. u ∷ z) (one_more pre t more)
 
-pub token_refused : (source : Text) (ps : List Placed) (r : Result Source ReadError) → length source ≤ most_bytes → IsAscii source → IsTokens source ps → IsFound ps (length source) r → IfErr r (λ e. IsRefusal source e)
+pub token_refused : (source : Text) (ps : List Placed) (r : Result SourceTree ReadError) → length source ≤ most_bytes → IsAscii source → IsTokens source ps → IsFound ps (length source) r → IfErr r (λ e. IsRefusal source e)
 token_refused source ps (Ok s) l a c h = tt
 token_refused source ps (Err fault.NoMemory) l a c h = tt
 token_refused source ps (Err (fault.NotAscii at)) l a c h = absurd h
@@ -193,7 +193,7 @@ found_at end ts n i t e h f = placed_at end ts i t h f ∙ ap (λ z. first_at en
 
 -- ---- where the tokens were refused
 
-pub tokens_only : (source : Text) (x : PlainSource) (r : Result Source ReadError) (e : TokensError) → IsErr r → IsErrAnd r (λ z. z ≡ lifted e) → IsFault source e
+pub tokens_only : (source : Text) (x : PlainSource) (r : Result SourceTree ReadError) (e : TokensError) → IsErr r → IsErrAnd r (λ z. z ≡ lifted e) → IsFault source e
     → ((ts : List Placed) (at : ℕ) → IsTokens source ts → IsBadAt source at → ⊥) → ((at : ℕ) → IsAscii source → IsFirstWide source at → ⊥) → Spells source x → Gets x r
 tokens_only source x (Ok s) e is same h bad wide spells = cc
 tokens_only source x (Err z) refused.NoMemory is same h bad wide spells = same
@@ -205,6 +205,6 @@ lifted_refusal source refused.NoMemory l h = tt
 lifted_refusal source (refused.NotAscii at) l h = (l, h)
 lifted_refusal source (refused.BadToken at) l h = (l, h)
 
-pub tokens_refused : (source : Text) (r : Result Source ReadError) (e : TokensError) → length source ≤ most_bytes → IsErr r → IsErrAnd r (λ z. z ≡ lifted e) → IsFault source e → IfErr r (λ z. IsRefusal source z)
+pub tokens_refused : (source : Text) (r : Result SourceTree ReadError) (e : TokensError) → length source ≤ most_bytes → IsErr r → IsErrAnd r (λ z. z ≡ lifted e) → IsFault source e → IfErr r (λ z. IsRefusal source z)
 tokens_refused source (Ok s) e l is same h = tt
 tokens_refused source (Err z) e l is same h = subst (λ z. IsRefusal source z) (sym same) (lifted_refusal source e l h)

@@ -17,3 +17,4 @@ pub mod Places
 pub mod Judged
 pub mod Faults
 pub mod Found
+pub mod Counts

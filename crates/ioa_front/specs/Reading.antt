@@ -7,7 +7,7 @@ use Rattle.ioa_tokens.specs.Cutting.{IsTokens, IsBadAt}
 use Rattle.ioa_tokens.specs.Layout.{AreProper}
 use Rattle.ioa_tokens.specs.declared.TokensError.{TokensError}
 use Rattle.ioa_tokens.specs.declared.TokensError.TheVariants as refused
-use Rattle.ioa_trees.specs.declared.tree.Source.{Source}
+use Rattle.ioa_trees.specs.declared.tree.SourceTree.{SourceTree}
 use Rattle.ioa_front.specs.declared.fault.ReadError.{ReadError}
 use Rattle.ioa_front.specs.declared.fault.ReadError.TheVariants as fault
 use Rattle.ioa_trees.specs.Nodes.{Node, source as any_source, yield}
@@ -101,7 +101,7 @@ IsRefusal source (fault.Syntax at) = (length source ≤ most_bytes) × (IsAscii 
 IsRefusal source fault.TooDeep = (length source ≤ most_bytes) × (IsAscii source × IsTooDeep source)
 
 -- the tree, unless memory ran out
-abbrev pub Gets : PlainSource → Result Source ReadError → Type 0
+abbrev pub Gets : PlainSource → Result SourceTree ReadError → Type 0
 Gets x (Ok s) = view_source s ≡ x
 Gets x (Err e) = e ≡ fault.NoMemory
 

@@ -1,6 +1,6 @@
 -- What the machine says of tokens, as the answer of a reader.
 use Rattle.std.specs.Prelude.{◌≡◌, ℕ, ◌-◌, true, List, length, drop, Result, Ok, Err}
-use Rattle.ioa_trees.specs.declared.tree.Source.{Source}
+use Rattle.ioa_trees.specs.declared.tree.SourceTree.{SourceTree}
 use Rattle.ioa_front.specs.declared.stop.Stop.{Stop}
 use Rattle.ioa_front.specs.declared.fault.ReadError.{ReadError}
 use Rattle.ioa_front.specs.declared.fault.ReadError.TheVariants as fault
@@ -11,7 +11,7 @@ use Rattle.ioa_trees.specs.Views.{view_source}
 use Rattle.ioa_front.specs.Reads.{Stops}
 use Rattle.ioa_front.specs.Reading.{first_at, toks}
 
-abbrev pub Exact : List Tok → Result Source Stop → Type 0
+abbrev pub Exact : List Tok → Result SourceTree Stop → Type 0
 Exact ts (Ok s) = go true start ts ≡ Read (source_node (view_source s))
 Exact ts (Err e) = Stops e (go true start ts)
 
@@ -20,7 +20,7 @@ abbrev pub left_at : ℕ → List Placed → ℕ → ℕ
 left_at end ps n = first_at end (drop (length ps - n) ps)
 
 -- the same with the place of the token at fault
-abbrev pub IsFound : List Placed → ℕ → Result Source ReadError → Type 0
+abbrev pub IsFound : List Placed → ℕ → Result SourceTree ReadError → Type 0
 IsFound ps end (Ok s) = go true start (toks ps) ≡ Read (source_node (view_source s))
 IsFound ps end (Err fault.NoMemory) = Unit {0}
 IsFound ps end (Err (fault.Syntax at)) = (n : ℕ) × ((go true start (toks ps) ≡ Syntax n) × (at ≡ left_at end ps n))

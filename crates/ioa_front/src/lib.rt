@@ -11,6 +11,7 @@ mod fault;
 mod front;
 mod lists;
 mod names;
+mod readable;
 mod reading;
 mod source;
 mod statements;
@@ -24,6 +25,5 @@ mod types;
 mod values;
 
 pub use fault::ReadError;
-pub use ioa_printer::print;
-pub use ioa_trees::tree::Source;
+pub use readable::{Source, print};
 pub use reading::{MOST_BYTES, read};

@@ -9,11 +9,12 @@ ghost use Rattle.ioa_front.specs.Reading.{Gets, IsReadable, IsRefusal, Spells, m
 ghost use Rattle.ioa_front.specs.Theorem.{IsFound, left_at};
 
 use crate::fault::ReadError;
+use crate::readable::Source;
 use crate::source::read_all;
 use crate::stop::Stop;
 use ioa_tokens::laws::{one_reading_law, read_back_law};
 use ioa_tokens::{Token, tokens};
-use ioa_trees::tree::Source;
+use ioa_trees::tree::SourceTree;
 use std::alloc::Global;
 
 /// The most bytes that a source may have.
@@ -34,6 +35,19 @@ pub fn read(alloc: Global, source: &[u8]) -> Result<Source, ReadError>
     ensures again { (x : PlainSource) → IsReadable x → source.now ≡ layout (spell x) → length source.now ≤ most_bytes → Gets x result }
     ensures refused { IfErr result (λ e. IsRefusal source.now e) }
 {
+    let tree = read_tree(alloc, source)?;
+    Ok(Source { tree })
+}
+
+// Reads the tree of a source.
+fn read_tree(alloc: Global, source: &[u8]) -> Result<SourceTree, ReadError>
+    ensures size { IfOk result (λ s. length source.now ≤ most_bytes) }
+    ensures spelled { IfOk result (λ s. Spells source.now (view_source s)) }
+    ensures readable { IfOk result (λ s. IsReadable (view_source s)) }
+    ensures only { (x : PlainSource) → IsReadable x → Spells source.now x → length source.now ≤ most_bytes → Gets x result }
+    ensures again { (x : PlainSource) → IsReadable x → source.now ≡ layout (spell x) → length source.now ≤ most_bytes → Gets x result }
+    ensures refused { IfErr result (λ e. IsRefusal source.now e) }
+{
     if source.len() > MOST_BYTES {
         return Err(ReadError::TooLarge);
     }
@@ -44,7 +58,7 @@ pub fn read(alloc: Global, source: &[u8]) -> Result<Source, ReadError>
 }
 
 // Reads a source from its tokens; `end` is the number of its bytes.
-fn read_found(alloc: Global, found: &[Token], end: usize) -> Result<Source, ReadError>
+fn read_found(alloc: Global, found: &[Token], end: usize) -> Result<SourceTree, ReadError>
     ensures { IsFound (placed found.now) end result }
 {
     match read_all(alloc, found) {

@@ -14,7 +14,7 @@ use crate::definitions::read_definition;
 use crate::front::{expect, past};
 use crate::stop::Stop;
 use ioa_tokens::{Token, Word};
-use ioa_trees::tree::{ComponentTree, Composed, Source, TypeDefinition};
+use ioa_trees::tree::{ComponentTree, Composed, SourceTree, TypeDefinition};
 use std::alloc::Global;
 
 // What follows the first `type`.
@@ -78,7 +78,7 @@ fn read_components<'a, 'b>(
 fn read_front<'a, 'b>(
     alloc: Global,
     tokens: &'b [Token<'a>],
-) -> Result<(Source, &'b [Token<'a>]), Stop>
+) -> Result<(SourceTree, &'b [Token<'a>]), Stop>
     ensures goes { Goes (λ x. source_nodes (view_source x.0)) (λ x. toks_of x.1.now) whole [] (toks_of tokens.now) result }
     ensures shorter { IfOk result (λ x. length x.1.now ≤ length tokens.now) }
 {
@@ -87,7 +87,7 @@ fn read_front<'a, 'b>(
     let (components, rest) = read_components(alloc, rest)?;
     let composed = Composed { name, components };
     Ok((
-        Source {
+        SourceTree {
             types,
             automata,
             composed,
@@ -97,7 +97,7 @@ fn read_front<'a, 'b>(
 }
 
 /// Reads a whole source.
-pub(crate) fn read_all(alloc: Global, tokens: &[Token]) -> Result<Source, Stop>
+pub(crate) fn read_all(alloc: Global, tokens: &[Token]) -> Result<SourceTree, Stop>
     ensures exact { Exact (toks_of tokens.now) result }
 {
     let (source, rest) = read_front(alloc, tokens)?;

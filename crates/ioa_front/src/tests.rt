@@ -1,6 +1,9 @@
 //! Sources read and printed, and sources refused, by hand.
 
-use crate::{MOST_BYTES, ReadError, print, read};
+ghost use Rattle.std.specs.Prelude.{◌≡◌, IfOk};
+ghost use Rattle.ioa_trees.specs.Views.{view_source};
+
+use crate::{MOST_BYTES, ReadError, Source, print, read};
 use std::alloc::Global;
 use std::test::Fail;
 
@@ -45,6 +48,26 @@ fn layouts_are_given_back(rt: HostRuntime) -> Result<(), Fail> {
             printed(alloc, text.as_bytes())?.as_slice(),
             text.as_bytes()
         );
+    }
+    Ok(())
+}
+
+// What is read of the text that is printed of a source.
+fn read_again(alloc: Global, source: &Source) -> Result<Source, Fail>
+    ensures { IfOk result (λ again. view_source again ≡ view_source source.now) }
+{
+    let _known = source.tree();
+    let text = print(alloc, source)?;
+    Ok(read(alloc, text.as_slice())?)
+}
+
+#[test]
+fn what_is_printed_is_read_again(rt: HostRuntime) -> Result<(), Fail> {
+    let alloc = rt.alloc();
+    for text in [RING, WHOLE] {
+        let source = read(alloc, text.as_bytes())?;
+        let again = read_again(alloc, &source)?;
+        assert_eq!(rt; print(alloc, &again)?.as_slice(), text.as_bytes());
     }
     Ok(())
 }

@@ -12,7 +12,7 @@ use Rattle.std.specs.Prelude.{string_bytes}
 use Rattle.ioa_trees.specs.declared.tree.Declared.{Declared}
 use Rattle.ioa_trees.specs.declared.tree.Automaton.{Automaton}
 use Rattle.ioa_trees.specs.declared.tree.TypeDefinition.{TypeDefinition}
-use Rattle.ioa_trees.specs.declared.tree.Source.{Source}
+use Rattle.ioa_trees.specs.declared.tree.SourceTree.{SourceTree}
 use Rattle.ioa_trees.specs.declared.tree.Statement.{Statement}
 use Rattle.ioa_trees.specs.declared.tree.Branch.{Branch}
 use Rattle.ioa_trees.specs.declared.tree.Statement.TheOpen as open_statement
@@ -104,7 +104,7 @@ source_laid p s =
     laid = yields_pack (source_nodes s) ∙ simp yields_append
 
 -- a source, step by step
-pub source_put : (p q r s : List Tok) (x : Source) (ds : List TypeDefinition) (xs : List Automaton) (n : Bytes) →
+pub source_put : (p q r s : List Tok) (x : SourceTree) (ds : List TypeDefinition) (xs : List Automaton) (n : Bytes) →
     ds ≡ x.types.items → xs ≡ x.automata.items → n ≡ string_bytes x.composed.name →
     q ≡ p ++ yields (map type_definition_node (map view_type_definition ds)) → r ≡ q ++ yields (automata_nodes (map view_automaton xs) n) →
     s ≡ r ++ yields (composed_nodes (view_composed x.composed)) → s ≡ p ++ spell (view_source x)

@@ -18,12 +18,12 @@ mod types;
 
 use crate::source::put_source;
 use ioa_tokens::Page;
-use ioa_trees::tree::Source;
+use ioa_trees::tree::SourceTree;
 use std::alloc::Global;
 use terms::NoMemory;
 
 /// The text of a source: its tokens in their order, laid out. `NoMemory` where memory was refused.
-pub fn print(alloc: Global, source: &Source) -> Result<Vec<u8>, NoMemory>
+pub fn print(alloc: Global, source: &SourceTree) -> Result<Vec<u8>, NoMemory>
     ensures { IfOk result (λ bytes. bytes.items ≡ layout (spell (view_source source.now))) }
 {
     let mut page = Page::new(alloc);

@@ -12,7 +12,9 @@ use crate::names::put_more_names;
 use crate::term::put_term;
 use crate::types::put_type;
 use ioa_tokens::{Page, Word};
-use ioa_trees::tree::{Automaton, ComponentTree, Composed, Source, Term, TypeBody, TypeDefinition};
+use ioa_trees::tree::{
+    Automaton, ComponentTree, Composed, SourceTree, Term, TypeBody, TypeDefinition,
+};
 use terms::NoMemory;
 
 #[tactic(auto, using(std::proofs::lemmas::List::append_assoc, crate::proofs::Yields::yields_pack))]
@@ -166,7 +168,7 @@ fn put_composed<'a>(page: &mut Page<'a>, composed: &'a Composed) -> Result<(), N
 }
 
 /// A whole source.
-pub(crate) fn put_source<'a>(page: &mut Page<'a>, source: &'a Source) -> Result<(), NoMemory>
+pub(crate) fn put_source<'a>(page: &mut Page<'a>, source: &'a SourceTree) -> Result<(), NoMemory>
     ensures { OnOk result (page.new ≡ page.old ++ spell (view_source source.now)) }
 {
     put_type_definitions(page, source.types.as_slice())?;

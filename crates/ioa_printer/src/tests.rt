@@ -2,7 +2,7 @@
 
 use crate::print;
 use ioa_trees::tree::{
-    Addend, Automaton, ComponentTree, Composed, Declared, Entry, EntryKind, Init, Sign, Source,
+    Addend, Automaton, ComponentTree, Composed, Declared, Entry, EntryKind, Init, Sign, SourceTree,
     Statement, Term, Transition, TypeTree, Variable,
 };
 use std::alloc::Global;
@@ -69,7 +69,7 @@ fn a_counter_in_ten_lines(rt: HostRuntime) -> Result<(), Fail> {
         automaton: named(alloc, "C")?,
         arguments: Vec::new(alloc),
     };
-    let source = Source {
+    let source = SourceTree {
         types: Vec::new(alloc),
         automata: only(alloc, counter(alloc)?)?,
         composed: Composed {

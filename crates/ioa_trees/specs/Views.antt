@@ -32,7 +32,7 @@ use Rattle.ioa_trees.specs.declared.tree.Composed.{Composed}
 use Rattle.ioa_trees.specs.declared.tree.TypeBody.{TypeBody}
 use Rattle.ioa_trees.specs.declared.tree.TypeBody.TheVariants as body
 use Rattle.ioa_trees.specs.declared.tree.TypeDefinition.{TypeDefinition}
-use Rattle.ioa_trees.specs.declared.tree.Source.{Source}
+use Rattle.ioa_trees.specs.declared.tree.SourceTree.{SourceTree}
 use Rattle.ioa_trees.specs.Trees as plain
 use Rattle.ioa_trees.specs.Trees.{PlainType, Bools, Ints, Range, Named, SeqOf, ArrayOf, PlainTerm, Number, True, False, Group, Called, Append, Index, Minus, Product, Sum, Compare, Not, And, Or, PlainFactor, Times, Modulo, pack_terms, pack_factors, pack_addends, PlainInit, Empty, Fill, Value, PlainDeclared, PlainStatement, Assign, If, For, PlainStatements, pack_statements, pack_branches, PlainParameter, Constant, Typed, PlainEntry, PlainVariable, PlainTransition, PlainAutomaton, PlainComponent, PlainComposed, PlainTypeBody, Same, Enumeration, PlainTypeDefinition, PlainSource}
 
@@ -148,7 +148,7 @@ view_type_body (body.Enumeration ns) = Enumeration (map string_bytes ns.items)
 abbrev pub view_type_definition : TypeDefinition → PlainTypeDefinition
 view_type_definition d = record { name = string_bytes d.name; body = view_type_body d.body }
 
-abbrev pub view_source : Source → PlainSource
+abbrev pub view_source : SourceTree → PlainSource
 view_source s = record {
   types = map view_type_definition s.types.items;
   automata = map view_automaton s.automata.items;

@@ -197,7 +197,7 @@ pub struct TypeDefinition {
 
 /// A whole source.
 #[derive(Debug, Drop)]
-pub struct Source {
+pub struct SourceTree {
     pub types: Vec<TypeDefinition>,
     pub automata: Vec<Automaton>,
     pub composed: Composed,
