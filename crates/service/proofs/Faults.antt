@@ -1,5 +1,5 @@
 -- What faults leave, and their reports.
-use Rattle.std.proofs.Common.{◌≢◌, inl, inr, ℕ, ◌<◌, ◌≤◌, List, length, refl, arith, take}
+use Rattle.std.proofs.Common.{◌≢◌, inl, inr, ℕ, ◌<◌, ◌≤◌, List, length, refl, arith}
 use Rattle.std.specs.Prelude.{Result, Ok, Err, OnOk, IfErr}
 use Rattle.task_seed.specs.declared.table.ReadTableError.TheVariants.{NoMemory as NoTableMemory, BadTable}
 use Rattle.task_seed.specs.declared.table_turns.TableTurnsError.TheVariants.{NoMemory as NoTurnsMemory, GapOutOfRange, TaskOutOfRange, NoSuchComponent}
@@ -50,10 +50,10 @@ left_map kept P Q f (Turns refused) h = h
 left_map kept P Q f (Meeting refused) h = h
 left_map kept P Q f (Write (WriteFailed written)) h = f written h
 
-module _ (has : List ℕ → Type 0) (lacks kept : Type 0) (wrote : List ℕ → Type 0) (table : List ℕ) (is : has table) (small : length table ≤ most_bytes) where
+module _ (has : List ℕ → Type 0) (lacks kept : Type 0) (wrote : List ℕ → Type 0) (cut : List ℕ → ℕ → Type 0) (table : List ℕ) (is : has table) (small : length table ≤ most_bytes) where
   -- the report of a fault is true of the table and of what is left
   pub fault_reported : (fault : FirstFault) → (first_number fault ≢ 1 → first_number fault < 40 → IsRefused table (first_number fault) (first_place fault))
-      → IsLeft kept (λ written. HasText table (λ text. wrote (take written text))) fault → IsFirstReport has lacks kept wrote (report_of (first_number fault) (first_place fault))
+      → IsLeft kept (λ written. HasText table (λ text. cut text written)) fault → IsFirstReport has lacks kept wrote cut (report_of (first_number fault) (first_place fault))
   fault_reported NoMemory refused left = inl (inl (inl (inl refl)), left)
   fault_reported (Table NoTableMemory) refused left = inl (inl (inl (inl refl)), left)
   fault_reported (Table (BadTable line)) refused left = (record { table = table; is = is; small = small; judged = refused (λ h. absurd (omega (arith, h))) (omega arith) }, left)
@@ -63,4 +63,4 @@ module _ (has : List ℕ → Type 0) (lacks kept : Type 0) (wrote : List ℕ →
   fault_reported (Turns (NoSuchComponent line)) refused left = (record { table = table; is = is; small = small; judged = refused (λ h. absurd (omega (arith, h))) (omega arith) }, left)
   fault_reported (Meeting OtherSetup) refused left = inl (inr (inl refl), left)
   fault_reported (Meeting Stranger) refused left = inl (inr (inr refl), left)
-  fault_reported (Write (WriteFailed written)) refused left = inr (record { number_is = refl; written = written; cut = record { table = table; is = is; small = small; judged = left } })
+  fault_reported (Write (WriteFailed written)) refused left = inr (record { number_is = refl; written = written; stopped = record { table = table; is = is; small = small; judged = left } })

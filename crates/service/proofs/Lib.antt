@@ -2,7 +2,9 @@ pub mod Ahead
 pub mod Chunked
 pub mod Faults
 pub mod Floors
+pub mod Pieces
 pub mod Printings
 pub mod Ringed
 pub mod Seen
 pub mod Texts
+pub mod Told

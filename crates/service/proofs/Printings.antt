@@ -1,8 +1,6 @@
 -- What is printed of a file, from what was read of it.
-use Rattle.std.proofs.Common.{◌≡◌, ◌≢◌, inl, inr, ℕ, ◌<◌, ◌≤◌, List, [], ◌∷◌, length, length-append, take, refl, subst, arith}
+use Rattle.std.proofs.Common.{◌≡◌, ◌≢◌, inl, inr, ℕ, ◌≤◌, List, length, take, refl, subst, arith}
 use Rattle.std.proofs.lemmas.List.{length-take}
-use Rattle.ioa_tokens.specs.Tokens.{Tok}
-use Rattle.ioa_tokens.specs.Layout.{following, layout}
 use Rattle.ioa_front.specs.declared.ReadError.{ReadError}
 use Rattle.ioa_front.specs.declared.ReadError.TheVariants as refused
 use Rattle.ioa_front.specs.Reading.{IsRefusal}
@@ -10,24 +8,11 @@ use Rattle.ioa_front.specs.Refusals.{read_number, read_place}
 use Rattle.trace.specs.declared.fault.WriteFault.TheVariants.{WriteFailed}
 use Rattle.service.specs.declared.fault.PrintFault.{PrintFault}
 use Rattle.service.specs.declared.fault.PrintFault.TheVariants as fault
-use Rattle.service.specs.Printing.{IsCutAt, IsPrinted, IsRefusedSource, IsUnprinted}
+use Rattle.service.specs.Printing.{IsPrinted, IsRefusedSource, IsUnprinted}
 use Rattle.service.specs.PrintRefusals.{print_number, print_place}
 use Rattle.service.specs.Reading.{IsReadOf}
 use Rattle.service.specs.Reports.{IsPrintReport, IsSourceWith, report_of}
 use Rattle.service.specs.Whole.{take_whole}
-
-following_is_some : (t : Tok) (us : List Tok) → 0 < length (following t us)
-following_is_some t [] = omega arith
-following_is_some t (u ∷ us) =
-    let rest = following_is_some u us in
-    simp length-append (omega (arith, rest))
-
--- a layout isn't empty
-pub layout_is_some : (ts : List Tok) → 0 < length (layout ts)
-layout_is_some [] = omega arith
-layout_is_some (t ∷ ts) =
-    let rest = following_is_some t ts in
-    simp length-append (omega (arith, rest))
 
 -- what was read within the limit is the whole file
 whole : (all : List ℕ) → length (take 65537 all) ≤ 65536 → take 65537 all ≡ all
@@ -44,7 +29,7 @@ refused_whole all (refused.Syntax at) is = subst (λ source. IsRefusal source (r
 refused_whole all refused.TooLarge is = let cut = length-take 65537 all in omega (arith, is, cut)
 refused_whole all refused.TooDeep is = subst (λ source. IsRefusal source refused.TooDeep) (whole all is.0) is
 
-module _ (has : List ℕ → Type 0) (lacks kept : Type 0) (wrote : List ℕ → Type 0) (read : List ℕ) (is : IsReadOf has 65537 read) where
+module _ (has : List ℕ → Type 0) (lacks kept : Type 0) (wrote : List ℕ → Type 0) (cut : List ℕ → ℕ → Type 0) (read : List ℕ) (is : IsReadOf has 65537 read) where
   -- the report of what was printed is true of the file
   pub print_reported : IsPrinted read wrote → (IsSourceWith has (λ source. IsPrinted source wrote))
   print_reported p = record { source = is.all; is = is.is; judged = printed_whole is.all wrote (subst (λ source. IsPrinted source wrote) is.front p) }
@@ -57,13 +42,11 @@ module _ (has : List ℕ → Type 0) (lacks kept : Type 0) (wrote : List ℕ →
         judged = record { refusal = e; is = refused_whole is.all e (subst (λ source. IsRefusal source e) is.front refusal); judged = other; number_is = refl; place_is = refl };
       }
 
-  cut_whole : (written : ℕ) → IsCutAt read wrote written → IsCutAt is.all wrote written
-  cut_whole written cut =
-      let Cut : List ℕ → Type 0 = λ text. (written < length text) × wrote (take written text) in
-      printed_whole is.all Cut (subst (λ source. IsPrinted source Cut) is.front cut)
+  cut_whole : (written : ℕ) → IsPrinted read (λ text. cut text written) → IsPrinted is.all (λ text. cut text written)
+  cut_whole written p = printed_whole is.all (λ text. cut text written) (subst (λ source. IsPrinted source (λ text. cut text written)) is.front p)
 
   -- and so is the report of a fault
-  pub print_fault_reported : (failed : PrintFault) → IsUnprinted read kept wrote failed → IsPrintReport has lacks kept wrote (report_of (print_number failed) (print_place failed))
+  pub print_fault_reported : (failed : PrintFault) → IsUnprinted read kept cut failed → IsPrintReport has lacks kept wrote cut (report_of (print_number failed) (print_place failed))
   print_fault_reported fault.NoMemory left = inl (inl refl, left)
   print_fault_reported (fault.Source refused.NoMemory) left = inl (inl refl, left.1)
   print_fault_reported (fault.Source (refused.NotAscii at)) left = (told (refused.NotAscii at) (λ e. cc) left.0, left.1)
@@ -72,4 +55,4 @@ module _ (has : List ℕ → Type 0) (lacks kept : Type 0) (wrote : List ℕ →
   print_fault_reported (fault.Source refused.TooLarge) left = (told refused.TooLarge (λ e. cc) left.0, left.1)
   print_fault_reported (fault.Source refused.TooDeep) left = (told refused.TooDeep (λ e. cc) left.0, left.1)
   print_fault_reported (fault.Write (WriteFailed written)) left =
-      inr (record { number_is = refl; written = written; cut = record { source = is.all; is = is.is; judged = cut_whole written left } })
+      inr (record { number_is = refl; written = written; stopped = record { source = is.all; is = is.is; judged = cut_whole written left } })

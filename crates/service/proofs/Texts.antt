@@ -15,6 +15,7 @@ use Rattle.virtual_time.specs.Machine.{Lawful}
 use Rattle.virtual_time.specs.Reference.{Turn}
 use Rattle.compose.specs.declared.plan.Plan.{Plan}
 use Rattle.compose.specs.Ring.{ring_of_two}
+use Rattle.raw_events.specs.Around.{is_nonempty}
 use Rattle.task_seed.specs.Machines.{machine, turn_rank, end_rank}
 use Rattle.task_seed.specs.Turning.{System, has_turns, key_at, key_of, ticks}
 use Rattle.rollback.specs.Dropped.{turn_of}
@@ -57,6 +58,15 @@ same_key k t fits h =
     λ v. record { tick = ticks_are v; component = components_are v; number = numbers_are v }
 
 module _ (plan : Plan) where
+  -- no turns have no text, and some have some
+  pub no_text : (us : List Turned) → is_nonempty us ≡ false → text_of plan All us ≡ []
+  no_text [] h = refl
+  no_text (u ∷ us) h = cc
+
+  pub some_text : (us : List Turned) → is_nonempty us ≡ true → 0 < length (text_of plan All us)
+  some_text [] h = cc
+  some_text (u ∷ us) h = simp length-append (omega arith)
+
   idle_text : (u : Turned) (key : Key) → u.outcome ≡ Idle → u.key ≡ key → text_of plan All (u ∷ []) ≡ idle_line key
   idle_text u key idle is = one_line (line_of plan u) ∙ (λ v. key_text (is v) ++ (outcome_text plan (idle v) ++ 10 ∷ []))
     where

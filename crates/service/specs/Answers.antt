@@ -23,7 +23,7 @@ first_place (Turns refused) = table_turns_place refused
 first_place (Meeting refused) = None
 first_place (Write fault) = None
 
--- what a fault leaves of the output: it is kept, or where a write failed it is cut after so many bytes
+-- what a fault leaves of the output: it is kept, or a write failed and it is cut after so many bytes
 abbrev pub IsLeft : Type 0 → (ℕ → Type 0) → FirstFault → Type 0
 IsLeft kept cut NoMemory = kept
 IsLeft kept cut (Table refused) = kept

@@ -6,4 +6,6 @@ pub mod Printing
 pub mod Reading
 pub mod Reports
 pub mod Tables
+pub mod Told
 pub mod Whole
+pub mod Written

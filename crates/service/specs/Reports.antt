@@ -1,14 +1,15 @@
 -- Statuses, lines and when each report is given.
-use Rattle.std.specs.Prelude.{◌≡◌, ◌⊎◌, ◌<◌, ◌≤◌, ◌==◌, ◌||◌, nat_le, ℕ, if◌then◌else◌, Option, None, Some, List, [], ◌++◌, length, take, codes, decimal}
+use Rattle.std.specs.Prelude.{◌≡◌, ◌⊎◌, ◌<◌, ◌≤◌, ◌==◌, ◌||◌, nat_le, ℕ, if◌then◌else◌, Option, None, Some, List, [], ◌++◌, length, codes, decimal}
 use Rattle.clap.specs.declared.error.ErrorKind.TheVariants.{DisplayHelp}
 use Rattle.command_line.specs.declared.Asked.{Asked}
 use Rattle.command_line.specs.declared.Asked.TheVariants as asked
 use Rattle.command_line.specs.Words.{AskNothing, HasFault, IsAsked, IsWrong}
 use Rattle.service.specs.declared.report.Report.{Report}
 use Rattle.service.specs.declared.report.Report.TheVariants.{Done, Refused, Fault, Misused}
-use Rattle.service.specs.Printing.{IsCutAt, IsPrinted, IsRefusedSource}
+use Rattle.service.specs.Printing.{IsPrinted, IsRefusedSource}
 use Rattle.service.specs.Tables.{IsAccepted, IsRefused}
 use Rattle.service.specs.First.{HasText}
+use Rattle.service.specs.Written.{SomeText}
 
 abbrev pub status_of : Report → ℕ
 status_of Done = 0
@@ -51,69 +52,75 @@ pub record IsTableWith (has : List ℕ → Type 0) (Judged : List ℕ → Type 0
   pub small : length table ≤ most_bytes
   pub judged : Judged table
 
--- a write failed (60): just the first bytes of the table's text went out
-pub record IsWriteFault (has : List ℕ → Type 0) (wrote : List ℕ → Type 0) (number : ℕ) : Type 0 where
+-- a write failed (60), and the table's text is cut after so many bytes
+pub record IsWriteFault (has : List ℕ → Type 0) (cut : List ℕ → ℕ → Type 0) (number : ℕ) : Type 0 where
   pub number_is : number ≡ 60
   pub written : ℕ
-  pub cut : IsTableWith has (λ table. HasText table (λ text. wrote (take written text)))
+  pub stopped : IsTableWith has (λ table. HasText table (λ text. cut text written))
 
 -- a lease was refused (40 or 41)
 abbrev pub IsMeetFault : ℕ → Type 0
 IsMeetFault number = (number ≡ 40) ⊎ (number ≡ 41)
 
 -- a fault comes of the file or of a refused lease, and the output is kept, or of a failed write
-abbrev pub IsFault : (List ℕ → Type 0) → Type 0 → Type 0 → (List ℕ → Type 0) → ℕ → Type 0
-IsFault has lacks kept wrote number = ((IsFileFault has lacks number ⊎ IsMeetFault number) × kept) ⊎ IsWriteFault has wrote number
+abbrev pub IsFault : (List ℕ → Type 0) → Type 0 → Type 0 → (List ℕ → ℕ → Type 0) → ℕ → Type 0
+IsFault has lacks kept cut number = ((IsFileFault has lacks number ⊎ IsMeetFault number) × kept) ⊎ IsWriteFault has cut number
 
--- The report on a table file that has these bytes, or can't be read, where the output was kept or a text was written to it.
-abbrev pub IsFirstReport : (List ℕ → Type 0) → Type 0 → Type 0 → (List ℕ → Type 0) → Report → Type 0
-IsFirstReport has lacks kept wrote Done = IsTableWith has (λ table. IsAccepted table × HasText table wrote)
-IsFirstReport has lacks kept wrote (Refused number place) = IsTableWith has (λ table. IsRefused table number place) × kept
-IsFirstReport has lacks kept wrote (Fault number) = IsFault has lacks kept wrote number
-IsFirstReport has lacks kept wrote Misused = ⊥
+-- The report on a table file that has these bytes, or can't be read, where the output was kept, a text was written to it, or a write failed
+-- after so many bytes of a text.
+abbrev pub IsFirstReport : (List ℕ → Type 0) → Type 0 → Type 0 → (List ℕ → Type 0) → (List ℕ → ℕ → Type 0) → Report → Type 0
+IsFirstReport has lacks kept wrote cut Done = IsTableWith has (λ table. IsAccepted table × HasText table wrote)
+IsFirstReport has lacks kept wrote cut (Refused number place) = IsTableWith has (λ table. IsRefused table number place) × kept
+IsFirstReport has lacks kept wrote cut (Fault number) = IsFault has lacks kept cut number
+IsFirstReport has lacks kept wrote cut Misused = ⊥
 
 pub record IsSourceWith (has : List ℕ → Type 0) (Judged : List ℕ → Type 0) : Type 0 where
   pub source : List ℕ
   pub is : has source
   pub judged : Judged source
 
--- a write failed (60): just the first bytes of the source's layout went out
-pub record IsPrintCut (has : List ℕ → Type 0) (wrote : List ℕ → Type 0) (number : ℕ) : Type 0 where
+-- a write failed (60), and the source's layout is cut after so many bytes
+pub record IsPrintCut (has : List ℕ → Type 0) (cut : List ℕ → ℕ → Type 0) (number : ℕ) : Type 0 where
   pub number_is : number ≡ 60
   pub written : ℕ
-  pub cut : IsSourceWith has (λ source. IsCutAt source wrote written)
+  pub stopped : IsSourceWith has (λ source. IsPrinted source (λ text. cut text written))
 
--- The report on a source file that has these bytes, or can't be read, where the output was kept or a text was written to it.
-abbrev pub IsPrintReport : (List ℕ → Type 0) → Type 0 → Type 0 → (List ℕ → Type 0) → Report → Type 0
-IsPrintReport has lacks kept wrote Done = IsSourceWith has (λ source. IsPrinted source wrote)
-IsPrintReport has lacks kept wrote (Refused number place) = IsSourceWith has (λ source. IsRefusedSource source number place) × kept
-IsPrintReport has lacks kept wrote (Fault number) = (IsUnread lacks number × kept) ⊎ IsPrintCut has wrote number
-IsPrintReport has lacks kept wrote Misused = ⊥
+-- The report on a source file that has these bytes, or can't be read, where the same became of the output.
+abbrev pub IsPrintReport : (List ℕ → Type 0) → Type 0 → Type 0 → (List ℕ → Type 0) → (List ℕ → ℕ → Type 0) → Report → Type 0
+IsPrintReport has lacks kept wrote cut Done = IsSourceWith has (λ source. IsPrinted source wrote)
+IsPrintReport has lacks kept wrote cut (Refused number place) = IsSourceWith has (λ source. IsRefusedSource source number place) × kept
+IsPrintReport has lacks kept wrote cut (Fault number) = (IsUnread lacks number × kept) ⊎ IsPrintCut has cut number
+IsPrintReport has lacks kept wrote cut Misused = ⊥
 
 -- the report on what is asked for
-abbrev pub IsReportOn : Asked → (List ℕ → List ℕ → Type 0) → (List ℕ → Type 0) → Type 0 → (List ℕ → Type 0) → Report → Type 0
+abbrev pub IsReportOn : Asked → (List ℕ → List ℕ → Type 0) → (List ℕ → Type 0) → Type 0 → (List ℕ → Type 0) → (List ℕ → ℕ → Type 0) → Report → Type 0
 IsReportOn (asked.Print source) has lacks = IsPrintReport (has source.now) (lacks source.now)
 IsReportOn (asked.First table) has lacks = IsFirstReport (has table.now) (lacks table.now)
 
 -- the words ask for something, and this is the report on it
-pub record IsReportOnAsked (words : List (List ℕ)) (has : List ℕ → List ℕ → Type 0) (lacks : List ℕ → Type 0) (kept : Type 0) (wrote : List ℕ → Type 0) (report : Report) : Type 0 where
+pub record IsReportOnAsked (words : List (List ℕ)) (has : List ℕ → List ℕ → Type 0) (lacks : List ℕ → Type 0) (kept : Type 0) (wrote : List ℕ → Type 0) (cut : List ℕ → ℕ → Type 0) (report : Report) : Type 0 where
   pub what : Asked
   pub is : IsAsked words what
-  pub on : IsReportOn what has lacks kept wrote report
+  pub on : IsReportOn what has lacks kept wrote cut report
 
--- the words ask for help, and a text went out
-pub record IsHelped (words : List (List ℕ)) (wrote : List ℕ → Type 0) : Type 0 where
+-- the words ask for help, and this became of a text
+pub record IsHelped (words : List (List ℕ)) (Became : List ℕ → Type 0) : Type 0 where
   pub asked : HasFault words DisplayHelp
-  pub text : List ℕ
-  pub went : wrote text
+  pub went : SomeText Became
+
+-- a write of help's text failed (60)
+pub record IsHelpCut (words : List (List ℕ)) (cut : List ℕ → ℕ → Type 0) (number : ℕ) : Type 0 where
+  pub number_is : number ≡ 60
+  pub written : ℕ
+  pub stopped : IsHelped words (λ text. cut text written)
 
 -- The report on words that aren't served: help, want of memory (1), a failed write of help's text (60), or words of another program.
-abbrev pub IsUnserved : List (List ℕ) → Type 0 → (List ℕ → Type 0) → Report → Type 0
-IsUnserved words kept wrote Done = IsHelped words wrote
-IsUnserved words kept wrote (Refused number place) = ⊥
-IsUnserved words kept wrote (Fault number) = ((number ≡ 1) × kept) ⊎ ((number ≡ 60) × IsHelped words wrote)
-IsUnserved words kept wrote Misused = (IsWrong words ⊎ AskNothing words) × kept
+abbrev pub IsUnserved : List (List ℕ) → Type 0 → (List ℕ → Type 0) → (List ℕ → ℕ → Type 0) → Report → Type 0
+IsUnserved words kept wrote cut Done = IsHelped words wrote
+IsUnserved words kept wrote cut (Refused number place) = ⊥
+IsUnserved words kept wrote cut (Fault number) = ((number ≡ 1) × kept) ⊎ IsHelpCut words cut number
+IsUnserved words kept wrote cut Misused = (IsWrong words ⊎ AskNothing words) × kept
 
 -- the report on the words after the program's name
-abbrev pub IsReport : List (List ℕ) → (List ℕ → List ℕ → Type 0) → (List ℕ → Type 0) → Type 0 → (List ℕ → Type 0) → Report → Type 0
-IsReport words has lacks kept wrote report = IsReportOnAsked words has lacks kept wrote report ⊎ IsUnserved words kept wrote report
+abbrev pub IsReport : List (List ℕ) → (List ℕ → List ℕ → Type 0) → (List ℕ → Type 0) → Type 0 → (List ℕ → Type 0) → (List ℕ → ℕ → Type 0) → Report → Type 0
+IsReport words has lacks kept wrote cut report = IsReportOnAsked words has lacks kept wrote cut report ⊎ IsUnserved words kept wrote cut report

@@ -1,8 +1,9 @@
 //! The exchange's part of the first path: one turn ahead, the meetings that follow, and their chunk of turns.
-ghost use Rattle.std.specs.Prelude.{◌≡◌, ◌<◌, List, [], ◌∷◌, take, IfOk, OnOk, IfErr};
+ghost use Rattle.std.specs.Prelude.{◌≡◌, ◌<◌, List, [], ◌∷◌, IfOk, OnOk, IfErr};
 ghost use Rattle.std.specs.Arc.{arc_value};
 ghost use Rattle.std.specs.Io.KnownBytes.{Appends};
 ghost use Rattle.event_keys.specs.declared.outcome.Turned.{Turned as TurnedValue};
+ghost use Rattle.raw_events.specs.Around.{is_nonempty};
 ghost use Rattle.antimessage.specs.Order.{KeyFits};
 ghost use Rattle.compose.specs.Plans.{composition};
 ghost use Rattle.compose.specs.Ring.{ring_of_two};
@@ -17,6 +18,7 @@ ghost use Rattle.trace.specs.declared.lines.Lines.TheVariants.{All};
 ghost use Rattle.service.specs.First.{text_of_first};
 ghost use Rattle.service.specs.Gathered.{IsGathered, IsMet, idle_before};
 ghost use Rattle.service.specs.Answers.{IsLeft, IsRunFault, first_number};
+ghost use Rattle.service.specs.Written.{IsStopped, IsWritten};
 
 use crate::fault::FirstFault;
 use compose::Plan;
@@ -113,12 +115,15 @@ pub(crate) fn write_first<T: Turns, W: Write>(
     requires ring { composition (plan_of setup.now) ≡ ring_of_two }
     requires front { turns.now.before ≡ [] }
     requires turns { turns_of turns.now.after ≡ idle_before (machine_of T.turn_of setup.now) }
-    ensures written { OnOk result (Appends (W.contents (writer_of out.old)) (W.contents (writer_of out.new)) (text_of_first (system T.turn_of setup.now))) }
-    ensures left { IfErr result (IsLeft (out.new ≡ out.old) (λ written. Appends (W.contents (writer_of out.old)) (W.contents (writer_of out.new)) (take written (text_of_first (system T.turn_of setup.now))))) }
+    ensures written { OnOk result (IsWritten W.contents out.old out.new (text_of_first (system T.turn_of setup.now))) }
+    ensures left { IfErr result (IsLeft (out.new ≡ out.old) (IsStopped W.contents out.old out.new (text_of_first (system T.turn_of setup.now)))) }
     ensures number { IfErr result (λ fault. first_number fault ≡ 60) }
 {
     machine_is_lawful(setup);
     fits_text(turns);
+    if !has_turns(turns) {
+        return Ok(());
+    }
     if out.failures() == u64::MAX {
         return Err(FirstFault::Write(WriteFault::WriteFailed(0)));
     }
@@ -136,9 +141,17 @@ fn write_chunk<W: Write>(
     requires failures { failures_of out.old < u64.MAX }
     requires front { turns.now.before ≡ [] }
     ensures ok { OnOk result (Appends (W.contents (writer_of out.old)) (W.contents (writer_of out.new)) (text_of plan.now All turns.now.after)) }
+    ensures ok_failures { OnOk result (failures_of out.new ≡ failures_of out.old) }
     ensures err { IfErr result (λ fault. Stops W.contents out.old out.new 0 (text_of plan.now All turns.now.after) fault) }
 {
     write_turns(plan, turns.iter(), Lines::All, out)
+}
+
+// Whether there are turns after the cursor.
+fn has_turns(turns: &EventList<Turned>) -> bool
+    ensures { result ≡ is_nonempty turns.now.after }
+{
+    turns.peek_next().is_some()
 }
 
 // The numbers of the first turn's key fit their types.

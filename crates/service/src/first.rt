@@ -1,16 +1,15 @@
 //! The first path: a table for the ring of two, run as far as one turn and the meetings after it lead.
-ghost use Rattle.std.specs.Prelude.{◌≡◌, ◌≢◌, ◌<◌, ◌≤◌, ℕ, All, [], take, length, slice_get, IfErr, IfOk, OnOk};
+ghost use Rattle.std.specs.Prelude.{◌≡◌, ◌≢◌, ◌<◌, ◌≤◌, ℕ, All, [], length, slice_get, IfErr, IfOk, OnOk};
 ghost use Rattle.std.specs.Arc.{arc_value};
-ghost use Rattle.std.specs.Io.KnownBytes.{Appends};
 ghost use Rattle.compose.specs.Plans.{composition};
 ghost use Rattle.compose.specs.Ring.{ring_of_two};
 ghost use Rattle.task_seed.specs.Faults.{HasFault, IsFirstFault};
 ghost use Rattle.task_seed.specs.Given.{table_turn};
 ghost use Rattle.task_seed.specs.Setups.{plan_of, system};
-ghost use Rattle.trace.specs.Counts.{writer_of};
 ghost use Rattle.service.specs.Answers.{first_number, first_place, IsLeft, IsTableFault};
 ghost use Rattle.service.specs.First.{HasText, first_text, ring_with, text_of_first};
 ghost use Rattle.service.specs.Tables.{IsAccepted, IsRefused};
+ghost use Rattle.service.specs.Written.{IsStopped, IsWritten};
 
 use crate::exchanged::{first_turns, write_first};
 use crate::fault::FirstFault;
@@ -35,9 +34,9 @@ pub fn first_run<W: Write>(
     out: &mut Counted<W>,
 ) -> Result<(), FirstFault>
     ensures accepted { OnOk result (IsAccepted table.now) }
-    ensures written { OnOk result (HasText table.now (Appends (W.contents (writer_of out.old)) (W.contents (writer_of out.new)))) }
+    ensures written { OnOk result (HasText table.now (IsWritten W.contents out.old out.new)) }
     ensures refused { IfErr result (λ fault. first_number fault ≢ 1 → first_number fault < 40 → IsRefused table.now (first_number fault) (first_place fault)) }
-    ensures left { IfErr result (IsLeft (out.new ≡ out.old) (λ written. HasText table.now (λ text. Appends (W.contents (writer_of out.old)) (W.contents (writer_of out.new)) (take written text)))) }
+    ensures left { IfErr result (IsLeft (out.new ≡ out.old) (λ written. HasText table.now (λ text. IsStopped W.contents out.old out.new text written))) }
 {
     let rows = match read_table(alloc, table) {
         Ok(rows) => rows,
@@ -49,9 +48,9 @@ pub fn first_run<W: Write>(
 // Judges the rows, and runs the ring with them.
 fn run_rows<W: Write>(alloc: Global, rows: &[Row], out: &mut Counted<W>) -> Result<(), FirstFault>
     ensures sound { OnOk result (All (λ row. (number : ℕ) → HasFault ring_of_two row number → ⊥) rows.now) }
-    ensures written { OnOk result (Appends (W.contents (writer_of out.old)) (W.contents (writer_of out.new)) (first_text rows.now)) }
+    ensures written { OnOk result (IsWritten W.contents out.old out.new (first_text rows.now)) }
     ensures refused { IfErr result (λ fault. first_number fault ≢ 1 → first_number fault < 40 → IsFirstFault ring_of_two rows.now (first_number fault) (first_place fault)) }
-    ensures left { IfErr result (IsLeft (out.new ≡ out.old) (λ written. Appends (W.contents (writer_of out.old)) (W.contents (writer_of out.new)) (take written (first_text rows.now)))) }
+    ensures left { IfErr result (IsLeft (out.new ≡ out.old) (IsStopped W.contents out.old out.new (first_text rows.now))) }
 {
     let setup = match ring_setup(alloc, rows) {
         Ok(setup) => setup,
@@ -87,8 +86,8 @@ fn run<T: Turns, W: Write>(
     out: &mut Counted<W>,
 ) -> Result<(), FirstFault>
     requires ring { composition (plan_of (arc_value setup.now)) ≡ ring_of_two }
-    ensures written { OnOk result (Appends (W.contents (writer_of out.old)) (W.contents (writer_of out.new)) (text_of_first (system T.turn_of (arc_value setup.now)))) }
-    ensures left { IfErr result (IsLeft (out.new ≡ out.old) (λ written. Appends (W.contents (writer_of out.old)) (W.contents (writer_of out.new)) (take written (text_of_first (system T.turn_of (arc_value setup.now)))))) }
+    ensures written { OnOk result (IsWritten W.contents out.old out.new (text_of_first (system T.turn_of (arc_value setup.now)))) }
+    ensures left { IfErr result (IsLeft (out.new ≡ out.old) (IsStopped W.contents out.old out.new (text_of_first (system T.turn_of (arc_value setup.now))))) }
     ensures number { IfErr result (λ fault. first_number fault ≢ 1 → 40 ≤ first_number fault) }
 {
     try_first_turn(alloc, Arc::try_clone(setup)?)?;

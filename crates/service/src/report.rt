@@ -1,10 +1,12 @@
 //! What the program answers, and how it says so.
-ghost use Rattle.std.specs.Prelude.{◌≡◌, OnOk, IsOk};
-ghost use Rattle.std.specs.Io.KnownBytes.{Appends};
+ghost use Rattle.std.specs.Prelude.{◌≡◌, ◌⊎◌, OnErr, OnOk, Some};
 ghost use Rattle.service.specs.Reports.{status_of, line_of, report_of};
+ghost use Rattle.service.specs.Written.{IsCut, IsSaid, IsWritten};
 
-use std::io::{self, Write};
+use crate::writing::{write_line, write_number};
+use std::io::Write;
 use terms::Refusal;
+use trace::{Counted, WriteFault};
 
 /// How a call of the program ended.
 #[derive(Clone, Copy, Debug, PartialEq, Eq)]
@@ -33,18 +35,33 @@ impl Report {
         }
     }
 
-    /// Writes the line of a report, if it has one.
-    pub fn tell<E: Write>(self, err: &mut E) -> io::Result<()>
-        ensures said { OnOk result (Appends (E.contents err.old) (E.contents err.new) (line_of self)) }
-        ensures quiet { self ≡ Report.Done → IsOk result × (err.new ≡ err.old) }
+    /// Writes the line of a report, if it has one, up to the first write that fails.
+    pub fn tell<E: Write>(self, err: &mut Counted<E>)
+        ensures said { IsSaid E.contents err.old err.new (line_of self) }
+        ensures quiet { (self ≡ Report.Done) ⊎ (self ≡ Report.Misused) → err.new ≡ err.old }
     {
         match self {
-            Report::Done | Report::Misused => Ok(()),
-            Report::Refused(number, Some(place)) => writeln!(err, "refused {number} at {place}"),
-            Report::Refused(number, None) => writeln!(err, "refused {number}"),
-            Report::Fault(number) => writeln!(err, "fault {number}"),
+            Report::Done | Report::Misused => {}
+            Report::Refused(number, Some(place)) => {
+                let _ = write_refused(u64::from(number), place as u64, err);
+            }
+            Report::Refused(number, None) => {
+                let _ = write_line(b"refused ", u64::from(number), err);
+            }
+            Report::Fault(number) => {
+                let _ = write_line(b"fault ", u64::from(number), err);
+            }
         }
     }
+}
+
+// The line of a refusal with its place.
+fn write_refused<E: Write>(number: u64, place: u64, err: &mut Counted<E>) -> Result<(), WriteFault>
+    ensures ok { OnOk result (IsWritten E.contents err.old err.new (line_of (Report.Refused number (Some place)))) }
+    ensures err { OnErr result (IsCut E.contents err.old err.new (line_of (Report.Refused number (Some place)))) }
+{
+    write_number(b"refused ", number, err)?;
+    write_line(b" at ", place, err)
 }
 
 /// The report of a refusal: want of memory and what befalls a run, from 40 on, are faults.

@@ -1,20 +1,21 @@
 //! The words of the command line, served.
-ghost use Rattle.std.specs.Prelude.{◌≡◌, ◌≤◌, ℕ, List, IfOk, IfErr, length, map, string_bytes};
-ghost use Rattle.std.specs.Io.KnownBytes.{Appends};
+ghost use Rattle.std.specs.Prelude.{◌≡◌, ◌≢◌, ◌≤◌, ◌<◌, ℕ, List, IfOk, IfErr, length, map, string_bytes};
 ghost use Rattle.clap.specs.declared.error.ErrorKind.TheVariants.{DisplayHelp};
 ghost use Rattle.command_line.specs.Words.{HasFault, IsRefused};
 ghost use Rattle.service.specs.declared.report.Report.{Report};
-ghost use Rattle.trace.specs.Counts.{writer_of};
 ghost use Rattle.service.specs.Reading.{IsReadOf};
 ghost use Rattle.service.specs.Reports.{status_of, IsReport, IsReportOn, IsFirstReport, IsPrintReport, IsFileFault, IsUnread, IsUnserved, most_bytes};
+ghost use Rattle.service.specs.Told.{IsTold, IsWarned};
+ghost use Rattle.service.specs.Written.{IsStopped, IsWritten};
 
 use crate::files::{FileFault, Files};
 use crate::first::first_run;
-use crate::printing::{print_source, write_text};
+use crate::printing::print_source;
 use crate::report::{Report, report_of};
+use crate::writing::{say, write_text};
 use clap::error::Error;
 use command_line::{Asked, Refused, read_words};
-use std::alloc::Global;
+use std::alloc::{AllocError, Global};
 use std::io::Write;
 use terms::Refusal;
 use trace::Counted;
@@ -26,18 +27,18 @@ pub const MOST_BYTES: u64 = 16_777_216;
 const SOURCE_BYTES: u64 = ioa_front::MOST_BYTES as u64 + 1;
 
 /// Serves the words after the program's name: what is asked goes to `out`, as help does; faults and what is wrong with the words go to
-/// `err`, and the answer is the exit status. A failed write to `err` is passed over.
+/// `err`, up to the first write that fails there, and the answer is the exit status.
 pub fn serve<F: Files, W: Write, E: Write>(
     alloc: Global,
     words: &[String],
     files: &F,
     out: &mut Counted<W>,
-    err: &mut E,
+    err: &mut Counted<E>,
 ) -> u8
-    ensures status { (report : Report) × (result ≡ status_of report) × IsReport (map string_bytes words.now) (F.has files.now) (F.lacks files.now) (out.new ≡ out.old) (Appends (W.contents (writer_of out.old)) (W.contents (writer_of out.new))) report }
+    ensures status { (report : Report) × (result ≡ status_of report) × IsReport (map string_bytes words.now) (F.has files.now) (F.lacks files.now) (out.new ≡ out.old) (IsWritten W.contents out.old out.new) (IsStopped W.contents out.old out.new) report × IsTold E.contents err.old err.new report }
 {
     let report = answer(alloc, words, files, out, err);
-    let _ = report.tell(err);
+    report.tell(err);
     report.status()
 }
 
@@ -46,9 +47,10 @@ fn answer<F: Files, W: Write, E: Write>(
     words: &[String],
     files: &F,
     out: &mut Counted<W>,
-    err: &mut E,
+    err: &mut Counted<E>,
 ) -> Report
-    ensures report { IsReport (map string_bytes words.now) (F.has files.now) (F.lacks files.now) (out.new ≡ out.old) (Appends (W.contents (writer_of out.old)) (W.contents (writer_of out.new))) result }
+    ensures report { IsReport (map string_bytes words.now) (F.has files.now) (F.lacks files.now) (out.new ≡ out.old) (IsWritten W.contents out.old out.new) (IsStopped W.contents out.old out.new) result }
+    ensures warned { IsWarned E.contents err.old err.new result }
 {
     match read_words(alloc, words) {
         Ok(asked) => do_asked(alloc, asked, files, out),
@@ -63,7 +65,7 @@ fn do_asked<F: Files, W: Write>(
     files: &F,
     out: &mut Counted<W>,
 ) -> Report
-    ensures report { IsReportOn asked.entry (F.has files.now) (F.lacks files.now) (out.new ≡ out.old) (Appends (W.contents (writer_of out.old)) (W.contents (writer_of out.new))) result }
+    ensures report { IsReportOn asked.entry (F.has files.now) (F.lacks files.now) (out.new ≡ out.old) (IsWritten W.contents out.old out.new) (IsStopped W.contents out.old out.new) result }
 {
     match asked {
         Asked::Print { source } => print_file(alloc, source, files, out),
@@ -76,24 +78,41 @@ fn refuse<W: Write, E: Write>(
     alloc: Global,
     refused: &Refused,
     out: &mut Counted<W>,
-    err: &mut E,
+    err: &mut Counted<E>,
 ) -> Report
-    ensures report { (words : List (List ℕ)) → IsRefused words refused.now → IsUnserved words (out.new ≡ out.old) (Appends (W.contents (writer_of out.old)) (W.contents (writer_of out.new))) result }
+    ensures report { (words : List (List ℕ)) → IsRefused words refused.now → IsUnserved words (out.new ≡ out.old) (IsWritten W.contents out.old out.new) (IsStopped W.contents out.old out.new) result }
+    ensures warned { IsWarned E.contents err.old err.new result }
 {
     match refused {
         Refused::NoMemory => Report::Fault(1),
         Refused::Help(error) => help(alloc, error, out),
         Refused::Words(error) => {
-            let _ = write!(err, "{error}");
+            let text = match text_of(alloc, error) {
+                Ok(text) => text,
+                Err(_) => return Report::Fault(1),
+            };
+            say(text.as_str().as_bytes(), err);
             Report::Misused
         }
     }
 }
 
-fn help<W: Write>(alloc: Global, error: &Error, out: &mut Counted<W>) -> Report
-    ensures report { (words : List (List ℕ)) → HasFault words DisplayHelp → IsUnserved words (out.new ≡ out.old) (Appends (W.contents (writer_of out.old)) (W.contents (writer_of out.new))) result }
+// The text of an error, or a line feed where it has none.
+fn text_of(alloc: Global, error: &Error) -> Result<String, AllocError>
+    ensures { IfOk result (λ text. 0 < length (string_bytes text)) }
 {
-    let text = match format!(in alloc; "{error}") {
+    let mut text = format!(in alloc; "{error}")?;
+    if text.is_empty() {
+        text.push('\n')?;
+    }
+    Ok(text)
+}
+
+fn help<W: Write>(alloc: Global, error: &Error, out: &mut Counted<W>) -> Report
+    ensures report { (words : List (List ℕ)) → HasFault words DisplayHelp → IsUnserved words (out.new ≡ out.old) (IsWritten W.contents out.old out.new) (IsStopped W.contents out.old out.new) result }
+    ensures other { result ≢ Report.Misused }
+{
+    let text = match text_of(alloc, error) {
         Ok(text) => text,
         Err(_) => return Report::Fault(1),
     };
@@ -104,7 +123,7 @@ fn help<W: Write>(alloc: Global, error: &Error, out: &mut Counted<W>) -> Report
 }
 
 fn judge<F: Files, W: Write>(alloc: Global, name: &str, files: &F, out: &mut Counted<W>) -> Report
-    ensures report { IsFirstReport (F.has files.now name.now) (F.lacks files.now name.now) (out.new ≡ out.old) (Appends (W.contents (writer_of out.old)) (W.contents (writer_of out.new))) result }
+    ensures report { IsFirstReport (F.has files.now name.now) (F.lacks files.now name.now) (out.new ≡ out.old) (IsWritten W.contents out.old out.new) (IsStopped W.contents out.old out.new) result }
 {
     let table = match read_whole(alloc, name, files) {
         Ok(table) => table,
@@ -122,7 +141,7 @@ fn print_file<F: Files, W: Write>(
     files: &F,
     out: &mut Counted<W>,
 ) -> Report
-    ensures report { IsPrintReport (F.has files.now name.now) (F.lacks files.now name.now) (out.new ≡ out.old) (Appends (W.contents (writer_of out.old)) (W.contents (writer_of out.new))) result }
+    ensures report { IsPrintReport (F.has files.now name.now) (F.lacks files.now name.now) (out.new ≡ out.old) (IsWritten W.contents out.old out.new) (IsStopped W.contents out.old out.new) result }
 {
     let source = match read_front(alloc, name, SOURCE_BYTES, files) {
         Ok(source) => source,

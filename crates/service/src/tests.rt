@@ -93,7 +93,7 @@ fn tables_are_run_or_refused(rt: HostRuntime) -> Result<(), Fail> {
         };
         let held = Vec::new(alloc);
         let mut out = Counted::new(Narrow { held, room });
-        let mut err = Vec::new(alloc);
+        let mut err = Counted::new(Vec::new(alloc));
         let ended = serve(
             alloc,
             words(alloc, &["first", "table"])?.as_slice(),
@@ -102,7 +102,7 @@ fn tables_are_run_or_refused(rt: HostRuntime) -> Result<(), Fail> {
             &mut err,
         );
         assert_eq!(rt; ended, status, "{table}");
-        assert_eq!(rt; err.as_slice(), said.as_bytes(), "{table}");
+        assert_eq!(rt; err.into_inner().as_slice(), said.as_bytes(), "{table}");
         assert_eq!(rt;
             out.into_inner().held.as_slice(),
             printed.as_bytes(),
@@ -121,7 +121,7 @@ fn files_that_are_missing(rt: HostRuntime) -> Result<(), Fail> {
     };
     for command in ["first", "print"] {
         let mut out = Counted::new(Vec::new(alloc));
-        let mut err = Vec::new(alloc);
+        let mut err = Counted::new(Vec::new(alloc));
         let ended = serve(
             alloc,
             words(alloc, &[command, "missing"])?.as_slice(),
@@ -130,7 +130,11 @@ fn files_that_are_missing(rt: HostRuntime) -> Result<(), Fail> {
             &mut err,
         );
         assert_eq!(rt; ended, 3, "{command}");
-        assert_eq!(rt; err.as_slice(), "fault 63\n".as_bytes(), "{command}");
+        assert_eq!(rt;
+            err.into_inner().as_slice(),
+            "fault 63\n".as_bytes(),
+            "{command}"
+        );
         assert!(rt; out.into_inner().is_empty(), "{command}");
     }
     Ok(())
@@ -156,7 +160,7 @@ fn wrong_words_and_help(rt: HostRuntime) -> Result<(), Fail> {
     ];
     for (said, status, part) in rows {
         let mut out = Counted::new(Vec::new(alloc));
-        let mut err = Vec::new(alloc);
+        let mut err = Counted::new(Vec::new(alloc));
         let ended = serve(
             alloc,
             words(alloc, said)?.as_slice(),
@@ -166,7 +170,7 @@ fn wrong_words_and_help(rt: HostRuntime) -> Result<(), Fail> {
         );
         assert_eq!(rt; ended, status, "{part}");
         let printed = String::from_utf8(out.into_inner())?;
-        let said = String::from_utf8(err)?;
+        let said = String::from_utf8(err.into_inner())?;
         if status == 0 {
             assert!(rt; printed.as_str().contains(part), "{printed}");
             assert!(rt; said.as_str().is_empty(), "{said}");
@@ -187,7 +191,7 @@ fn help_that_is_cut(rt: HostRuntime) -> Result<(), Fail> {
     };
     let held = Vec::new(alloc);
     let mut out = Counted::new(Narrow { held, room: 5 });
-    let mut err = Vec::new(alloc);
+    let mut err = Counted::new(Vec::new(alloc));
     let ended = serve(
         alloc,
         words(alloc, &["help"])?.as_slice(),
@@ -196,7 +200,7 @@ fn help_that_is_cut(rt: HostRuntime) -> Result<(), Fail> {
         &mut err,
     );
     assert_eq!(rt; ended, 3);
-    assert_eq!(rt; err.as_slice(), "fault 60\n".as_bytes());
+    assert_eq!(rt; err.into_inner().as_slice(), "fault 60\n".as_bytes());
     assert_eq!(rt; out.into_inner().held.len(), 5);
     Ok(())
 }
@@ -232,7 +236,7 @@ fn sources_are_printed_or_refused(rt: HostRuntime) -> Result<(), Fail> {
         };
         let held = Vec::new(alloc);
         let mut out = Counted::new(Narrow { held, room });
-        let mut err = Vec::new(alloc);
+        let mut err = Counted::new(Vec::new(alloc));
         let ended = serve(
             alloc,
             words(alloc, &["print", "source"])?.as_slice(),
@@ -240,7 +244,7 @@ fn sources_are_printed_or_refused(rt: HostRuntime) -> Result<(), Fail> {
             &mut out,
             &mut err,
         );
-        assert_eq!(rt; err.as_slice(), said.as_bytes(), "{printed}");
+        assert_eq!(rt; err.into_inner().as_slice(), said.as_bytes(), "{printed}");
         assert_eq!(rt; ended, status, "{printed}");
         assert_eq!(rt;
             out.into_inner().held.as_slice(),
@@ -272,7 +276,7 @@ fn the_limit_of_a_source(rt: HostRuntime) -> Result<(), Fail> {
             bytes: bytes.as_slice(),
         };
         let mut out = Counted::new(Vec::new(alloc));
-        let mut err = Vec::new(alloc);
+        let mut err = Counted::new(Vec::new(alloc));
         let ended = serve(
             alloc,
             words(alloc, &["print", "source"])?.as_slice(),
@@ -280,7 +284,7 @@ fn the_limit_of_a_source(rt: HostRuntime) -> Result<(), Fail> {
             &mut out,
             &mut err,
         );
-        assert_eq!(rt; err.as_slice(), said.as_bytes());
+        assert_eq!(rt; err.into_inner().as_slice(), said.as_bytes());
         assert_eq!(rt; ended, status);
         assert_eq!(rt; out.into_inner().as_slice(), printed.as_bytes());
     }
@@ -304,7 +308,7 @@ fn the_limit_of_a_table(rt: HostRuntime) -> Result<(), Fail> {
             bytes: bytes.as_slice(),
         };
         let mut out = Counted::new(Vec::new(alloc));
-        let mut err = Vec::new(alloc);
+        let mut err = Counted::new(Vec::new(alloc));
         let ended = serve(
             alloc,
             words(alloc, &["first", "table"])?.as_slice(),
@@ -313,7 +317,7 @@ fn the_limit_of_a_table(rt: HostRuntime) -> Result<(), Fail> {
             &mut err,
         );
         assert_eq!(rt; ended, status);
-        assert_eq!(rt; err.as_slice(), said.as_bytes());
+        assert_eq!(rt; err.into_inner().as_slice(), said.as_bytes());
     }
     Ok(())
 }

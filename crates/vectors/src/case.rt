@@ -59,12 +59,12 @@ impl Case {
         };
         let files = CaseFiles { files };
         let mut out = Counted::new(Vec::new(alloc));
-        let mut err = Vec::new(alloc);
+        let mut err = Counted::new(Vec::new(alloc));
         let status = serve(alloc, words.as_slice(), &files, &mut out, &mut err);
         let status_is_right = self.value.get("status").and_then(Value::as_u64)
             == Some(u64::from(status));
         let out_is_right = self.has_text(alloc, "stdout", out.into_inner().as_slice())?;
-        let err_is_right = self.has_text(alloc, "stderr", err.as_slice())?;
+        let err_is_right = self.has_text(alloc, "stderr", err.into_inner().as_slice())?;
         Ok(status_is_right && out_is_right && err_is_right)
     }
 

@@ -17,7 +17,7 @@ fn main(rt: HostRuntime) -> io::Result<ExitCode> {
     }
     let files = MachineFiles::new(&rt);
     let mut out = Counted::new(rt.stdout());
-    let mut err = rt.stderr();
+    let mut err = Counted::new(rt.stderr());
     let status = serve(alloc, words.as_slice(), &files, &mut out, &mut err);
     Ok(ExitCode::from(status))
 }

@@ -1,0 +1,85 @@
+-- Pieces of a text, written one after another.
+use Rattle.std.proofs.Common.{◌≡◌, inl, inr, ℕ, ◌+◌, ◌<◌, ◌≤◌, List, ◌++◌, length, take, append_assoc, arith, length-append, subst, sym, ◌∙◌}
+use Rattle.std.specs.Prelude.{Option, Result, Ok, Err, OnOk, OnErr, IfErr, ◌⊎◌}
+use Rattle.std.specs.Io.KnownBytes.{Appends}
+use Rattle.std.proofs.KnownBytes.{Appends-trans}
+use Rattle.std.proofs.lemmas.List.{take-append-le}
+use lib.Seq.{take-append-add}
+use Rattle.trace.specs.declared.counted.Counted.{Counted}
+use Rattle.trace.specs.declared.fault.WriteFault.{WriteFault}
+use Rattle.trace.specs.Counts.{writer_of, failures_of}
+use Rattle.trace.specs.Puts.{written_of}
+use Rattle.service.specs.Written.{HasFailed, IsCut, IsSaid, IsStopped, IsWritten}
+
+failed_later : {W : Type 0} (a b c : Counted W) → failures_of b ≡ failures_of a → HasFailed b c → HasFailed a c
+failed_later a b c same (inl rose) = inl (omega arith)
+failed_later a b c same (inr full) = inr (omega arith)
+
+module _ {W : Type 0} {known : W → Option (List ℕ)} where
+  -- one piece, and then another
+  pub then_written : {a b c : Counted W} {s t : List ℕ} → IsWritten known a b s → IsWritten known b c t → IsWritten known a c (s ++ t)
+  then_written {a} {b} {c} {s} {t} p q =
+      record {
+        bytes = Appends-trans (known (writer_of a)) (known (writer_of b)) (known (writer_of c)) s t p.bytes q.bytes;
+        failures = q.failures ∙ p.failures;
+      }
+
+  -- one piece, and then a write failed in another
+  pub then_cut : {a b c : Counted W} {s t : List ℕ} → IsWritten known a b s → IsCut known b c t → IsCut known a c (s ++ t)
+  then_cut {a} {b} {c} {s} {t} p q =
+      let old = known (writer_of a) in
+      let new = known (writer_of c) in
+      let joined = Appends-trans old (known (writer_of b)) new s (take q.written t) p.bytes q.stopped.bytes in
+      let short = q.stopped.short in
+      record {
+        written = length s + q.written;
+        stopped =
+            record {
+              short = simp length-append (omega arith);
+              bytes = subst (Appends old new) (sym (take-append-add s t q.written)) joined;
+              failed = failed_later a b c p.failures q.stopped.failed;
+            };
+      }
+
+  -- a write failed in the first piece
+  pub cut_before : {a b : Counted W} {s : List ℕ} (t : List ℕ) → IsCut known a b s → IsCut known a b (s ++ t)
+  cut_before {a} {b} {s} t p =
+      let short = p.stopped.short in
+      let low : p.written ≤ length s = omega arith in
+      record {
+        written = p.written;
+        stopped =
+            record {
+              short = simp length-append (omega arith);
+              bytes = subst (Appends (known (writer_of a)) (known (writer_of b))) (sym (take-append-le p.written s t low)) p.stopped.bytes;
+              failed = p.stopped.failed;
+            };
+      }
+
+  pub is_cut : {a b : Counted W} {s : List ℕ} {n : ℕ} → IsStopped known a b s n → IsCut known a b s
+  is_cut {a} {b} {s} {n} h = record { written = n; stopped = h }
+
+  -- the same of answers
+  pub on_written : {a b : Counted W} {s : List ℕ} {T : Type 0} (c : Counted W) (t : List ℕ) (r : Result T WriteFault) → IsWritten known a b s → OnOk r (IsWritten known b c t) → OnOk r (IsWritten known a c (s ++ t))
+  on_written c t (Ok x) p q = then_written p q
+  on_written c t (Err e) p q = tt
+
+  pub on_cut : {a b : Counted W} {s : List ℕ} {T : Type 0} (c : Counted W) (t : List ℕ) (r : Result T WriteFault) → IsWritten known a b s → OnErr r (IsCut known b c t) → OnErr r (IsCut known a c (s ++ t))
+  on_cut c t (Ok x) p q = tt
+  on_cut c t (Err e) p q = then_cut p q
+
+module _ {W : Type 0} (known : W → Option (List ℕ)) (old new : Counted W) (text : List ℕ) {T : Type 0} where
+  pub on_stopped : (r : Result T WriteFault) → IfErr r (λ fault. IsStopped known old new text (written_of fault)) → OnErr r (IsCut known old new text)
+  on_stopped (Ok x) stopped = tt
+  on_stopped (Err e) stopped = is_cut stopped
+
+  -- a text that was written, or not to its end, was said
+  pub said_by : (r : Result T WriteFault) → OnOk r (IsWritten known old new text) → OnErr r (IsCut known old new text) → IsSaid known old new text
+  said_by (Ok x) written cut = inl written
+  said_by (Err e) written cut = inr cut
+
+-- five pieces, in two groups
+pub grouped : (a b c d e : List ℕ) → (a ++ b) ++ ((c ++ d) ++ e) ≡ (((a ++ b) ++ c) ++ d) ++ e
+grouped a b c d e = simp append_assoc
+
+pub ruleset pieces = (then_written, then_cut, cut_before, is_cut)
