@@ -5,7 +5,7 @@ use Rattle.terms.specs.TermTree.{TermTree}
 use Rattle.ioa_trees.specs.Trees as tree
 use Rattle.ioa_trees.specs.Trees.{PlainInit}
 use Rattle.ioa_rules.specs.Faults.{Fault, at_fault, where_wrong}
-use Rattle.ioa_rules.specs.Kinds.{Kind, Truth, Whole, Range, Enum, SeqOf, ArrayOf, count, fits, is_seq, is_array}
+use Rattle.ioa_rules.specs.Kinds.{Kind, Truth, Whole, Range, Enum, SeqOf, ArrayOf, count, fits, small, is_seq, is_array}
 use Rattle.ioa_rules.specs.Scopes.{Scope}
 use Rattle.ioa_rules.specs.TermRules.{Judged, judge, faults, placed, unfit, on_core}
 
@@ -21,7 +21,7 @@ put s Whole tree.Empty = None
 put s (Range low high) tree.Empty = None
 put s (Enum first n) tree.Empty = None
 put s (ArrayOf r k) tree.Empty = None
-put s (ArrayOf r k) (tree.Fill v) = on_core (core.Fill (count r)) (put s k v)
+put s (ArrayOf r k) (tree.Fill v) = on_core (core.Fill (small (count r))) (put s k v)
 put s Truth (tree.Fill v) = None
 put s Whole (tree.Fill v) = None
 put s (Range low high) (tree.Fill v) = None
