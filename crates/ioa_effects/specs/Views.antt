@@ -1,11 +1,15 @@
 -- What is put in a place, and effects, without where they lie in memory.
-use Rattle.std.specs.Prelude.{ℕ, Option, Some, None, List, []}
+use Rattle.std.specs.Prelude.{ℕ, Option, Some, None, List, [], if◌then◌else◌}
 use Rattle.terms.specs.declared.effect.Effect.{Effect}
 use Rattle.terms.specs.EffectTree.{EffectTree, effect_tree}
+use Rattle.terms.specs.TermTree.{TermTree}
+use Rattle.terms.specs.declared.scalar.Listed.{Listed}
 use Rattle.ioa_kinds.specs.declared.shape.Shape.{Shape}
 use Rattle.ioa_kinds.specs.Views.{shape_tree}
 use Rattle.ioa_rules.specs.Faults.{Fault, at_fault}
-use Rattle.ioa_rules.specs.Kinds.{Kind}
+use Rattle.ioa_rules.specs.Kinds.{Kind, can_be_listed, listed_of}
+use Rattle.ioa_typing.specs.Views.{core_tree}
+use Rattle.ioa_effects.specs.declared.effects.Arm.{Arm}
 
 abbrev pub place_kind : Option Shape → Option Kind
 place_kind None = None
@@ -19,3 +23,11 @@ misfit_faults (Some place) = at_fault place 12
 abbrev pub done_tree : Option Effect → Option EffectTree
 done_tree None = None
 done_tree (Some e) = Some (effect_tree e)
+
+abbrev pub arm_tree : Arm → Option TermTree × Option EffectTree
+arm_tree a = (core_tree a.test, done_tree a.body)
+
+-- the members over which a loop goes, where they can be listed
+abbrev pub members_of : Option Kind → Option Listed
+members_of None = None
+members_of (Some k) = if can_be_listed k then Some (listed_of k) else None

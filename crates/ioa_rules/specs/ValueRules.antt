@@ -1,5 +1,5 @@
 -- What is put in a place: its meaning there, and its faults.
-use Rattle.std.specs.Prelude.{ℕ, ◌+◌, Bool, true, false, not, Option, Some, None, if◌then◌else◌, List, []}
+use Rattle.std.specs.Prelude.{ℕ, ◌+◌, Bool, true, false, not, Option, Some, None, if◌then◌else◌, List, [], ◌∷◌}
 use Rattle.terms.specs.TermTree as core
 use Rattle.terms.specs.TermTree.{TermTree}
 use Rattle.ioa_trees.specs.Trees as tree
@@ -51,10 +51,10 @@ misfits s (Some k) at tree.Empty = where_wrong (not (is_seq k)) at 12
 misfits s (Some k) at (tree.Fill v) = if is_array k then misfits s (item_kind k) (at + 2) v else at_fault at 12
 misfits s (Some k) at (tree.Value t) = unfit k at (judge s t)
 
+abbrev pub has_fault : List Fault → Bool
+has_fault [] = false
+has_fault (f ∷ fs) = true
+
 -- a value doesn't fit its place
 abbrev pub is_misfit : Scope → Option Kind → PlainInit → Bool
-is_misfit s k v = some_fault (misfits s k 0 v)
-  where
-    some_fault : List Fault → Bool
-    some_fault [] = false
-    some_fault _ = true
+is_misfit s k v = has_fault (misfits s k 0 v)
