@@ -1,2 +1,3 @@
 pub mod Chained
 pub mod Keeps
+pub mod Misfits

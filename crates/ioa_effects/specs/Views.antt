@@ -8,7 +8,9 @@ use Rattle.ioa_kinds.specs.declared.shape.Shape.{Shape}
 use Rattle.ioa_kinds.specs.Views.{shape_tree}
 use Rattle.ioa_rules.specs.Faults.{Fault, at_fault}
 use Rattle.ioa_rules.specs.Kinds.{Kind, can_be_listed, listed_of}
-use Rattle.ioa_typing.specs.Views.{core_tree}
+use Rattle.ioa_rules.specs.TermRules.{Judged}
+use Rattle.ioa_typing.specs.declared.typed.Typed.{Typed}
+use Rattle.ioa_typing.specs.Views.{core_tree, judged_tree}
 use Rattle.ioa_effects.specs.declared.effects.Arm.{Arm}
 
 abbrev pub place_kind : Option Shape → Option Kind
@@ -31,3 +33,8 @@ arm_tree a = (core_tree a.test, done_tree a.body)
 abbrev pub members_of : Option Kind → Option Listed
 members_of None = None
 members_of (Some k) = if can_be_listed k then Some (listed_of k) else None
+
+-- the index of an assignment, where there is one
+abbrev pub judged_at : Option (Option Typed) → Option (Option Judged)
+judged_at None = None
+judged_at (Some j) = Some (judged_tree j)

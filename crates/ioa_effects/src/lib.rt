@@ -1,6 +1,7 @@
 //! The checks of values that are put in places, and of statements: their faults, and what they mean without names.
 #![tactic(auto)]
 
+mod assignment;
 mod effects;
 pub mod values;
 
