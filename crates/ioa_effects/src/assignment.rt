@@ -72,10 +72,7 @@ fn check_at<'a>(
 }
 
 // The kind of the place on the left.
-fn left_kind<'a>(
-    kind: Option<Shape<'a>>,
-    index: &Option<Option<Typed<'_>>>,
-) -> Option<Shape<'a>>
+fn left_kind<'a>(kind: Option<Shape<'a>>, index: &Option<Option<Typed<'_>>>) -> Option<Shape<'a>>
     ensures { (s : Scope) (i : Option PlainTerm) → judged_at index.now ≡ option_map (judge s) i → place_kind result ≡ rule.left_kind (place_kind kind.entry) i }
 {
     match index {
@@ -86,12 +83,7 @@ fn left_kind<'a>(
 
 // Notes an index on what is no array, and one that the array's index type doesn't take.
 #[tactic(auto, using(crate::proofs::Keeps::keep_append))]
-fn note_left(
-    walk: &mut Walk,
-    at: u32,
-    kind: Option<Shape<'_>>,
-    index: &Option<Option<Typed<'_>>>,
-)
+fn note_left(walk: &mut Walk, at: u32, kind: Option<Shape<'_>>, index: &Option<Option<Typed<'_>>>)
     requires room { at + 2 < 2 ^ 32 }
     ensures at { walk.new.at ≡ walk.old.at }
     ensures least { (s : Scope) (i : Option PlainTerm) → judged_at index.now ≡ option_map (judge s) i → least_tree walk.new.least ≡ keep (least_tree walk.old.least) (rule.left_faults s at (place_kind kind.entry) i) }
@@ -113,12 +105,7 @@ fn note_left(
 }
 
 // The assignment to an item of an array.
-fn item_assigned(
-    slot: usize,
-    kind: Shape<'_>,
-    index: Typed<'_>,
-    value: Term,
-) -> Option<Effect>
+fn item_assigned(slot: usize, kind: Shape<'_>, index: Typed<'_>, value: Term) -> Option<Effect>
     ensures { done_tree result ≡ rule.item_assigned slot (shape_tree kind.entry) (typed_tree index.entry) (term_tree value) }
 {
     match kind {

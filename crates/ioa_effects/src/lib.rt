@@ -3,6 +3,8 @@
 
 mod assignment;
 mod effects;
+pub mod statements;
 pub mod values;
 
+pub use statements::check_statements;
 pub use values::{Put, check_init};

@@ -16,8 +16,8 @@ ghost use Rattle.ioa_names.specs.Views.{names_tree};
 ghost use Rattle.ioa_typing.specs.Views.{core_tree, judged_tree, least_tree};
 ghost use Rattle.ioa_effects.specs.Views.{place_kind, misfit_faults};
 
-use ioa_kinds::{Kind, Shape};
 use ioa_kinds::shape::{fits, is_seq, shape_of};
+use ioa_kinds::{Kind, Shape};
 use ioa_names::Names;
 use ioa_trees::tree::Init;
 use ioa_typing::listing::small_count;
@@ -74,12 +74,7 @@ fn filled(alloc: Global, index: &Kind, item: Option<Term>) -> Result<Option<Term
     }
 }
 
-fn fill_in(
-    alloc: Global,
-    kind: Option<Shape<'_>>,
-    item: Put,
-    at: u32,
-) -> Result<Put, AllocError>
+fn fill_in(alloc: Global, kind: Option<Shape<'_>>, item: Put, at: u32) -> Result<Put, AllocError>
     ensures value { IfOk result (λ p. (s : Scope) (v : PlainInit) → core_tree item.value ≡ rule.put_in s (item_of (place_kind kind.entry)) v → core_tree p.value ≡ rule.put_in s (place_kind kind.entry) (tree.Fill v)) }
     ensures misfit { IfOk result (λ p. (s : Scope) (v : PlainInit) → misfit_faults item.misfit ≡ rule.misfits s (item_of (place_kind kind.entry)) (at + 2) v → misfit_faults p.misfit ≡ rule.misfits s (place_kind kind.entry) at (tree.Fill v)) }
 {

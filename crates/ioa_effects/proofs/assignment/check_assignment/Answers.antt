@@ -25,10 +25,10 @@ returns-clause-faults c =
     let left_is : place_kind c.left_kind.result ≡ rule.left_kind k i = c.left_kind.ensures s i (search rules) ∙ ap (λ x. rule.left_kind x i) k_is in
     let wrong : is_some c.in_ok-put.put.misfit ≡ is_misfit s (rule.left_kind k i) v = misfit_is s (place_kind c.left_kind.result) (c.check_at.new.walk.at + 1) v c.in_ok-put.put.misfit (search rules) ∙ ap (λ x. is_misfit s x v) left_is in
     keep_five (least_tree c.args.walk.now.least) (least_tree c.note_if.new.self.least) (least_tree c.check_at.new.walk.least) (least_tree c.check_init.new.walk.least) (least_tree c.note_left.new.walk.least) (least_tree c.note_if-2.new.self.least)
-        (where_wrong (not (is_variable (named q s))) at 10)
-        (rule.at_faults s (at + 1) i)
-        (inner_faults s (at + at_size i + 2) v)
-        (inner_faults s (c.check_at.new.walk.at + 1) v)
-        (rule.left_faults s at k i)
-        (where_wrong (is_misfit s (rule.left_kind k i) v) at 12)
-        (search rules) (search rules) (search rules) (ap (λ n. inner_faults s n v) (search (rules, arith))) (search rules) (search rules)
+    (where_wrong (not (is_variable (named q s))) at 10)
+    (rule.at_faults s (at + 1) i)
+    (inner_faults s (at + at_size i + 2) v)
+    (inner_faults s (c.check_at.new.walk.at + 1) v)
+    (rule.left_faults s at k i)
+    (where_wrong (is_misfit s (rule.left_kind k i) v) at 12)
+    (search rules) (search rules) (search rules) (ap (λ n. inner_faults s n v) (search (rules, arith))) (search rules) (search rules)
