@@ -1,5 +1,5 @@
 -- A term has a meaning exactly where it has no fault.
-use Rattle.std.proofs.Common.{◌≡◌, ℕ, ◌+◌, pos, true, not, Option, Some, None, IsSome, nat_eq, [], ◌++◌, refl}
+use Rattle.std.proofs.Common.{◌≡◌, ℕ, ◌+◌, true, not, Option, Some, None, IsSome, nat_eq, [], ◌++◌, refl}
 use Rattle.terms.specs.TermTree as core
 use Rattle.terms.specs.TermTree.{TermTree}
 use Rattle.terms.specs.declared.term.Operator.{Operator}

@@ -1,7 +1,6 @@
 -- Whole sources: what they mean without their names, and their faults.
-use Rattle.std.specs.Prelude.{ℕ, ◌+◌, not, ◌||◌, Option, Some, None, nat_eq, bytes_eq, List, [], ◌∷◌, ◌++◌, length, slice_get}
+use Rattle.std.specs.Prelude.{ℕ, ◌+◌, not, Option, Some, None, nat_eq, bytes_eq, List, [], ◌∷◌, ◌++◌, length, slice_get}
 use Rattle.std.specs.List.{list_any}
-use Rattle.std.specs.Option.{is_some}
 use Rattle.terms.specs.TermTree.{TermTree}
 use Rattle.ioa_trees.specs.Trees as tree
 use Rattle.ioa_trees.specs.Trees.{Bytes, PlainTerm, PlainTypeBody, PlainTypeDefinition, PlainAutomaton, PlainComponent, PlainSource}
