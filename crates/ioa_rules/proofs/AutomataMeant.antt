@@ -1,23 +1,23 @@
 -- An automaton without faults has a whole meaning.
-use Rattle.std.proofs.Common.{◌≡◌, ℕ, ◌+◌, Option, IsSome, nat_lt, List, [], ◌∷◌, ◌++◌, length, map}
+use Rattle.std.proofs.Common.{◌≡◌, ℕ, ◌+◌, Option, IsSome, nat_lt, List, [], ◌∷◌, ◌++◌, length, map, refl}
 use Rattle.std.specs.List.{All}
 use Rattle.std.proofs.lemmas.List.Elements.{All-nil, All-cons, All-head, All-tail, All-weaker}
 use Rattle.terms.specs.TermTree.{TermTree}
-use Rattle.ioa_trees.specs.Trees.{PlainDeclared, PlainVariable, PlainTransition, PlainAutomaton}
+use Rattle.ioa_trees.specs.Trees.{Bytes, PlainDeclared, PlainVariable, PlainAutomaton}
 use Rattle.ioa_rules.specs.Faults.{where_wrong}
 use Rattle.ioa_rules.specs.Kinds.{Kind}
-use Rattle.ioa_rules.specs.Scopes.{Scope, OfFormal, OfVariable, declare, doubled}
+use Rattle.ioa_rules.specs.Scopes.{Scope, OfFormal, OfVariable, declare, doubled, taken_before}
 use Rattle.ioa_rules.specs.Sizes.{declared_size, type_size, variable_size}
 use Rattle.ioa_rules.specs.TypeRules.{kind_of, type_faults, unscalar}
 use Rattle.ioa_rules.specs.ValueRules.{put_in, inner_faults, misfits}
-use Rattle.ioa_rules.specs.EntryRules.{with_parameters, with_entries, entries_faults, transition_faults, transitions_faults, transition_for, meant_by}
-use Rattle.ioa_rules.specs.AutomatonRules.{with_formals, formals_faults, with_variables, weight_of, goes_over, variable_faults, variables_faults, tasks_faults, signature_at, states_at, transitions_at, tasks_at, inside, around, body_faults, formal_kinds, meaning_of}
+use Rattle.ioa_rules.specs.EntryRules.{entries_faults, transitions_faults, meant_by}
+use Rattle.ioa_rules.specs.AutomatonRules.{with_formals, formals_faults, with_variables, weight_of, goes_over, variable_faults, variables_faults, tasks_faults, signature_at, states_at, transitions_at, tasks_at, inside, around, entry_names, body_faults, formal_kinds, meaning_of}
 use Rattle.ioa_rules.specs.Meant.{AllMeant, AllSome, IsWholeEntry, IsWholeAutomaton}
 use Rattle.ioa_rules.proofs.NoFaults.{nil_left, nil_right}
 use Rattle.ioa_rules.proofs.TypesMeant.{kind_if}
 use Rattle.ioa_rules.proofs.ValuesMeant.{put_in_if}
-use Rattle.ioa_rules.proofs.ScopesMeant.{with_formal, with_variable}
-use Rattle.ioa_rules.proofs.EntriesMeant.{EntryMeant, entries_if, Scoped, meant_with_head, head_if, transition_if, IsDone, transitions_if, chosen}
+use Rattle.ioa_rules.proofs.ScopesMeant.{Alike, alike_self, alike_with, with_formal, with_variable}
+use Rattle.ioa_rules.proofs.EntriesMeant.{entries_if, transitions_if}
 
 -- ---- formals
 
@@ -36,25 +36,25 @@ formals_if s m n at (d ∷ ds) h =
 -- ---- state variables
 
 abbrev IsStarted : Scope → PlainVariable → Type 0
-IsStarted seen v = IsSome (kind_of seen v.declared.of) × IsSome (put_in seen (kind_of seen v.declared.of) v.start)
+IsStarted s v = IsSome (kind_of s v.declared.of) × IsSome (put_in s (kind_of s v.declared.of) v.start)
 
-variable_if : (seen : Scope) → AllMeant seen → (s : Scope) (before at : ℕ) (v : PlainVariable) → variable_faults seen s before at v ≡ [] → IsStarted seen v
-variable_if seen m s before at v h =
-    let k = kind_of seen v.declared.of in let p = at + type_size v.declared.of + 3 in
-    let a = doubled s at v.declared.name in let b = type_faults seen (at + 2) v.declared.of in let c = where_wrong (goes_over before k) (at + 2) 17 in
-    let d = inner_faults seen p v.start in let e = misfits seen k p v.start in
+variable_if : (s : Scope) → AllMeant s → (used : List Bytes) (before at : ℕ) (v : PlainVariable) → variable_faults s used before at v ≡ [] → IsStarted s v
+variable_if s m used before at v h =
+    let k = kind_of s v.declared.of in let p = at + type_size v.declared.of + 3 in
+    let a = taken_before s used at v.declared.name in let b = type_faults s (at + 2) v.declared.of in let c = where_wrong (goes_over before k) (at + 2) 17 in
+    let d = inner_faults s p v.start in let e = misfits s k p v.start in
     let u = nil_right a (b ++ (c ++ (d ++ e))) h in
     let w = nil_right b (c ++ (d ++ e)) u in
     let x = nil_right c (d ++ e) w in
-    let i = kind_if seen m (at + 2) v.declared.of (nil_left b (c ++ (d ++ e)) u) in
-    (i, put_in_if seen m k i p p v.start (nil_left d e x) (nil_right d e x))
+    let i = kind_if s m (at + 2) v.declared.of (nil_left b (c ++ (d ++ e)) u) in
+    (i, put_in_if s m k i p p v.start (nil_left d e x) (nil_right d e x))
 
-variables_if : (seen : Scope) → AllMeant seen → (s : Scope) (before at : ℕ) (vs : List PlainVariable) → variables_faults seen s before at vs ≡ [] → All (IsStarted seen) vs
-variables_if seen m s before at [] h = All-nil (IsStarted seen)
-variables_if seen m s before at (v ∷ vs) h =
-    let k = kind_of seen v.declared.of in let r = declare v.declared.name (OfVariable 0 k) s in let p = at + variable_size v + 1 in
-    let a = variable_faults seen s before at v in let b = variables_faults seen r (before + weight_of k) p vs in
-    All-cons (IsStarted seen) v vs (variable_if seen m s before at v (nil_left a b h)) (variables_if seen m r (before + weight_of k) p vs (nil_right a b h))
+variables_if : (s : Scope) → AllMeant s → (used : List Bytes) (before at : ℕ) (vs : List PlainVariable) → variables_faults s used before at vs ≡ [] → All (IsStarted s) vs
+variables_if s m used before at [] h = All-nil (IsStarted s)
+variables_if s m used before at (v ∷ vs) h =
+    let more = v.declared.name ∷ used in let w = before + weight_of (kind_of s v.declared.of) in let p = at + variable_size v + 1 in
+    let a = variable_faults s used before at v in let b = variables_faults s more w p vs in
+    All-cons (IsStarted s) v vs (variable_if s m used before at v (nil_left a b h)) (variables_if s m more w p vs (nil_right a b h))
 
 -- a scope stays meant with variables that have kinds
 meant_with_variables : (seen s : Scope) → AllMeant s → (n : ℕ) (vs : List PlainVariable) → All (IsStarted seen) vs → AllMeant (with_variables seen s n vs)
@@ -63,6 +63,13 @@ meant_with_variables seen s m n (v ∷ vs) all =
     let k = kind_of seen v.declared.of in
     let i = All-head (IsStarted seen) v vs all in
     meant_with_variables seen (declare v.declared.name (OfVariable n k) s) (with_variable v.declared.name n k s m i.0) (n + 1) vs (All-tail (IsStarted seen) v vs all)
+
+-- variables are neither types nor formals
+alike_with_variables : (types s g : Scope) → Alike s g → (n : ℕ) (vs : List PlainVariable) → Alike (with_variables types s n vs) g
+alike_with_variables types s g a n [] = a
+alike_with_variables types s g a n (v ∷ vs) =
+    let m = OfVariable n (kind_of types v.declared.of) in
+    alike_with_variables types (declare v.declared.name m s) g (alike_with v.declared.name m s g refl refl a) (n + 1) vs
 
 -- ---- the whole
 
@@ -77,7 +84,7 @@ automaton_if s m at a h =
     let fa = where_wrong (nat_lt 16 (length a.formals)) (at + 1) 17 in
     let fb = formals_faults s 0 (at + 3) a.formals in
     let fc = entries_faults i [] a.transitions a.tasks (signature_at at a + 1) a.entries in
-    let fd = variables_faults i (with_entries i a.entries) 0 (states_at at a + 1) a.variables in
+    let fd = variables_faults i (entry_names a.entries) 0 (states_at at a + 1) a.variables in
     let fe = transitions_faults (around s a) a.entries [] (transitions_at at a + 1) a.transitions in
     let ff = tasks_faults a.entries [] (tasks_at at a + 1) a.tasks in
     let hb = nil_right fa (fb ++ (fc ++ (fd ++ (fe ++ ff)))) h in
@@ -86,19 +93,13 @@ automaton_if s m at a h =
     let he = nil_right fd (fe ++ ff) hd in
     let formals = formals_if s m 0 (at + 3) a.formals (nil_left fb (fc ++ (fd ++ (fe ++ ff))) hb) in
     let mi = formals.0 in
-    let entries = entries_if i mi [] a.transitions a.tasks (signature_at at a + 1) a.entries (nil_left fc (fd ++ (fe ++ ff)) hc) in
-    let started = variables_if i mi (with_entries i a.entries) 0 (states_at at a + 1) a.variables (nil_left fd (fe ++ ff) hd) in
-    let scopes : All (Scoped i) a.entries = All-weaker (EntryMeant i a.transitions) (Scoped i) (λ e x. x.scoped) a.entries entries in
-    let each : (before : List PlainTransition) (place : ℕ) (t : PlainTransition) → transition_faults (around s a t) a.entries before place t ≡ [] → IsDone (around s a) t =
-    λ before place t e.
-    let here = meant_with_head i a.entries (place + 1) t.entry scopes (head_if (around s a t) a.entries before place t e) in
-    transition_if (around s a t) (meant_with_variables i (with_parameters i 0 t.entry.parameters) here 0 a.variables started) a.entries before place t e in
-    let done = transitions_if (around s a) a.entries each [] (transitions_at at a + 1) a.transitions (nil_left fe ff he) in
-    let meant : All (λ e. IsWholeEntry (meant_by (around s a) i e (transition_for e a.transitions))) a.entries =
-    All-weaker (EntryMeant i a.transitions) (λ e. IsWholeEntry (meant_by (around s a) i e (transition_for e a.transitions))) (λ e x. chosen (around s a) i e x.slotted a.transitions x.offered done) a.entries entries in
+    let started = variables_if i mi (entry_names a.entries) 0 (states_at at a + 1) a.variables (nil_left fd (fe ++ ff) hd) in
+    let r = around s a in
+    let mr = meant_with_variables i i mi 0 a.variables started in
+    let entries = entries_if i r mi mr (alike_with_variables i i i (alike_self i) 0 a.variables) [] a.transitions a.tasks (signature_at at a + 1) a.entries (nil_left fc (fd ++ (fe ++ ff)) hc) in
     record {
       formals = formals.1;
-      entries = mapped IsWholeEntry (λ e. meant_by (around s a) i e (transition_for e a.transitions)) a.entries meant;
+      entries = mapped IsWholeEntry (meant_by r) a.transitions (transitions_if r a.entries entries [] (transitions_at at a + 1) a.transitions (nil_left fe ff he));
       variables = mapped (λ (o : Option Kind). IsSome o) (λ v. kind_of i v.declared.of) a.variables (All-weaker (IsStarted i) (λ v. IsSome (kind_of i v.declared.of)) (λ v x. x.0) a.variables started);
       start = mapped (λ (o : Option TermTree). IsSome o) (λ v. put_in i (kind_of i v.declared.of) v.start) a.variables (All-weaker (IsStarted i) (λ v. IsSome (put_in i (kind_of i v.declared.of) v.start)) (λ v x. x.1) a.variables started);
     }

@@ -1,5 +1,5 @@
 -- Parameters without faults have slots; a transition without faults has a precondition and an effect.
-use Rattle.std.proofs.Common.{◌≡◌, ℕ, ◌+◌, Bool, true, false, not, ◌&&◌, ◌||◌, Option, Some, None, IsSome, List, [], ◌∷◌, ◌++◌, refl, sym, ◌∙◌, subst, if◌then◌else◌}
+use Rattle.std.proofs.Common.{◌≡◌, ℕ, ◌+◌, Bool, true, false, not, ◌&&◌, Option, Some, None, IsSome, List, [], ◌∷◌, ◌++◌, refl, sym, ◌∙◌, subst, if◌then◌else◌}
 use Rattle.std.specs.List.{list_any, All}
 use Rattle.std.proofs.lemmas.List.Elements.{All-nil, All-cons, All-head, All-tail}
 use Rattle.ioa_trees.specs.declared.tree.EntryKind.{EntryKind}
@@ -7,17 +7,17 @@ use Rattle.ioa_trees.specs.Trees as tree
 use Rattle.ioa_trees.specs.Trees.{Bytes, PlainTerm, PlainParameter, PlainEntry, PlainTransition}
 use Rattle.ioa_rules.specs.Faults.{at_fault, where_wrong}
 use Rattle.ioa_rules.specs.Kinds.{Kind, is_truth}
-use Rattle.ioa_rules.specs.Scopes.{Scope, Meaning, OfType, OfMember, OfAutomaton, OfComposed, OfFormal, OfVariable, OfParameter, OfLoop, named, declare, doubled, is_formal}
-use Rattle.ioa_rules.specs.Sizes.{parameter_size, entry_size, pre_size, transition_size}
+use Rattle.ioa_rules.specs.Scopes.{Scope, Meaning, OfType, OfMember, OfAutomaton, OfComposed, OfFormal, OfVariable, OfParameter, OfLoop, named, doubled, is_formal}
+use Rattle.ioa_rules.specs.Sizes.{declared_size, entry_size, pre_size, transition_size}
 use Rattle.ioa_rules.specs.TermRules.{judge, faults, wants}
 use Rattle.ioa_rules.specs.TypeRules.{kind_of, type_faults}
 use Rattle.ioa_rules.specs.EffectRules.{effects_of, statements_faults}
-use Rattle.ioa_rules.specs.EntryRules.{is_input, is_controlled, agrees, same_parameters, entry_for, with_parameters, sort_faults, parameters_faults, is_large, clashes, has_task, entry_faults, entries_faults, head_faults, pre_faults, transition_faults, transitions_faults, Slot, formal_of, free_of, slots, pre_of, meant_by, transition_for}
+use Rattle.ioa_rules.specs.EntryRules.{is_input, is_controlled, agrees, same_parameters, entry_for, with_parameter, with_parameters, sort_faults, parameters_faults, is_large, clashes, has_task, entry_faults, entries_faults, head_faults, pre_faults, transition_faults, transitions_faults, Slot, formal_of, free_of, slots, pre_of, meant_by}
 use Rattle.ioa_rules.specs.Meant.{AllMeant, AllSome, IsWholeEntry}
 use Rattle.ioa_rules.proofs.NoFaults.{nil_left, nil_right, right_if}
 use Rattle.ioa_rules.proofs.TypesMeant.{kind_if}
 use Rattle.ioa_rules.proofs.TermsMeant.{judged_if, truth_ok}
-use Rattle.ioa_rules.proofs.ScopesMeant.{Alike, alike_self, alike_with, kind_alike, with_parameter}
+use Rattle.ioa_rules.proofs.ScopesMeant.{Alike, alike_self, alike_parameter, kind_alike, with_parameter_meant}
 use Rattle.ioa_rules.proofs.EffectsMeant.{effects_if}
 use Rattle.ioa_rules.proofs.SameHeads.{parameters_same}
 
@@ -38,65 +38,60 @@ free_ok : (k : Option Kind) → IsSome k → IsSome (free_of k)
 free_ok None h = h
 free_ok (Some k) h = refl
 
--- the faults see one scope, a transition another, and the slots that before all parameters
-parameters_by : (g r s : Scope) → AllMeant g → AllMeant r → Alike g s → Alike r s → (c : Bool) (at n : ℕ) (ps : List PlainParameter) → parameters_faults g c at ps ≡ [] → AllSome (slots s ps) × AllMeant (with_parameters r n ps)
-parameters_by g r s mg mr ag ar c at n [] h = (All-nil (λ (o : Option Slot). IsSome o), mr)
-parameters_by g r s mg mr ag ar c at n (tree.Constant q ∷ ps) h =
-    let a = where_wrong (not (is_formal (named q g))) (at + 1) 10 in let b = parameters_faults g c (at + 3) ps in
-    let here = formal_ok (named q g) (right_if (is_formal (named q g)) (at + 1) 10 (nil_left a b h)) in
-    let rest = parameters_by g r s mg mr ag ar c (at + 3) (n + 1) ps (nil_right a b h) in
-    (All-cons (λ (o : Option Slot). IsSome o) (formal_of (named q s)) (slots s ps) (subst (λ (o : Option Slot). IsSome o) ((ag q).1) here) rest.0, rest.1)
-parameters_by g r s mg mr ag ar c at n (tree.Typed d ∷ ps) h =
+-- the faults are those of one scope; in another with the same types and formals the parameters have slots, and it stays meant with them
+parameters_by : (g r : Scope) → AllMeant g → AllMeant r → Alike r g → (c : Bool) (n at : ℕ) (ps : List PlainParameter) → parameters_faults g c n at ps ≡ [] → AllSome (slots r n ps) × AllMeant (with_parameters r n ps)
+parameters_by g r mg mr a c n at [] h = (All-nil (λ (o : Option Slot). IsSome o), mr)
+parameters_by g r mg mr a c n at (tree.Constant q ∷ ps) h =
+    let x = where_wrong (not (is_formal (named q g))) (at + 1) 10 in let y = parameters_faults g c (n + 1) (at + 3) ps in
+    let here = formal_ok (named q g) (right_if (is_formal (named q g)) (at + 1) 10 (nil_left x y h)) in
+    let rest = parameters_by g r mg mr a c (n + 1) (at + 3) ps (nil_right x y h) in
+    (All-cons (λ (o : Option Slot). IsSome o) (formal_of (named q r)) (slots r (n + 1) ps) (subst (λ (o : Option Slot). IsSome o) (sym (a q).1) here) rest.0, rest.1)
+parameters_by g r mg mr a c n at (tree.Typed d ∷ ps) h =
     let k = kind_of g d.of in let l = kind_of r d.of in
-    let more = declare d.name (OfParameter 0 k) g in let next = declare d.name (OfParameter n l) r in
-    let p = at + parameter_size (tree.Typed d) + 1 in
-    let w = doubled g at d.name in let x = type_faults g (at + 2) d.of in let y = sort_faults c (at + 2) k in let z = parameters_faults more c p ps in
+    let more = with_parameter g n d in let next = with_parameter r n d in
+    let p = at + declared_size d + 1 in
+    let w = doubled g at d.name in let x = type_faults g (at + 2) d.of in let y = sort_faults c (at + 2) k in let z = parameters_faults more c (n + 1) p ps in
     let u = nil_right w (x ++ (y ++ z)) h in
     let v = nil_right x (y ++ z) u in
     let i = kind_if g mg (at + 2) d.of (nil_left x (y ++ z) u) in
-    let e = subst (λ (o : Option Kind). IsSome o) (kind_alike g s ag d.of) i in
-    let f = subst (λ (o : Option Kind). IsSome o) (sym (kind_alike r s ar d.of)) e in
-    let rest = parameters_by more next s (with_parameter d.name 0 k g mg i) (with_parameter d.name n l r mr f) (alike_with d.name 0 k g s ag) (alike_with d.name n l r s ar) c p (n + 1) ps (nil_right y z v) in
-    (All-cons (λ (o : Option Slot). IsSome o) (free_of (kind_of s d.of)) (slots s ps) (free_ok (kind_of s d.of) e) rest.0, rest.1)
+    let j = subst (λ (o : Option Kind). IsSome o) (sym (kind_alike r g a d.of)) i in
+    let rest = parameters_by more next (with_parameter_meant d.name n k g mg i) (with_parameter_meant d.name n l r mr j) (alike_parameter d.name n l k r g a) c (n + 1) p ps (nil_right y z v) in
+    (All-cons (λ (o : Option Slot). IsSome o) (free_of l) (slots next (n + 1) ps) (free_ok l j) rest.0, rest.1)
 
 -- parameters without faults have slots
-pub slots_if : (s : Scope) → AllMeant s → (c : Bool) (at : ℕ) (ps : List PlainParameter) → parameters_faults s c at ps ≡ [] → AllSome (slots s ps)
-slots_if s m c at ps h = (parameters_by s s s m m (alike_self s) (alike_self s) c at 0 ps h).0
+pub slots_if : (s : Scope) → AllMeant s → (c : Bool) (n at : ℕ) (ps : List PlainParameter) → parameters_faults s c n at ps ≡ [] → AllSome (slots s n ps)
+slots_if s m c n at ps h = (parameters_by s s m m (alike_self s) c n at ps h).0
 
 -- a scope stays meant with parameters without faults
-pub meant_with_parameters : (s : Scope) → AllMeant s → (c : Bool) (at n : ℕ) (ps : List PlainParameter) → parameters_faults s c at ps ≡ [] → AllMeant (with_parameters s n ps)
-meant_with_parameters s m c at n ps h = (parameters_by s s s m m (alike_self s) (alike_self s) c at n ps h).1
+pub meant_with_parameters : (s : Scope) → AllMeant s → (c : Bool) (n at : ℕ) (ps : List PlainParameter) → parameters_faults s c n at ps ≡ [] → AllMeant (with_parameters s n ps)
+meant_with_parameters s m c n at ps h = (parameters_by s s m m (alike_self s) c n at ps h).1
 
 -- ---- entries
 
-pub record EntryMeant (s : Scope) (transitions : List PlainTransition) (e : PlainEntry) : Type 0 where
-  pub slotted : AllSome (slots s e.parameters)
-  pub scoped : AllMeant (with_parameters s 0 e.parameters)
-  pub offered : list_any (λ t. agrees e t.entry) transitions ≡ true
+-- in a scope these parameters have slots, and it stays meant with them
+pub record IsSlotted (s : Scope) (ps : List PlainParameter) : Type 0 where
+  pub slotted : AllSome (slots s 0 ps)
+  pub scoped : AllMeant (with_parameters s 0 ps)
 
-entry_if : (s : Scope) → AllMeant s → (before : List PlainEntry) (ts : List PlainTransition) (tasks : List (List Bytes)) (at : ℕ) (e : PlainEntry) → entry_faults s before ts tasks at e ≡ [] → EntryMeant s ts e
-entry_if s m before ts tasks at e h =
-    let o = list_any (λ t. agrees e t.entry) ts in
-    let a = where_wrong (list_any (clashes e) before) (at + 1) 11 in
-    let b = parameters_faults s (is_controlled e.kind) (at + 3) e.parameters in
-    let c = where_wrong (is_large s e) at 17 in
-    let d = where_wrong (not o) at 13 in
-    let f = where_wrong (is_controlled e.kind && not (has_task tasks e.name)) at 16 in
-    let u = nil_right a (b ++ (c ++ (d ++ f))) h in
-    let v = nil_right b (c ++ (d ++ f)) u in
-    let w = nil_right c (d ++ f) v in
-    let i = nil_left b (c ++ (d ++ f)) u in
-    record {
-      slotted = slots_if s m (is_controlled e.kind) (at + 3) e.parameters i;
-      scoped = meant_with_parameters s m (is_controlled e.kind) (at + 3) 0 e.parameters i;
-      offered = right_if o at 13 (nil_left d f w);
-    }
+abbrev pub HasSlots : Scope → PlainEntry → Type 0
+HasSlots s e = IsSlotted s e.parameters
 
-pub entries_if : (s : Scope) → AllMeant s → (before : List PlainEntry) (ts : List PlainTransition) (tasks : List (List Bytes)) (at : ℕ) (es : List PlainEntry) → entries_faults s before ts tasks at es ≡ [] → All (EntryMeant s ts) es
-entries_if s m before ts tasks at [] h = All-nil (EntryMeant s ts)
-entries_if s m before ts tasks at (e ∷ es) h =
-    let a = entry_faults s before ts tasks at e in let b = entries_faults s (e ∷ before) ts tasks (at + entry_size e) es in
-    All-cons (EntryMeant s ts) e es (entry_if s m before ts tasks at e (nil_left a b h)) (entries_if s m (e ∷ before) ts tasks (at + entry_size e) es (nil_right a b h))
+entry_if : (g r : Scope) → AllMeant g → AllMeant r → Alike r g → (before : List PlainEntry) (ts : List PlainTransition) (tasks : List (List Bytes)) (at : ℕ) (e : PlainEntry) → entry_faults g before ts tasks at e ≡ [] → HasSlots r e
+entry_if g r mg mr a before ts tasks at e h =
+    let w = where_wrong (list_any (clashes e) before) (at + 1) 11 in
+    let x = parameters_faults g (is_controlled e.kind) 0 (at + 3) e.parameters in
+    let y = where_wrong (is_large g e) at 17
+    ++ (where_wrong (not (list_any (λ t. agrees e t.entry) ts)) at 13
+    ++ where_wrong (is_controlled e.kind && not (has_task tasks e.name)) at 16) in
+    let both = parameters_by g r mg mr a (is_controlled e.kind) 0 (at + 3) e.parameters (nil_left x y (nil_right w (x ++ y) h)) in
+    record { slotted = both.0; scoped = both.1 }
+
+-- the parameters of entries without faults have slots in a scope with the same types and formals
+pub entries_if : (g r : Scope) → AllMeant g → AllMeant r → Alike r g → (before : List PlainEntry) (ts : List PlainTransition) (tasks : List (List Bytes)) (at : ℕ) (es : List PlainEntry) → entries_faults g before ts tasks at es ≡ [] → All (HasSlots r) es
+entries_if g r mg mr a before ts tasks at [] h = All-nil (HasSlots r)
+entries_if g r mg mr a before ts tasks at (e ∷ es) h =
+    let x = entry_faults g before ts tasks at e in let y = entries_faults g (e ∷ before) ts tasks (at + entry_size e) es in
+    All-cons (HasSlots r) e es (entry_if g r mg mr a before ts tasks at e (nil_left x y h)) (entries_if g r mg mr a (e ∷ before) ts tasks (at + entry_size e) es (nil_right x y h))
 
 -- ---- transitions
 
@@ -132,39 +127,32 @@ entry_found : (P : PlainEntry → Type 0) (t : PlainEntry) (es : List PlainEntry
 entry_found P t [] all e h = absurd (cc)
 entry_found P t (x ∷ es) all e h = found_by P (agrees t x) x e (entry_for t es) (All-head P x es all) (entry_found P t es (All-tail P x es all) e) h
 
-abbrev pub Scoped : Scope → PlainEntry → Type 0
-Scoped s e = AllMeant (with_parameters s 0 e.parameters)
-
-head_by : (s : Scope) (es : List PlainEntry) (at : ℕ) (t : PlainEntry) → All (Scoped s) es → (o : Option PlainEntry) → entry_for t es ≡ o → head_faults es at t ≡ [] → Scoped s t
+head_by : (s : Scope) (es : List PlainEntry) (at : ℕ) (t : PlainEntry) → All (HasSlots s) es → (o : Option PlainEntry) → entry_for t es ≡ o → head_faults es at t ≡ [] → HasSlots s t
 head_by s es at t all None e h =
     let wrong : head_faults es at t ≡ at_fault at 10 = rw e refl in
     absurd (cc)
 head_by s es at t all (Some x) e h =
     let test : head_faults es at t ≡ where_wrong (not (same_parameters t.parameters x.parameters)) at 12 = rw e refl in
     let same = parameters_same t.parameters x.parameters (right_if (same_parameters t.parameters x.parameters) at 12 (sym test ∙ h)) in
-    subst (λ ps. AllMeant (with_parameters s 0 ps)) (sym same) (entry_found (Scoped s) t es all x e)
+    subst (λ ps. IsSlotted s ps) (sym same) (entry_found (HasSlots s) t es all x e)
+
+-- ---- what transitions mean
+
+abbrev pub IsMeant : Scope → PlainTransition → Type 0
+IsMeant s t = IsWholeEntry (meant_by s t)
 
 -- a transition has the parameters of its entry
-pub meant_with_head : (s : Scope) (es : List PlainEntry) (at : ℕ) (t : PlainEntry) → All (Scoped s) es → head_faults es at t ≡ [] → AllMeant (with_parameters s 0 t.parameters)
-meant_with_head s es at t all h = head_by s es at t all (entry_for t es) refl h
+whole_if : (s : Scope) (es : List PlainEntry) → All (HasSlots s) es → (before : List PlainTransition) (at : ℕ) (t : PlainTransition) → transition_faults (with_parameters s 0 t.entry.parameters) es before at t ≡ [] → IsMeant s t
+whole_if s es all before at t h =
+    let r = with_parameters s 0 t.entry.parameters in
+    let here = head_by s es (at + 1) t.entry all (entry_for t.entry es) refl (head_if r es before at t h) in
+    let done = transition_if r here.scoped es before at t h in
+    record { parameters = here.slotted; pre = done.0; effect = done.1 }
 
--- ---- entries with their transitions
-
-abbrev pub IsDone : (PlainTransition → Scope) → PlainTransition → Type 0
-IsDone scope t = IsSome (pre_of (scope t) t.pre) × IsSome (effects_of (scope t) 0 t.eff)
-
-pub transitions_if : (scope : PlainTransition → Scope) (es : List PlainEntry) → ((before : List PlainTransition) (at : ℕ) (t : PlainTransition) → transition_faults (scope t) es before at t ≡ [] → IsDone scope t) → (before : List PlainTransition) (at : ℕ) (ts : List PlainTransition) → transitions_faults scope es before at ts ≡ [] → All (IsDone scope) ts
-transitions_if scope es f before at [] h = All-nil (IsDone scope)
-transitions_if scope es f before at (t ∷ ts) h =
+-- transitions without faults have whole meanings
+pub transitions_if : (s : Scope) (es : List PlainEntry) → All (HasSlots s) es → (before : List PlainTransition) (at : ℕ) (ts : List PlainTransition) → transitions_faults s es before at ts ≡ [] → All (IsMeant s) ts
+transitions_if s es all before at [] h = All-nil (IsMeant s)
+transitions_if s es all before at (t ∷ ts) h =
     let p = at + transition_size t in
-    let a = transition_faults (scope t) es before at t in let b = transitions_faults scope es (t ∷ before) p ts in
-    All-cons (IsDone scope) t ts (f before at t (nil_left a b h)) (transitions_if scope es f (t ∷ before) p ts (nil_right a b h))
-
-chosen_by : (scope : PlainTransition → Scope) (s : Scope) (e : PlainEntry) → AllSome (slots s e.parameters) → (t : PlainTransition) (o : Option PlainTransition) (b c : Bool) → IsDone scope t → (c ≡ true → IsWholeEntry (meant_by scope s e o)) → (b || c) ≡ true → IsWholeEntry (meant_by scope s e (if b then Some t else o))
-chosen_by scope s e i t o true c d f h = record { parameters = i; pre = d.0; effect = d.1 }
-chosen_by scope s e i t o false c d f h = f h
-
--- an entry with a transition has a meaning
-pub chosen : (scope : PlainTransition → Scope) (s : Scope) (e : PlainEntry) → AllSome (slots s e.parameters) → (ts : List PlainTransition) → list_any (λ t. agrees e t.entry) ts ≡ true → All (IsDone scope) ts → IsWholeEntry (meant_by scope s e (transition_for e ts))
-chosen scope s e i [] h all = absurd (cc)
-chosen scope s e i (t ∷ ts) h all = chosen_by scope s e i t (transition_for e ts) (agrees e t.entry) (list_any (λ t. agrees e t.entry) ts) (All-head (IsDone scope) t ts all) (λ g. chosen scope s e i ts g (All-tail (IsDone scope) t ts all)) h
+    let x = transition_faults (with_parameters s 0 t.entry.parameters) es before at t in let y = transitions_faults s es (t ∷ before) p ts in
+    All-cons (IsMeant s) t ts (whole_if s es all before at t (nil_left x y h)) (transitions_if s es all (t ∷ before) p ts (nil_right x y h))

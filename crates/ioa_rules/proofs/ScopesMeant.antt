@@ -61,9 +61,9 @@ pub with_variable : (q : Bytes) (n : ℕ) (k : Option Kind) (s : Scope) → AllM
 with_variable q n None s h i = absurd (cc)
 with_variable q n (Some k) s h i = meant_with q (OfVariable n (Some k)) s h (λ e. absurd (cc)) (λ e. refl)
 
-pub with_parameter : (q : Bytes) (n : ℕ) (k : Option Kind) (s : Scope) → AllMeant s → IsSome k → AllMeant (declare q (OfParameter n k) s)
-with_parameter q n None s h i = absurd (cc)
-with_parameter q n (Some k) s h i = meant_with q (OfParameter n (Some k)) s h (λ e. absurd (cc)) (λ e. refl)
+pub with_parameter_meant : (q : Bytes) (n : ℕ) (k : Option Kind) (s : Scope) → AllMeant s → IsSome k → AllMeant (declare q (OfParameter n k) s)
+with_parameter_meant q n None s h i = absurd (cc)
+with_parameter_meant q n (Some k) s h i = meant_with q (OfParameter n (Some k)) s h (λ e. absurd (cc)) (λ e. refl)
 
 pub with_loop : (q : Bytes) (n : ℕ) (k : Option Kind) (s : Scope) → AllMeant s → IsSome k → AllMeant (declare q (OfLoop n k) s)
 with_loop q n None s h i = absurd (cc)
@@ -85,12 +85,20 @@ formals_by : (x y : Option Meaning) (m : Meaning) → Grown x y m → formal_of 
 formals_by x y m (inl e) f = ap (λ z. formal_of z) e
 formals_by x y m (inr e) f = ap (λ z. formal_of z) e.1 ∙ (f ∙ sym (ap (λ z. formal_of z) e.0))
 
--- a parameter more
-pub alike_with : (q : Bytes) (n : ℕ) (k : Option Kind) (g s : Scope) → Alike g s → Alike (declare q (OfParameter n k) g) s
-alike_with q n k g s f p =
-    let d = declare q (OfParameter n k) g in
-    let both = grown p q (OfParameter n k) g in
-    (kinds_by (named p g) (named p d) (OfParameter n k) both refl ∙ (f p).0, formals_by (named p g) (named p d) (OfParameter n k) both refl ∙ (f p).1)
+-- one more name, which is neither
+pub alike_with : (q : Bytes) (m : Meaning) (g s : Scope) → kind_meant (Some m) ≡ None → formal_of (Some m) ≡ None → Alike g s → Alike (declare q m g) s
+alike_with q m g s e f a p =
+    let both = grown p q m g in
+    (kinds_by (named p g) (named p (declare q m g)) m both e ∙ (a p).0, formals_by (named p g) (named p (declare q m g)) m both f ∙ (a p).1)
+
+alike_turned : (g s : Scope) → Alike g s → Alike s g
+alike_turned g s a q = (sym (a q).0, sym (a q).1)
+
+-- a parameter more in both
+pub alike_parameter : (q : Bytes) (n : ℕ) (k l : Option Kind) (g s : Scope) → Alike g s → Alike (declare q (OfParameter n k) g) (declare q (OfParameter n l) s)
+alike_parameter q n k l g s a =
+    let t = declare q (OfParameter n l) s in
+    alike_with q (OfParameter n k) g t refl refl (alike_turned t g (alike_with q (OfParameter n l) s g refl refl (alike_turned g s a)))
 
 pub kind_alike : (g s : Scope) → Alike g s → (t : PlainType) → kind_of g t ≡ kind_of s t
 kind_alike g s f tree.Bools = refl

@@ -7,12 +7,12 @@ use Rattle.ioa_trees.specs.Trees as tree
 use Rattle.ioa_trees.specs.Trees.{Bytes, PlainTerm, PlainTypeBody, PlainTypeDefinition, PlainAutomaton, PlainComponent, PlainSource}
 use Rattle.ioa_rules.specs.Faults.{where_wrong}
 use Rattle.ioa_rules.specs.Kinds.{Kind, Enum}
-use Rattle.ioa_rules.specs.Scopes.{Scope, OfType, OfMember, named, declare, doubled, automaton_meant}
+use Rattle.ioa_rules.specs.Scopes.{Scope, OfType, OfMember, named, declare, doubled, taken_before, automaton_meant}
 use Rattle.ioa_rules.specs.Sizes.{size, definition_size, automaton_size, component_size}
 use Rattle.ioa_rules.specs.TermRules.{judge, faults}
 use Rattle.ioa_rules.specs.TypeRules.{kind_of, type_faults}
 use Rattle.ioa_rules.specs.AutomatonRules.{MeantAutomaton, body_faults, locals, meaning_of}
-use Rattle.ioa_rules.specs.SourceRules.{with_members, with_definition, members_in, with_definitions, definition_faults, definitions_faults, definitions_size, taken_before, with_automaton, with_automata, automata_faults, all_locals, meanings_of, arguments_faults, unfit_in, misfit_arguments, compared_with, formals_at, component_faults, components_faults, placed_argument, placed_arguments, arguments_of, component_of, components_of, types_scope, whole_scope, table_of, composed_at, source_faults, source_meaning}
+use Rattle.ioa_rules.specs.SourceRules.{with_members, with_definition, members_in, with_definitions, definition_faults, definitions_faults, definitions_size, with_automaton, with_automata, automata_faults, all_locals, meanings_of, arguments_faults, unfit_in, misfit_arguments, compared_with, formals_at, component_faults, components_faults, placed_argument, placed_arguments, arguments_of, component_of, components_of, types_scope, whole_scope, table_of, composed_at, source_faults, source_meaning}
 use Rattle.ioa_rules.specs.Meant.{AllMeant, AllSome, IsWholeAutomaton, IsWholeComponent, IsWhole}
 use Rattle.ioa_rules.proofs.NoFaults.{nil_left, nil_right}
 use Rattle.ioa_rules.proofs.TypesMeant.{kind_if}

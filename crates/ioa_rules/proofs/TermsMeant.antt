@@ -1,5 +1,5 @@
 -- A term has a meaning exactly where it has no fault.
-use Rattle.std.proofs.Common.{◌≡◌, ℕ, ◌+◌, pos, true, not, Option, Some, None, IsSome, nat_eq, [], ◌++◌, refl}
+use Rattle.std.proofs.Common.{◌≡◌, ℕ, ◌+◌, true, not, Option, Some, None, IsSome, nat_eq, [], ◌++◌, refl}
 use Rattle.terms.specs.TermTree as core
 use Rattle.terms.specs.TermTree.{TermTree}
 use Rattle.terms.specs.declared.term.Operator.{Operator}
@@ -10,7 +10,7 @@ use Rattle.ioa_trees.specs.declared.tree.Relation.{Relation}
 use Rattle.ioa_trees.specs.Trees as tree
 use Rattle.ioa_trees.specs.Trees.{PlainTerm, PlainTerms, PlainFactors, PlainAddends, no_term, more_terms, no_factor, more_factors, no_addend, more_addends}
 use Rattle.ioa_rules.specs.Faults.{where_wrong}
-use Rattle.ioa_rules.specs.Kinds.{Kind, Truth, Whole, Range, Enum, SeqOf, ArrayOf, is_whole, is_truth, is_seq, fits, listed_of}
+use Rattle.ioa_rules.specs.Kinds.{Kind, Truth, Whole, Range, Enum, SeqOf, ArrayOf, is_whole, is_truth, is_seq, fits, listed_of, whole_number}
 use Rattle.ioa_rules.specs.Scopes.{Scope, Meaning, OfType, OfMember, OfAutomaton, OfComposed, OfFormal, OfVariable, OfParameter, OfLoop, named, is_value}
 use Rattle.ioa_rules.specs.Sizes.{size}
 use Rattle.ioa_rules.specs.TermRules.{Judged, judge, judged, value_meant, whole_of, truth_of, of_core, on_core, joined, placed, called_on, call_of, appended_to, append_of, element, element_of, operator_of, compares, compared, compare_of, modulo_of, indexed, multiplied, added, combined, wants, append_faults, index_faults, compare_faults, faults, indexes_faults, factors_faults, addends_faults, truths_faults}
@@ -214,7 +214,7 @@ joined_back o (Some a) (Some b) h = (refl, refl)
 
 modulo_back : (at n : ℕ) (c : Option TermTree) → IsSome (modulo_of n c) → IsSome c × (where_wrong (nat_eq n 0) at 12 ≡ [])
 modulo_back at n None h = absurd (cc)
-modulo_back at n (Some c) h = (refl, where_not_wrong (nat_eq n 0) at 12 (passed_not (nat_eq n 0) (core.Modulo c (pos n)) h))
+modulo_back at n (Some c) h = (refl, where_not_wrong (nat_eq n 0) at 12 (passed_not (nat_eq n 0) (core.Modulo c (whole_number n)) h))
 
 called_back : (w : Call) (c : TermTree) (k : Kind) → IsSome (called_on w c k) → is_seq k ≡ true
 called_back w c (SeqOf k n) h = refl

@@ -5,7 +5,7 @@ use Rattle.terms.specs.TermTree.{TermTree}
 use Rattle.ioa_trees.specs.Trees as tree
 use Rattle.ioa_trees.specs.Trees.{PlainInit}
 use Rattle.ioa_rules.specs.Faults.{Fault}
-use Rattle.ioa_rules.specs.Kinds.{Kind, Truth, Whole, Range, Enum, SeqOf, ArrayOf, count, fits}
+use Rattle.ioa_rules.specs.Kinds.{Kind, Truth, Whole, Range, Enum, SeqOf, ArrayOf, count, small, fits}
 use Rattle.ioa_rules.specs.Scopes.{Scope}
 use Rattle.ioa_rules.specs.TermRules.{Judged, judge, unfit}
 use Rattle.ioa_rules.specs.ValueRules.{value_in, put, put_in, inner_faults, misfits, is_misfit}
@@ -25,7 +25,7 @@ put_if s m Whole at place tree.Empty h e = cc
 put_if s m (Range a b) at place tree.Empty h e = cc
 put_if s m (Enum a b) at place tree.Empty h e = cc
 put_if s m (ArrayOf r k) at place tree.Empty h e = cc
-put_if s m (ArrayOf r k) at place (tree.Fill v) h e = on_ok (core.Fill (count r)) (put s k v) (put_if s m k (at + 2) (place + 2) v h e)
+put_if s m (ArrayOf r k) at place (tree.Fill v) h e = on_ok (core.Fill (small (count r))) (put s k v) (put_if s m k (at + 2) (place + 2) v h e)
 put_if s m Truth at place (tree.Fill v) h e = cc
 put_if s m Whole at place (tree.Fill v) h e = cc
 put_if s m (Range a b) at place (tree.Fill v) h e = cc

@@ -6,11 +6,11 @@ use Rattle.ioa_trees.specs.Trees as tree
 use Rattle.ioa_trees.specs.Trees.{Bytes, PlainDeclared, PlainParameter, PlainEntry, PlainVariable, PlainTransition, PlainStatement, PlainStatements, PlainBranches, no_statement, more_statements, no_branch, more_branches, PlainAutomaton}
 use Rattle.ioa_rules.specs.Faults.{Fault, where_wrong}
 use Rattle.ioa_rules.specs.Kinds.{Kind, weight, most_weight}
-use Rattle.ioa_rules.specs.Scopes.{Scope, OfFormal, OfVariable, declare, doubled}
+use Rattle.ioa_rules.specs.Scopes.{Scope, OfFormal, OfVariable, declare, doubled, taken_before}
 use Rattle.ioa_rules.specs.Sizes.{declared_size, type_size, variable_size, bracketed_size, row_size, listed_size, after_word, entry_size, transition_size, task_size}
 use Rattle.ioa_rules.specs.TypeRules.{kind_of, type_faults, unscalar}
 use Rattle.ioa_rules.specs.ValueRules.{put_in, inner_faults, misfits}
-use Rattle.ioa_rules.specs.EntryRules.{Meant, is_controlled, with_parameters, with_entries, entries_faults, transitions_faults, transition_for, meant_by}
+use Rattle.ioa_rules.specs.EntryRules.{Meant, is_controlled, entries_faults, transitions_faults, meant_by}
 
 -- ---- formals
 
@@ -40,20 +40,20 @@ weight_of (Some k) = weight k
 abbrev pub goes_over : ℕ → Option Kind → Bool
 goes_over before k = nat_le before most_weight && nat_lt most_weight (before + weight_of k)
 
-abbrev pub variable_faults : Scope → Scope → ℕ → ℕ → PlainVariable → List Fault
-variable_faults seen s before at v =
-    doubled s at v.declared.name
-    ++ (type_faults seen (at + 2) v.declared.of
-    ++ (where_wrong (goes_over before (kind_of seen v.declared.of)) (at + 2) 17
-    ++ (inner_faults seen (at + type_size v.declared.of + 3) v.start
-    ++ misfits seen (kind_of seen v.declared.of) (at + type_size v.declared.of + 3) v.start)))
+abbrev pub variable_faults : Scope → List Bytes → ℕ → ℕ → PlainVariable → List Fault
+variable_faults s used before at v =
+    taken_before s used at v.declared.name
+    ++ (type_faults s (at + 2) v.declared.of
+    ++ (where_wrong (goes_over before (kind_of s v.declared.of)) (at + 2) 17
+    ++ (inner_faults s (at + type_size v.declared.of + 3) v.start
+    ++ misfits s (kind_of s v.declared.of) (at + type_size v.declared.of + 3) v.start)))
 
 -- types and start values see what is seen before the signature; a name is doubled against the parameters of all entries too
-abbrev pub variables_faults : Scope → Scope → ℕ → ℕ → List PlainVariable → List Fault
-variables_faults seen s before at [] = []
-variables_faults seen s before at (v ∷ vs) =
-    variable_faults seen s before at v
-    ++ variables_faults seen (declare v.declared.name (OfVariable 0 (kind_of seen v.declared.of)) s) (before + weight_of (kind_of seen v.declared.of)) (at + variable_size v + 1) vs
+abbrev pub variables_faults : Scope → List Bytes → ℕ → ℕ → List PlainVariable → List Fault
+variables_faults s used before at [] = []
+variables_faults s used before at (v ∷ vs) =
+    variable_faults s used before at v
+    ++ variables_faults s (v.declared.name ∷ used) (before + weight_of (kind_of s v.declared.of)) (at + variable_size v + 1) vs
 
 -- ---- tasks
 
@@ -90,9 +90,22 @@ tasks_at at a = transitions_at at a + 1 + row_size transition_size a.transitions
 abbrev pub inside : Scope → PlainAutomaton → Scope
 inside s a = with_formals s 0 a.formals
 
--- a transition sees its parameters and the state variables too
-abbrev pub around : Scope → PlainAutomaton → PlainTransition → Scope
-around s a t = with_variables (inside s a) (with_parameters (inside s a) 0 t.entry.parameters) 0 a.variables
+-- transitions see the state variables too
+abbrev pub around : Scope → PlainAutomaton → Scope
+around s a = with_variables (inside s a) (inside s a) 0 a.variables
+
+-- the names of the parameters of all entries
+abbrev pub typed_names : List PlainParameter → List Bytes
+typed_names [] = []
+typed_names (tree.Constant q ∷ ps) = typed_names ps
+typed_names (tree.Typed d ∷ ps) = d.name ∷ typed_names ps
+
+abbrev pub all_of : {A B : Type 0} → (A → List B) → List A → List B
+all_of f [] = []
+all_of f (x ∷ xs) = f x ++ all_of f xs
+
+abbrev pub entry_names : List PlainEntry → List Bytes
+entry_names es = all_of (λ e. typed_names e.parameters) es
 
 -- the faults behind its name; its first token has this number
 abbrev pub body_faults : Scope → ℕ → PlainAutomaton → List Fault
@@ -100,7 +113,7 @@ body_faults s at a =
     where_wrong (nat_lt 16 (length a.formals)) (at + 1) 17
     ++ (formals_faults s 0 (at + 3) a.formals
     ++ (entries_faults (inside s a) [] a.transitions a.tasks (signature_at at a + 1) a.entries
-    ++ (variables_faults (inside s a) (with_entries (inside s a) a.entries) 0 (states_at at a + 1) a.variables
+    ++ (variables_faults (inside s a) (entry_names a.entries) 0 (states_at at a + 1) a.variables
     ++ (transitions_faults (around s a) a.entries [] (transitions_at at a + 1) a.transitions
     ++ tasks_faults a.entries [] (tasks_at at a + 1) a.tasks))))
 
@@ -120,19 +133,10 @@ abbrev mutual
   all_loops no_statement = []
   all_loops (more_statements a others) = loops_of a ++ all_loops others
 
-abbrev pub typed_names : List PlainParameter → List Bytes
-typed_names [] = []
-typed_names (tree.Constant q ∷ ps) = typed_names ps
-typed_names (tree.Typed d ∷ ps) = d.name ∷ typed_names ps
-
-abbrev pub all_of : {A B : Type 0} → (A → List B) → List A → List B
-all_of f [] = []
-all_of f (x ∷ xs) = f x ++ all_of f xs
-
 abbrev pub locals : PlainAutomaton → List Bytes
 locals a =
     map (λ d. d.name) a.formals
-    ++ (all_of (λ e. typed_names e.parameters) a.entries
+    ++ (entry_names a.entries
     ++ (map (λ v. v.declared.name) a.variables
     ++ all_of (λ t. all_loops t.eff) a.transitions))
 
@@ -144,24 +148,24 @@ pub record MeantAutomaton : Type 0 where
   pub entries : List Meant
   pub variables : List (Option Kind)
   pub start : List (Option TermTree)
-  -- the places of entries
+  -- the places of entries, which stand in the order of their transitions
   pub tasks : List (List ℕ)
 
 abbrev pub formal_kinds : Scope → ℕ → List PlainDeclared → List (Option Kind)
 formal_kinds s n [] = []
 formal_kinds s n (d ∷ ds) = kind_of s d.of ∷ formal_kinds (declare d.name (OfFormal n (kind_of s d.of)) s) (n + 1) ds
 
--- the place of the output or internal of this name
-abbrev pub place_of : Bytes → ℕ → List PlainEntry → ℕ
+-- the place of the transition of the output or internal of this name
+abbrev pub place_of : Bytes → ℕ → List PlainTransition → ℕ
 place_of q n [] = n
-place_of q n (e ∷ es) = if is_controlled e.kind && bytes_eq q e.name then n else place_of q (n + 1) es
+place_of q n (t ∷ ts) = if is_controlled t.entry.kind && bytes_eq q t.entry.name then n else place_of q (n + 1) ts
 
 abbrev pub meaning_of : Scope → PlainAutomaton → MeantAutomaton
 meaning_of s a = record {
   name = a.name;
   formals = formal_kinds s 0 a.formals;
-  entries = map (λ e. meant_by (around s a) (inside s a) e (transition_for e a.transitions)) a.entries;
+  entries = map (meant_by (around s a)) a.transitions;
   variables = map (λ v. kind_of (inside s a) v.declared.of) a.variables;
   start = map (λ v. put_in (inside s a) (kind_of (inside s a) v.declared.of) v.start) a.variables;
-  tasks = map (λ t. map (λ q. place_of q 0 a.entries) t) a.tasks;
+  tasks = map (λ t. map (λ q. place_of q 0 a.transitions) t) a.tasks;
 }

@@ -9,11 +9,11 @@ use Rattle.ioa_trees.specs.declared.tree.EntryKind.{EntryKind}
 use Rattle.ioa_trees.specs.declared.tree.EntryKind.TheVariants as kind
 use Rattle.ioa_trees.specs.declared.tree.Signed.{Signed}
 use Rattle.ioa_trees.specs.Trees as tree
-use Rattle.ioa_trees.specs.Trees.{Bytes, PlainType, PlainTerm, PlainParameter, PlainEntry, PlainTransition, PlainStatements}
+use Rattle.ioa_trees.specs.Trees.{Bytes, PlainType, PlainTerm, PlainDeclared, PlainParameter, PlainEntry, PlainTransition, PlainStatements}
 use Rattle.ioa_rules.specs.Faults.{Fault, where_wrong}
 use Rattle.ioa_rules.specs.Kinds.{Kind, count, can_be_listed, is_truth}
 use Rattle.ioa_rules.specs.Scopes.{Scope, Meaning, OfFormal, OfParameter, named, declare, doubled, is_formal}
-use Rattle.ioa_rules.specs.Sizes.{parameter_size, entry_size, pre_size, transition_size}
+use Rattle.ioa_rules.specs.Sizes.{declared_size, entry_size, pre_size, transition_size}
 use Rattle.ioa_rules.specs.TermRules.{judge, faults, wants, truth_of}
 use Rattle.ioa_rules.specs.TypeRules.{kind_of, type_faults, unlisted, unscalar}
 use Rattle.ioa_rules.specs.EffectRules.{effects_of, statements_faults}
@@ -67,25 +67,28 @@ entry_for t (e ∷ es) = if agrees t e then Some e else entry_for t es
 
 -- ---- parameters
 
--- the scope with the typed parameters, each with its place in the action
+-- the scope with a typed parameter, which has this place in its action
+abbrev pub with_parameter : Scope → ℕ → PlainDeclared → Scope
+with_parameter s n d = declare d.name (OfParameter n (kind_of s d.of)) s
+
 abbrev pub with_parameters : Scope → ℕ → List PlainParameter → Scope
 with_parameters s n [] = s
 with_parameters s n (tree.Constant q ∷ ps) = with_parameters s (n + 1) ps
-with_parameters s n (tree.Typed d ∷ ps) = with_parameters (declare d.name (OfParameter n (kind_of s d.of)) s) (n + 1) ps
+with_parameters s n (tree.Typed d ∷ ps) = with_parameters (with_parameter s n d) (n + 1) ps
 
 -- 12, 17: a parameter of an input is scalar, one of another action can be listed
 abbrev pub sort_faults : Bool → ℕ → Option Kind → List Fault
 sort_faults controlled at k = if controlled then unlisted at k else unscalar at k
 
 -- 10: what is no formal behind `const`; 11: a doubled name; and the faults of types
-abbrev pub parameters_faults : Scope → Bool → ℕ → List PlainParameter → List Fault
-parameters_faults s controlled at [] = []
-parameters_faults s controlled at (tree.Constant q ∷ ps) = where_wrong (not (is_formal (named q s))) (at + 1) 10 ++ parameters_faults s controlled (at + 3) ps
-parameters_faults s controlled at (tree.Typed d ∷ ps) =
+abbrev pub parameters_faults : Scope → Bool → ℕ → ℕ → List PlainParameter → List Fault
+parameters_faults s controlled n at [] = []
+parameters_faults s controlled n at (tree.Constant q ∷ ps) = where_wrong (not (is_formal (named q s))) (at + 1) 10 ++ parameters_faults s controlled (n + 1) (at + 3) ps
+parameters_faults s controlled n at (tree.Typed d ∷ ps) =
     doubled s at d.name
     ++ (type_faults s (at + 2) d.of
     ++ (sort_faults controlled (at + 2) (kind_of s d.of)
-    ++ parameters_faults (declare d.name (OfParameter 0 (kind_of s d.of)) s) controlled (at + parameter_size (tree.Typed d) + 1) ps))
+    ++ parameters_faults (with_parameter s n d) controlled (n + 1) (at + declared_size d + 1) ps))
 
 -- how many tuples the typed parameters have; nothing where one can't be listed
 abbrev pub times : Option ℕ → Option ℕ → Option ℕ
@@ -96,10 +99,10 @@ abbrev pub members_of : Option Kind → Option ℕ
 members_of None = None
 members_of (Some k) = if can_be_listed k then Some (count k) else None
 
-abbrev pub tuples : Scope → List PlainParameter → Option ℕ
-tuples s [] = Some 1
-tuples s (tree.Constant q ∷ ps) = tuples s ps
-tuples s (tree.Typed d ∷ ps) = times (members_of (kind_of s d.of)) (tuples s ps)
+abbrev pub tuples : Scope → ℕ → List PlainParameter → Option ℕ
+tuples s n [] = Some 1
+tuples s n (tree.Constant q ∷ ps) = tuples s (n + 1) ps
+tuples s n (tree.Typed d ∷ ps) = times (members_of (kind_of s d.of)) (tuples (with_parameter s n d) (n + 1) ps)
 
 abbrev pub is_over : ℕ → Option ℕ → Bool
 is_over n None = false
@@ -107,7 +110,7 @@ is_over n (Some m) = nat_lt n m
 
 -- 17: over 16 parameters, or over 4,096 tuples of what the automaton controls
 abbrev pub is_large : Scope → PlainEntry → Bool
-is_large s e = nat_lt 16 (length e.parameters) || (is_controlled e.kind && is_over 4096 (tuples s e.parameters))
+is_large s e = nat_lt 16 (length e.parameters) || (is_controlled e.kind && is_over 4096 (tuples s 0 e.parameters))
 
 -- ---- entries
 
@@ -122,7 +125,7 @@ has_task tasks q = list_any (λ t. list_any (bytes_eq q) t) tasks
 abbrev pub entry_faults : Scope → List PlainEntry → List PlainTransition → List (List Bytes) → ℕ → PlainEntry → List Fault
 entry_faults s before transitions tasks at e =
     where_wrong (list_any (clashes e) before) (at + 1) 11
-    ++ (parameters_faults s (is_controlled e.kind) (at + 3) e.parameters
+    ++ (parameters_faults s (is_controlled e.kind) 0 (at + 3) e.parameters
     ++ (where_wrong (is_large s e) at 17
     ++ (where_wrong (not (list_any (λ t. agrees e t.entry) transitions)) at 13
     ++ where_wrong (is_controlled e.kind && not (has_task tasks e.name)) at 16)))
@@ -131,11 +134,6 @@ abbrev pub entries_faults : Scope → List PlainEntry → List PlainTransition �
 entries_faults s before transitions tasks at [] = []
 entries_faults s before transitions tasks at (e ∷ es) =
     entry_faults s before transitions tasks at e ++ entries_faults s (e ∷ before) transitions tasks (at + entry_size e) es
-
--- the scope with the typed parameters of all entries, as the names after them see it
-abbrev pub with_entries : Scope → List PlainEntry → Scope
-with_entries s [] = s
-with_entries s (e ∷ es) = with_entries (with_parameters s 0 e.parameters) es
 
 -- ---- transitions
 
@@ -158,11 +156,11 @@ transition_faults s entries before at t =
     ++ (pre_faults s t.entry.kind (at + entry_size t.entry) t.pre
     ++ statements_faults s 0 (at + entry_size t.entry + pre_size t.pre + 1) t.eff))
 
--- what a state sees: globals, formals and state variables; a transition sees its parameters before the variables
-abbrev pub transitions_faults : (PlainTransition → Scope) → List PlainEntry → List PlainTransition → ℕ → List PlainTransition → List Fault
-transitions_faults scope entries before at [] = []
-transitions_faults scope entries before at (t ∷ ts) =
-    transition_faults (scope t) entries before at t ++ transitions_faults scope entries (t ∷ before) (at + transition_size t) ts
+-- a transition sees its parameters beside what all of them see
+abbrev pub transitions_faults : Scope → List PlainEntry → List PlainTransition → ℕ → List PlainTransition → List Fault
+transitions_faults s entries before at [] = []
+transitions_faults s entries before at (t ∷ ts) =
+    transition_faults (with_parameters s 0 t.entry.parameters) entries before at t ++ transitions_faults s entries (t ∷ before) (at + transition_size t) ts
 
 -- ---- what they mean
 
@@ -187,20 +185,21 @@ abbrev pub free_of : Option Kind → Option Slot
 free_of None = None
 free_of (Some k) = Some (Free k)
 
-abbrev pub slots : Scope → List PlainParameter → List (Option Slot)
-slots s [] = []
-slots s (tree.Constant q ∷ ps) = formal_of (named q s) ∷ slots s ps
-slots s (tree.Typed d ∷ ps) = free_of (kind_of s d.of) ∷ slots s ps
+abbrev pub slots : Scope → ℕ → List PlainParameter → List (Option Slot)
+slots s n [] = []
+slots s n (tree.Constant q ∷ ps) = formal_of (named q s) ∷ slots s (n + 1) ps
+slots s n (tree.Typed d ∷ ps) = free_of (kind_of s d.of) ∷ slots (with_parameter s n d) (n + 1) ps
 
 abbrev pub pre_of : Scope → Option PlainTerm → Option TermTree
 pre_of s None = Some (core.Known (scalar.Bool true))
 pre_of s (Some t) = truth_of (judge s t)
 
--- an entry with its transition
-abbrev pub meant_by : (PlainTransition → Scope) → Scope → PlainEntry → Option PlainTransition → Meant
-meant_by scope s e None = record { kind = e.kind; name = e.name; parameters = slots s e.parameters; pre = None; effect = None }
-meant_by scope s e (Some t) = record { kind = e.kind; name = e.name; parameters = slots s e.parameters; pre = pre_of (scope t) t.pre; effect = effects_of (scope t) 0 t.eff }
-
-abbrev pub transition_for : PlainEntry → List PlainTransition → Option PlainTransition
-transition_for e [] = None
-transition_for e (t ∷ ts) = if agrees e t.entry then Some t else transition_for e ts
+-- A transition, whose head is that of its entry.
+abbrev pub meant_by : Scope → PlainTransition → Meant
+meant_by s t = record {
+  kind = t.entry.kind;
+  name = t.entry.name;
+  parameters = slots s 0 t.entry.parameters;
+  pre = pre_of (with_parameters s 0 t.entry.parameters) t.pre;
+  effect = effects_of (with_parameters s 0 t.entry.parameters) 0 t.eff;
+}

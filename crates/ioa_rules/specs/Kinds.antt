@@ -1,5 +1,6 @@
 -- What types mean: kinds, their members and weights.
-use Rattle.std.specs.Prelude.{ℕ, ◌+◌, ◌*◌, ℤ, pos, neg_ℤ, ◌-ℤ◌, int_lt, unsigned_abs, Bool, true, false, not, ◌&&◌, nat_eq, nat_lt, if◌then◌else◌}
+use Rattle.std.specs.Prelude.{ℕ, ◌+◌, ◌*◌, min, ℤ, ◌-ℤ◌, int_lt, unsigned_abs, Bool, true, false, not, ◌&&◌, nat_eq, nat_lt, if◌then◌else◌}
+use Rattle.std.specs.Int.{w64, cast_signed, int_wrapping_neg}
 use Rattle.terms.specs.declared.scalar.Listed.{Listed}
 use Rattle.terms.specs.declared.scalar.Listed.TheVariants as listed
 use Rattle.terms.specs.ShapeTree as shape
@@ -15,8 +16,12 @@ pub data Kind : Type 0 where
   SeqOf : Kind → ℕ → Kind
   ArrayOf : Kind → Kind → Kind
 
+-- A number as 64 bits with a sign have it. The numbers of a source are below 2^63, so it is the number itself.
+abbrev pub whole_number : ℕ → ℤ
+whole_number n = cast_signed w64 n
+
 abbrev pub number : Signed → ℤ
-number s = if s.is_negative then neg_ℤ (pos s.size) else pos s.size
+number s = if s.is_negative then int_wrapping_neg w64 (whole_number s.size) else whole_number s.size
 
 -- how many members a kind has that can be listed; 0 for the others
 abbrev pub count : Kind → ℕ
@@ -106,11 +111,15 @@ same (ArrayOf r k) _ = false
 abbrev pub fits : Kind → Kind → Bool
 fits place k = if is_whole place then is_whole k else same place k
 
+-- a number of members or items as `terms` has it; one above 65,535 is a fault everywhere that it is listed or bounds a sequence
+abbrev pub small : ℕ → ℕ
+small n = min n 65535
+
 -- a kind whose members are listed, as `terms` has it
 abbrev pub listed_of : Kind → Listed
 listed_of Truth = listed.Bool
 listed_of Whole = listed.Bool
-listed_of (Range low high) = listed.Range low (count (Range low high))
+listed_of (Range low high) = listed.Range low (small (count (Range low high)))
 listed_of (Enum first n) = listed.Enumeration first n
 listed_of (SeqOf k n) = listed.Bool
 listed_of (ArrayOf r k) = listed.Bool
@@ -128,5 +137,5 @@ shape_of Truth = shape.Listed listed.Bool
 shape_of Whole = shape.Int
 shape_of (Range low high) = if nat_lt 65535 (count (Range low high)) then shape.Range low high else shape.Listed (listed_of (Range low high))
 shape_of (Enum first n) = shape.Listed (listed.Enumeration first n)
-shape_of (SeqOf k n) = shape.Seq (shape_of k) n
+shape_of (SeqOf k n) = shape.Seq (shape_of k) (small n)
 shape_of (ArrayOf r k) = shape.Array (listed_of r) (shape_of k)

@@ -1,5 +1,6 @@
 -- Names and what they mean, in the order of their declarations: the first declaration of a name counts.
-use Rattle.std.specs.Prelude.{ℕ, Bool, true, false, Option, Some, None, if◌then◌else◌, List, [], ◌∷◌, bytes_eq}
+use Rattle.std.specs.Prelude.{ℕ, Bool, true, false, Option, Some, None, if◌then◌else◌, List, [], ◌∷◌, bytes_eq, ◌||◌}
+use Rattle.std.specs.List.{list_any}
 use Rattle.std.specs.Map.{lookup}
 use Rattle.std.specs.Option.{is_some}
 use Rattle.ioa_trees.specs.Trees.{Bytes}
@@ -34,6 +35,10 @@ declare q m (e ∷ es) = if bytes_eq q e.0 then e ∷ es else e ∷ declare q m 
 -- 11: a name that is there already
 abbrev pub doubled : Scope → ℕ → Bytes → List Fault
 doubled s at q = where_wrong (is_some (named q s)) at 11
+
+-- 11: a name that stands in scope, or was used before
+abbrev pub taken_before : Scope → List Bytes → ℕ → Bytes → List Fault
+taken_before s used at q = where_wrong (is_some (named q s) || list_any (bytes_eq q) used) at 11
 
 -- the kind of a type's name
 abbrev pub kind_meant : Option Meaning → Option Kind

@@ -1,13 +1,12 @@
 -- Whole sources: what they mean without their names, and their faults.
-use Rattle.std.specs.Prelude.{ℕ, ◌+◌, not, ◌||◌, Option, Some, None, nat_eq, bytes_eq, List, [], ◌∷◌, ◌++◌, length, slice_get}
+use Rattle.std.specs.Prelude.{ℕ, ◌+◌, not, Option, Some, None, nat_eq, bytes_eq, List, [], ◌∷◌, ◌++◌, length, slice_get}
 use Rattle.std.specs.List.{list_any}
-use Rattle.std.specs.Option.{is_some}
 use Rattle.terms.specs.TermTree.{TermTree}
 use Rattle.ioa_trees.specs.Trees as tree
 use Rattle.ioa_trees.specs.Trees.{Bytes, PlainTerm, PlainTypeBody, PlainTypeDefinition, PlainAutomaton, PlainComponent, PlainSource}
 use Rattle.ioa_rules.specs.Faults.{Fault, where_wrong}
 use Rattle.ioa_rules.specs.Kinds.{Kind, Enum}
-use Rattle.ioa_rules.specs.Scopes.{Scope, OfType, OfMember, OfAutomaton, named, declare, doubled, automaton_meant}
+use Rattle.ioa_rules.specs.Scopes.{Scope, OfType, OfMember, OfAutomaton, named, declare, doubled, taken_before, automaton_meant}
 use Rattle.ioa_rules.specs.Sizes.{definition_size, automaton_size, component_size, size}
 use Rattle.ioa_rules.specs.TermRules.{judge, faults, unfit}
 use Rattle.ioa_rules.specs.TypeRules.{kind_of, type_faults}
@@ -64,10 +63,6 @@ all_members [] = []
 all_members (d ∷ ds) = members_in d.body ++ all_members ds
 
 -- ---- automata
-
--- 11: a name that stands in scope, or that an automaton before it declared inside
-abbrev pub taken_before : Scope → List Bytes → ℕ → Bytes → List Fault
-taken_before s used at q = where_wrong (is_some (named q s) || list_any (bytes_eq q) used) at 11
 
 abbrev pub with_automaton : Scope → ℕ → PlainAutomaton → Scope
 with_automaton s n a = declare a.name (OfAutomaton n) s

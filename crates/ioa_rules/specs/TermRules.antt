@@ -1,5 +1,5 @@
 -- Terms: what they mean, a term without names and a kind, and their faults.
-use Rattle.std.specs.Prelude.{ℕ, ◌+◌, pos, Bool, true, false, not, ◌&&◌, Option, Some, None, nat_eq, if◌then◌else◌, List, [], ◌++◌}
+use Rattle.std.specs.Prelude.{ℕ, ◌+◌, Bool, true, false, not, ◌&&◌, Option, Some, None, nat_eq, if◌then◌else◌, List, [], ◌++◌}
 use Rattle.terms.specs.TermTree as core
 use Rattle.terms.specs.TermTree.{TermTree}
 use Rattle.terms.specs.declared.scalar.Scalar.TheVariants as scalar
@@ -14,7 +14,7 @@ use Rattle.ioa_trees.specs.declared.tree.Sign.TheVariants as sign
 use Rattle.ioa_trees.specs.Trees as tree
 use Rattle.ioa_trees.specs.Trees.{PlainTerm, PlainTerms, PlainFactors, PlainAddends, no_term, more_terms, no_factor, more_factors, no_addend, more_addends}
 use Rattle.ioa_rules.specs.Faults.{Fault, where_wrong}
-use Rattle.ioa_rules.specs.Kinds.{Kind, Truth, Whole, Range, Enum, SeqOf, ArrayOf, is_whole, is_truth, is_seq, fits, listed_of, shape_of}
+use Rattle.ioa_rules.specs.Kinds.{Kind, Truth, Whole, Range, Enum, SeqOf, ArrayOf, is_whole, is_truth, is_seq, fits, listed_of, shape_of, whole_number}
 use Rattle.ioa_rules.specs.Scopes.{Scope, Meaning, OfMember, OfFormal, OfVariable, OfParameter, OfLoop, named, is_value}
 use Rattle.ioa_rules.specs.Sizes.{size}
 
@@ -126,12 +126,12 @@ compare_of r _ _ = None
 -- the remainder by 0 means nothing
 abbrev pub modulo_of : ℕ → Option TermTree → Option TermTree
 modulo_of n None = None
-modulo_of n (Some c) = if nat_eq n 0 then None else Some (core.Modulo c (pos n))
+modulo_of n (Some c) = if nat_eq n 0 then None else Some (core.Modulo c (whole_number n))
 
 -- what a term means; nothing where a fault is inside
 abbrev mutual
   pub judge : Scope → PlainTerm → Option Judged
-  judge s (tree.Number n) = judged Whole (core.Known (scalar.Int (pos n)))
+  judge s (tree.Number n) = judged Whole (core.Known (scalar.Int (whole_number n)))
   judge s tree.True = judged Truth (core.Known (scalar.Bool true))
   judge s tree.False = judged Truth (core.Known (scalar.Bool false))
   judge s (tree.Variable q) = value_meant (named q s)

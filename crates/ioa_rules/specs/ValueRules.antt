@@ -1,11 +1,11 @@
 -- What is put in a place: its meaning there, and its faults.
-use Rattle.std.specs.Prelude.{ℕ, ◌+◌, Bool, true, false, not, Option, Some, None, if◌then◌else◌, List, []}
+use Rattle.std.specs.Prelude.{ℕ, ◌+◌, Bool, true, false, not, Option, Some, None, if◌then◌else◌, List, [], ◌∷◌}
 use Rattle.terms.specs.TermTree as core
 use Rattle.terms.specs.TermTree.{TermTree}
 use Rattle.ioa_trees.specs.Trees as tree
 use Rattle.ioa_trees.specs.Trees.{PlainInit}
 use Rattle.ioa_rules.specs.Faults.{Fault, at_fault, where_wrong}
-use Rattle.ioa_rules.specs.Kinds.{Kind, Truth, Whole, Range, Enum, SeqOf, ArrayOf, count, fits, is_seq, is_array}
+use Rattle.ioa_rules.specs.Kinds.{Kind, Truth, Whole, Range, Enum, SeqOf, ArrayOf, count, fits, small, is_seq, is_array}
 use Rattle.ioa_rules.specs.Scopes.{Scope}
 use Rattle.ioa_rules.specs.TermRules.{Judged, judge, faults, placed, unfit, on_core}
 
@@ -21,7 +21,7 @@ put s Whole tree.Empty = None
 put s (Range low high) tree.Empty = None
 put s (Enum first n) tree.Empty = None
 put s (ArrayOf r k) tree.Empty = None
-put s (ArrayOf r k) (tree.Fill v) = on_core (core.Fill (count r)) (put s k v)
+put s (ArrayOf r k) (tree.Fill v) = on_core (core.Fill (small (count r))) (put s k v)
 put s Truth (tree.Fill v) = None
 put s Whole (tree.Fill v) = None
 put s (Range low high) (tree.Fill v) = None
@@ -51,10 +51,10 @@ misfits s (Some k) at tree.Empty = where_wrong (not (is_seq k)) at 12
 misfits s (Some k) at (tree.Fill v) = if is_array k then misfits s (item_kind k) (at + 2) v else at_fault at 12
 misfits s (Some k) at (tree.Value t) = unfit k at (judge s t)
 
+abbrev pub has_fault : List Fault → Bool
+has_fault [] = false
+has_fault (f ∷ fs) = true
+
 -- a value doesn't fit its place
 abbrev pub is_misfit : Scope → Option Kind → PlainInit → Bool
-is_misfit s k v = some_fault (misfits s k 0 v)
-  where
-    some_fault : List Fault → Bool
-    some_fault [] = false
-    some_fault _ = true
+is_misfit s k v = has_fault (misfits s k 0 v)

@@ -1,15 +1,23 @@
 //! What holds of the rules.
-ghost use Rattle.std.specs.Prelude.{◌≡◌, ◌<◌, ◌+◌, Some, None, List, [], ◌∷◌, ◌++◌, length, take, drop};
+ghost use Rattle.std.specs.Prelude.{◌≡◌, ◌<◌, ◌+◌, ℕ, pos, neg_ℤ, if◌then◌else◌, Some, None, List, [], ◌∷◌, ◌++◌, length, take, drop};
 ghost use Rattle.ioa_tokens.specs.declared.Word.TheVariants as w;
 ghost use Rattle.ioa_tokens.specs.Tokens.{Name, Key};
+ghost use Rattle.ioa_trees.specs.declared.tree.Signed.{Signed};
 ghost use Rattle.ioa_trees.specs.Nodes.{yield, yields};
 ghost use Rattle.ioa_trees.specs.Spelling.{type_node, node, init_node, statement_node, statements_node, formal_node, parameter_node, entry_node, variable_node, transition_node, task_node, basic_node, component_node, components_nodes, type_definition_node, spell};
 ghost use Rattle.ioa_trees.specs.Trees.{Bytes, PlainType, PlainTerm, PlainInit, PlainDeclared, PlainStatement, PlainParameter, PlainEntry, PlainVariable, PlainTransition, PlainAutomaton, PlainComponent, Same, Enumeration, PlainTypeDefinition, PlainSource};
 ghost use Rattle.ioa_rules.specs.Faults.{Fault, IsLeast, keep};
+ghost use Rattle.ioa_rules.specs.Kinds.{whole_number, number};
 ghost use Rattle.ioa_rules.specs.Sizes.{type_size, size, init_size, name_size, declared_size, parameter_size, statement_size, statements_size, entry_size, variable_size, pre_size, transition_size, task_size, automaton_size, component_size, definition_size, behind, listed_size, row_size};
 ghost use Rattle.ioa_rules.specs.Places.{automaton_tokens};
 ghost use Rattle.ioa_rules.specs.AutomatonRules.{signature_at, states_at, transitions_at, tasks_at};
 ghost use Rattle.ioa_rules.specs.SourceRules.{definitions_size, automata_size, composed_at};
+
+/// A number below 2^63 is meant as it is written.
+pub fn number_law()
+    ensures plain { (n : ℕ) → n < 9223372036854775808 → whole_number n ≡ pos n }
+    ensures signed { (s : Signed) → s.size < 9223372036854775808 → number s ≡ (if s.is_negative then neg_ℤ (pos s.size) else pos s.size) }
+{}
 
 /// The least fault so far, kept over a list, is the least of the list; none is kept only where there is none.
 pub fn least_law()

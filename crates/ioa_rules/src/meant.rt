@@ -36,8 +36,8 @@ pub fn effects_meant_law()
 
 /// Parameters without faults have slots, and the scope stays meant with them; a transition without faults has a precondition and an effect.
 pub fn entries_meant_law()
-    ensures slots { (s : Scope) → AllMeant s → (c : Bool) (at : ℕ) (ps : List PlainParameter) → parameters_faults s c at ps ≡ [] → AllSome (slots s ps) }
-    ensures scope { (s : Scope) → AllMeant s → (c : Bool) (at n : ℕ) (ps : List PlainParameter) → parameters_faults s c at ps ≡ [] → AllMeant (with_parameters s n ps) }
+    ensures slots { (s : Scope) → AllMeant s → (c : Bool) (n at : ℕ) (ps : List PlainParameter) → parameters_faults s c n at ps ≡ [] → AllSome (slots s n ps) }
+    ensures scope { (s : Scope) → AllMeant s → (c : Bool) (n at : ℕ) (ps : List PlainParameter) → parameters_faults s c n at ps ≡ [] → AllMeant (with_parameters s n ps) }
     ensures transition { (s : Scope) → AllMeant s → (entries : List PlainEntry) (before : List PlainTransition) (at : ℕ) (t : PlainTransition) → transition_faults s entries before at t ≡ [] → IsSome (pre_of s t.pre) × IsSome (effects_of s 0 t.eff) }
 {}
 

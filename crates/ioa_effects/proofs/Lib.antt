@@ -1,0 +1,4 @@
+pub mod Chained
+pub mod Keeps
+pub mod Misfits
+pub mod Parts
