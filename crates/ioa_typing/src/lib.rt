@@ -2,6 +2,8 @@
 #![tactic(auto)]
 
 pub mod listing;
+mod operators;
+mod sequences;
 pub mod term;
 pub mod typed;
 pub mod types;
