@@ -20,7 +20,7 @@ check_term-returns-in_ok-found-in-Call-clause-faults t c =
     let s = names_tree c.args.names.now in
     let at = c.args.walk.now.at in
     let begun = c.check_term-in-Call.new.walk in
-    rw is (keep_both (least_tree c.args.walk.now.least) (least_tree begun.least) _ (faults s (at + 2) of) (wants is_seq (at + 2) (judged_tree c.in_ok-of-in-Call.of)) (wants is_seq (at + 2) (judge s of)) (search (rules, the_lemmas)) (ap (λ j. wants is_seq (at + 2) j) (search (rules, the_lemmas))) (search (rules, the_lemmas)))
+    rw is (keep_both (least_tree c.args.walk.now.least) (least_tree begun.least) (least_tree c.end_call.new.walk.least) (faults s (at + 2) of) (wants is_seq (at + 2) (judged_tree c.in_ok-of-in-Call.of)) (wants is_seq (at + 2) (judge s of)) (search (rules, the_lemmas)) (ap (λ j. wants is_seq (at + 2) j) (search (rules, the_lemmas))) (search (rules, the_lemmas)))
 
 pub check_term-returns-in_ok-found-in-Minus-clause-faults : goal.check_term-returns-in_ok-found-in-Minus-clause-faults
 check_term-returns-in_ok-found-in-Minus-clause-faults t c =
@@ -29,7 +29,7 @@ check_term-returns-in_ok-found-in-Minus-clause-faults t c =
     let s = names_tree c.args.names.now in
     let at = c.args.walk.now.at in
     let begun = c.check_term-in-Minus.new.walk in
-    rw is (keep_both (least_tree c.args.walk.now.least) (least_tree begun.least) _ (faults s (at + 1) of) (wants is_whole (at + 1) (judged_tree c.in_ok-of-in-Minus.of)) (wants is_whole (at + 1) (judge s of)) (search (rules, the_lemmas)) (ap (λ j. wants is_whole (at + 1) j) (search (rules, the_lemmas))) (search (rules, the_lemmas)))
+    rw is (keep_both (least_tree c.args.walk.now.least) (least_tree begun.least) (least_tree c.end_minus.new.walk.least) (faults s (at + 1) of) (wants is_whole (at + 1) (judged_tree c.in_ok-of-in-Minus.of)) (wants is_whole (at + 1) (judge s of)) (search (rules, the_lemmas)) (ap (λ j. wants is_whole (at + 1) j) (search (rules, the_lemmas))) (search (rules, the_lemmas)))
 
 pub check_term-returns-in_ok-found-in-Not-clause-faults : goal.check_term-returns-in_ok-found-in-Not-clause-faults
 check_term-returns-in_ok-found-in-Not-clause-faults t c =
@@ -38,7 +38,7 @@ check_term-returns-in_ok-found-in-Not-clause-faults t c =
     let s = names_tree c.args.names.now in
     let at = c.args.walk.now.at in
     let begun = c.check_term-in-Not.new.walk in
-    rw is (keep_both (least_tree c.args.walk.now.least) (least_tree begun.least) _ (faults s (at + 1) of) (wants is_truth (at + 1) (judged_tree c.in_ok-of-in-Not.of)) (wants is_truth (at + 1) (judge s of)) (search (rules, the_lemmas)) (ap (λ j. wants is_truth (at + 1) j) (search (rules, the_lemmas))) (search (rules, the_lemmas)))
+    rw is (keep_both (least_tree c.args.walk.now.least) (least_tree begun.least) (least_tree c.end_not.new.walk.least) (faults s (at + 1) of) (wants is_truth (at + 1) (judged_tree c.in_ok-of-in-Not.of)) (wants is_truth (at + 1) (judge s of)) (search (rules, the_lemmas)) (ap (λ j. wants is_truth (at + 1) j) (search (rules, the_lemmas))) (search (rules, the_lemmas)))
 
 pub check_term-returns-in_ok-found-in-Append-clause-faults : goal.check_term-returns-in_ok-found-in-Append-clause-faults
 check_term-returns-in_ok-found-in-Append-clause-faults t c =
@@ -56,7 +56,7 @@ check_term-returns-in_ok-found-in-Append-clause-faults t c =
     let second_meant : k ≡ judge s right = search (rules, the_lemmas) in
     let rest : ℕ → Option Judged → Option Judged → List Fault = λ n i m. wants is_seq (at + 2) i ++ append_faults n i m in
     let same = ap (λ n. rest n j k) place ∙ ap (λ i. rest (at + size left + 3) i k) first_meant ∙ ap (λ m. rest (at + size left + 3) (judge s left) m) second_meant in
-    rw is (keep_parts (least_tree c.args.walk.now.least) (least_tree first.least) (least_tree second.least) _ (faults s (at + 2) left) (faults s (first.at + 1) right) (faults s (at + size left + 3) right) (rest (first.at + 1) j k) (rest (at + size left + 3) (judge s left) (judge s right)) (search (rules, the_lemmas)) (ap (λ n. faults s n right) place) (search (rules, the_lemmas)) same (search (rules, the_lemmas)))
+    rw is (keep_parts (least_tree c.args.walk.now.least) (least_tree first.least) (least_tree second.least) (least_tree c.end_append.new.walk.least) (faults s (at + 2) left) (faults s (first.at + 1) right) (faults s (at + size left + 3) right) (rest (first.at + 1) j k) (rest (at + size left + 3) (judge s left) (judge s right)) (search (rules, the_lemmas)) (ap (λ n. faults s n right) place) (search (rules, the_lemmas)) same (search (rules, the_lemmas)))
 
 pub check_term-returns-in_ok-found-in-Compare-clause-faults : goal.check_term-returns-in_ok-found-in-Compare-clause-faults
 check_term-returns-in_ok-found-in-Compare-clause-faults t c =
@@ -74,7 +74,7 @@ check_term-returns-in_ok-found-in-Compare-clause-faults t c =
     let second_meant : k ≡ judge s right = search (rules, the_lemmas) in
     let rest : ℕ → Option Judged → Option Judged → List Fault = λ n i m. compare_faults c.in-Compare.relation n i m in
     let same = ap (λ n. rest n j k) place ∙ ap (λ i. rest (at + size left + 1) i k) first_meant ∙ ap (λ m. rest (at + size left + 1) (judge s left) m) second_meant in
-    rw is (keep_parts (least_tree c.args.walk.now.least) (least_tree first.least) (least_tree second.least) _ (faults s at left) (faults s (first.at + 1) right) (faults s (at + size left + 1) right) (rest (first.at + 1) j k) (rest (at + size left + 1) (judge s left) (judge s right)) (search (rules, the_lemmas)) (ap (λ n. faults s n right) place) (search (rules, the_lemmas)) same (search (rules, the_lemmas)))
+    rw is (keep_parts (least_tree c.args.walk.now.least) (least_tree first.least) (least_tree second.least) (least_tree c.end_compare.new.walk.least) (faults s at left) (faults s (first.at + 1) right) (faults s (at + size left + 1) right) (rest (first.at + 1) j k) (rest (at + size left + 1) (judge s left) (judge s right)) (search (rules, the_lemmas)) (ap (λ n. faults s n right) place) (search (rules, the_lemmas)) same (search (rules, the_lemmas)))
 
 pub check_term-returns-in_ok-found-in-Index-clause-faults : goal.check_term-returns-in_ok-found-in-Index-clause-faults
 check_term-returns-in_ok-found-in-Index-clause-faults t c =
@@ -88,7 +88,7 @@ check_term-returns-in_ok-found-in-Index-clause-faults t c =
     let meant : j ≡ judge s of = search (rules, the_lemmas) in
     let place : begun.at ≡ at + size of = search (rules, the_lemmas) in
     let same = ap (λ i. indexes_faults s at i begun.at indexes) meant ∙ ap (λ n. indexes_faults s at (judge s of) n indexes) place in
-    rw is (keep_both (least_tree c.args.walk.now.least) (least_tree begun.least) _ (faults s at of) (indexes_faults s at j begun.at indexes) (indexes_faults s at (judge s of) (at + size of) indexes) (search (rules, the_lemmas)) same (search (rules, the_lemmas)))
+    rw is (keep_both (least_tree c.args.walk.now.least) (least_tree begun.least) (least_tree c.check_indexes.new.walk.least) (faults s at of) (indexes_faults s at j begun.at indexes) (indexes_faults s at (judge s of) (at + size of) indexes) (search (rules, the_lemmas)) same (search (rules, the_lemmas)))
 
 pub check_term-returns-in_ok-core-in-Product-clause-faults : goal.check_term-returns-in_ok-core-in-Product-clause-faults
 check_term-returns-in_ok-core-in-Product-clause-faults t c =
@@ -99,7 +99,7 @@ check_term-returns-in_ok-core-in-Product-clause-faults t c =
     let at = c.args.walk.now.at in
     let begun = c.check_term-in-Product.new.walk in
     let noted = c.note_unless_whole.new.walk in
-    rw is (keep_parts (least_tree c.args.walk.now.least) (least_tree begun.least) (least_tree noted.least) _ (faults s at first) (wants is_whole at (judged_tree c.in_ok-first-in-Product.first)) (wants is_whole at (judge s first)) (factors_faults s noted.at factors) (factors_faults s (at + size first) factors) (search (rules, the_lemmas)) (ap (λ j. wants is_whole at j) (search (rules, the_lemmas))) (search (rules, the_lemmas)) (ap (λ n. factors_faults s n factors) (search (rules, the_lemmas))) (search (rules, the_lemmas)))
+    rw is (keep_parts (least_tree c.args.walk.now.least) (least_tree begun.least) (least_tree noted.least) (least_tree c.check_factors.new.walk.least) (faults s at first) (wants is_whole at (judged_tree c.in_ok-first-in-Product.first)) (wants is_whole at (judge s first)) (factors_faults s noted.at factors) (factors_faults s (at + size first) factors) (search (rules, the_lemmas)) (ap (λ j. wants is_whole at j) (search (rules, the_lemmas))) (search (rules, the_lemmas)) (ap (λ n. factors_faults s n factors) (search (rules, the_lemmas))) (search (rules, the_lemmas)))
 
 pub check_term-returns-in_ok-core-in-Sum-clause-faults : goal.check_term-returns-in_ok-core-in-Sum-clause-faults
 check_term-returns-in_ok-core-in-Sum-clause-faults t c =
@@ -110,7 +110,7 @@ check_term-returns-in_ok-core-in-Sum-clause-faults t c =
     let at = c.args.walk.now.at in
     let begun = c.check_term-in-Sum.new.walk in
     let noted = c.note_unless_whole-in-Sum.new.walk in
-    rw is (keep_parts (least_tree c.args.walk.now.least) (least_tree begun.least) (least_tree noted.least) _ (faults s at first) (wants is_whole at (judged_tree c.in_ok-first-in-Sum.first)) (wants is_whole at (judge s first)) (addends_faults s noted.at addends) (addends_faults s (at + size first) addends) (search (rules, the_lemmas)) (ap (λ j. wants is_whole at j) (search (rules, the_lemmas))) (search (rules, the_lemmas)) (ap (λ n. addends_faults s n addends) (search (rules, the_lemmas))) (search (rules, the_lemmas)))
+    rw is (keep_parts (least_tree c.args.walk.now.least) (least_tree begun.least) (least_tree noted.least) (least_tree c.check_addends.new.walk.least) (faults s at first) (wants is_whole at (judged_tree c.in_ok-first-in-Sum.first)) (wants is_whole at (judge s first)) (addends_faults s noted.at addends) (addends_faults s (at + size first) addends) (search (rules, the_lemmas)) (ap (λ j. wants is_whole at j) (search (rules, the_lemmas))) (search (rules, the_lemmas)) (ap (λ n. addends_faults s n addends) (search (rules, the_lemmas))) (search (rules, the_lemmas)))
 
 pub check_term-returns-in_ok-core-in-And-clause-faults : goal.check_term-returns-in_ok-core-in-And-clause-faults
 check_term-returns-in_ok-core-in-And-clause-faults t c =
@@ -121,7 +121,7 @@ check_term-returns-in_ok-core-in-And-clause-faults t c =
     let at = c.args.walk.now.at in
     let begun = c.check_term-in-And.new.walk in
     let noted = c.note_unless_truth.new.walk in
-    rw is (keep_parts (least_tree c.args.walk.now.least) (least_tree begun.least) (least_tree noted.least) _ (faults s at first) (wants is_truth at (judged_tree c.in_ok-first-in-And.first)) (wants is_truth at (judge s first)) (truths_faults s noted.at others) (truths_faults s (at + size first) others) (search (rules, the_lemmas)) (ap (λ j. wants is_truth at j) (search (rules, the_lemmas))) (search (rules, the_lemmas)) (ap (λ n. truths_faults s n others) (search (rules, the_lemmas))) (search (rules, the_lemmas)))
+    rw is (keep_parts (least_tree c.args.walk.now.least) (least_tree begun.least) (least_tree noted.least) (least_tree c.check_truths.new.walk.least) (faults s at first) (wants is_truth at (judged_tree c.in_ok-first-in-And.first)) (wants is_truth at (judge s first)) (truths_faults s noted.at others) (truths_faults s (at + size first) others) (search (rules, the_lemmas)) (ap (λ j. wants is_truth at j) (search (rules, the_lemmas))) (search (rules, the_lemmas)) (ap (λ n. truths_faults s n others) (search (rules, the_lemmas))) (search (rules, the_lemmas)))
 
 pub check_term-returns-in_ok-core-in-Or-clause-faults : goal.check_term-returns-in_ok-core-in-Or-clause-faults
 check_term-returns-in_ok-core-in-Or-clause-faults t c =
@@ -132,7 +132,7 @@ check_term-returns-in_ok-core-in-Or-clause-faults t c =
     let at = c.args.walk.now.at in
     let begun = c.check_term-in-Or.new.walk in
     let noted = c.note_unless_truth-in-Or.new.walk in
-    rw is (keep_parts (least_tree c.args.walk.now.least) (least_tree begun.least) (least_tree noted.least) _ (faults s at first) (wants is_truth at (judged_tree c.in_ok-first-in-Or.first)) (wants is_truth at (judge s first)) (truths_faults s noted.at others) (truths_faults s (at + size first) others) (search (rules, the_lemmas)) (ap (λ j. wants is_truth at j) (search (rules, the_lemmas))) (search (rules, the_lemmas)) (ap (λ n. truths_faults s n others) (search (rules, the_lemmas))) (search (rules, the_lemmas)))
+    rw is (keep_parts (least_tree c.args.walk.now.least) (least_tree begun.least) (least_tree noted.least) (least_tree c.check_truths-in-Or.new.walk.least) (faults s at first) (wants is_truth at (judged_tree c.in_ok-first-in-Or.first)) (wants is_truth at (judge s first)) (truths_faults s noted.at others) (truths_faults s (at + size first) others) (search (rules, the_lemmas)) (ap (λ j. wants is_truth at j) (search (rules, the_lemmas))) (search (rules, the_lemmas)) (ap (λ n. truths_faults s n others) (search (rules, the_lemmas))) (search (rules, the_lemmas)))
 
 pub check_truths-loop-other-preserved : goal.check_truths-loop-other-preserved
 check_truths-loop-other-preserved t c =
