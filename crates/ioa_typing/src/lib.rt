@@ -13,3 +13,6 @@ pub use term::check_term;
 pub use typed::Typed;
 pub use types::check_type;
 pub use walk::{Fault, Walk};
+
+#[cfg(test)]
+mod tests;
