@@ -2,6 +2,8 @@
 #![tactic(auto)]
 
 pub mod listing;
+mod operators;
+mod sequences;
 pub mod term;
 pub mod typed;
 pub mod types;
@@ -11,3 +13,6 @@ pub use term::check_term;
 pub use typed::Typed;
 pub use types::check_type;
 pub use walk::{Fault, Walk};
+
+#[cfg(test)]
+mod tests;

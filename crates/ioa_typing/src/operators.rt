@@ -1,0 +1,291 @@
+//! Names, and what operators make of terms.
+ghost use Rattle.std.specs.Prelude.{◌≡◌, not, OnOk, IfOk};
+ghost use Rattle.terms.specs.TermTree as core;
+ghost use Rattle.terms.specs.TermTree.{term_tree};
+ghost use Rattle.ioa_kinds.specs.Views.{option_tree, shape_tree};
+ghost use Rattle.ioa_names.specs.Views.{names_tree};
+ghost use Rattle.ioa_rules.specs.Faults.{keep, where_wrong};
+ghost use Rattle.ioa_rules.specs.Kinds as kinds;
+ghost use Rattle.ioa_rules.specs.Scopes.{named, is_value};
+ghost use Rattle.ioa_rules.specs.TermRules as rule;
+ghost use Rattle.ioa_typing.specs.Views.{core_tree, judged_tree, least_tree, typed_tree};
+
+use crate::typed::{Typed, note_unless_truth, note_unless_whole, truth_of, whole_of};
+use crate::walk::Walk;
+use ioa_kinds::shape::{fits, is_whole, shape_of};
+use ioa_kinds::{Kind, Shape};
+use ioa_names::{Meaning, Names};
+use ioa_trees::tree::{Relation, Sign};
+use std::alloc::{AllocError, Global};
+use terms::{Operator, Scalar, Term};
+
+fn of_kind(core: Term, kind: &Option<Kind>) -> Option<Typed<'_>>
+    ensures { judged_tree result ≡ rule.of_kind (term_tree core) (option_tree kind.now) }
+{
+    match kind {
+        None => None,
+        Some(kind) => Some(Typed {
+            core,
+            shape: shape_of(kind),
+        }),
+    }
+}
+
+fn value_named<'a>(names: &'a Names, name: &str) -> Option<Typed<'a>>
+    ensures { judged_tree result ≡ rule.value_meant (named name.now (names_tree names.now)) }
+{
+    match names.get(name) {
+        None => None,
+        Some(Meaning::Type(_)) => None,
+        Some(Meaning::Member(at, first, count)) => Some(Typed {
+            core: Term::Known(Scalar::Member(*at)),
+            shape: Shape::Enumeration(*first, *count),
+        }),
+        Some(Meaning::Automaton(_)) => None,
+        Some(Meaning::Formal(number, kind)) => of_kind(Term::Formal(*number), kind),
+        Some(Meaning::Variable(number, kind)) => of_kind(Term::Cell(*number), kind),
+        Some(Meaning::Parameter(number, kind)) => of_kind(Term::Parameter(*number), kind),
+        Some(Meaning::Loop(number, kind)) => of_kind(Term::Loop(*number), kind),
+    }
+}
+
+fn is_value_named(names: &Names, name: &str) -> bool
+    ensures { result ≡ is_value (named name.now (names_tree names.now)) }
+{
+    match names.get(name) {
+        None => false,
+        Some(Meaning::Type(_)) => false,
+        Some(Meaning::Member(_, _, _)) => true,
+        Some(Meaning::Automaton(_)) => false,
+        Some(Meaning::Formal(_, _)) => true,
+        Some(Meaning::Variable(_, _)) => true,
+        Some(Meaning::Parameter(_, _)) => true,
+        Some(Meaning::Loop(_, _)) => true,
+    }
+}
+
+/// A name in a term.
+pub(crate) fn check_name<'a>(
+    names: &'a Names,
+    name: &str,
+    place: u32,
+    walk: &mut Walk,
+) -> Option<Typed<'a>>
+    ensures at { walk.new.at ≡ walk.old.at }
+    ensures faults { least_tree walk.new.least ≡ keep (least_tree walk.old.least) (where_wrong (not (is_value (named name.now (names_tree names.now)))) place 10) }
+    ensures meant { judged_tree result ≡ rule.value_meant (named name.now (names_tree names.now)) }
+{
+    walk.note_if(!is_value_named(names, name), place, 10);
+    value_named(names, name)
+}
+
+/// A literal.
+pub(crate) fn known<'a>(scalar: Scalar, shape: Shape<'a>) -> Option<Typed<'a>>
+    ensures { judged_tree result ≡ rule.judged (shape_tree shape.entry) (core.Known scalar) }
+{
+    Some(Typed {
+        core: Term::Known(scalar),
+        shape,
+    })
+}
+
+/// A term of this kind.
+pub(crate) fn of_core<'a>(shape: Shape<'a>, core: Option<Term>) -> Option<Typed<'a>>
+    ensures { judged_tree result ≡ rule.of_core (shape_tree shape.entry) (core_tree core) }
+{
+    match core {
+        None => None,
+        Some(core) => Some(Typed { core, shape }),
+    }
+}
+
+fn negative_of(alloc: Global, of: Option<Term>) -> Result<Option<Term>, AllocError>
+    ensures { IfOk result (λ c. core_tree c ≡ rule.on_core core.Negative (core_tree of)) }
+{
+    match of {
+        None => Ok(None),
+        Some(of) => Ok(Some(Term::Negative(Box::new(alloc, of)?))),
+    }
+}
+
+fn not_of(alloc: Global, of: Option<Term>) -> Result<Option<Term>, AllocError>
+    ensures { IfOk result (λ c. core_tree c ≡ rule.on_core core.Not (core_tree of)) }
+{
+    match of {
+        None => Ok(None),
+        Some(of) => Ok(Some(Term::Not(Box::new(alloc, of)?))),
+    }
+}
+
+/// `-` before what stands at this place.
+pub(crate) fn end_minus<'a>(
+    alloc: Global,
+    of: Option<Typed<'a>>,
+    place: u32,
+    walk: &mut Walk,
+) -> Result<Option<Typed<'a>>, AllocError>
+    ensures at { OnOk result (walk.new.at ≡ walk.old.at) }
+    ensures faults { OnOk result (least_tree walk.new.least ≡ keep (least_tree walk.old.least) (rule.wants kinds.is_whole place (judged_tree of.entry))) }
+    ensures meant { IfOk result (λ j. judged_tree j ≡ rule.of_core kinds.Whole (rule.on_core core.Negative (rule.whole_of (judged_tree of.entry)))) }
+{
+    note_unless_whole(walk, place, &of);
+    let core = negative_of(alloc, whole_of(of))?;
+    Ok(of_core(Shape::Whole, core))
+}
+
+/// `not` before what stands at this place.
+pub(crate) fn end_not<'a>(
+    alloc: Global,
+    of: Option<Typed<'a>>,
+    place: u32,
+    walk: &mut Walk,
+) -> Result<Option<Typed<'a>>, AllocError>
+    ensures at { OnOk result (walk.new.at ≡ walk.old.at) }
+    ensures faults { OnOk result (least_tree walk.new.least ≡ keep (least_tree walk.old.least) (rule.wants kinds.is_truth place (judged_tree of.entry))) }
+    ensures meant { IfOk result (λ j. judged_tree j ≡ rule.of_core kinds.Truth (rule.on_core core.Not (rule.truth_of (judged_tree of.entry)))) }
+{
+    note_unless_truth(walk, place, &of);
+    let core = not_of(alloc, truth_of(of))?;
+    Ok(of_core(Shape::Truth, core))
+}
+
+pub(crate) fn operator_of(sign: Sign) -> Operator
+    ensures { result ≡ rule.operator_of sign }
+{
+    match sign {
+        Sign::Plus => Operator::Plus,
+        Sign::Minus => Operator::Minus,
+    }
+}
+
+fn joined(
+    alloc: Global,
+    operator: Operator,
+    left: Option<Term>,
+    right: Option<Term>,
+) -> Result<Option<Term>, AllocError>
+    ensures { IfOk result (λ c. core_tree c ≡ rule.joined operator (core_tree left) (core_tree right)) }
+{
+    let Some(left) = left else {
+        return Ok(None);
+    };
+    let Some(right) = right else {
+        return Ok(None);
+    };
+    let left = Box::new(alloc, left)?;
+    let right = Box::new(alloc, right)?;
+    Ok(Some(Term::Binary(operator, left, right)))
+}
+
+/// `and` or `or` with one more operand at this place.
+pub(crate) fn join_truth(
+    alloc: Global,
+    operator: Operator,
+    left: Option<Term>,
+    right: Option<Typed<'_>>,
+    place: u32,
+    walk: &mut Walk,
+) -> Result<Option<Term>, AllocError>
+    ensures at { OnOk result (walk.new.at ≡ walk.old.at) }
+    ensures faults { OnOk result (least_tree walk.new.least ≡ keep (least_tree walk.old.least) (rule.wants kinds.is_truth place (judged_tree right.entry))) }
+    ensures meant { IfOk result (λ c. core_tree c ≡ rule.joined operator (core_tree left) (rule.truth_of (judged_tree right.entry))) }
+{
+    note_unless_truth(walk, place, &right);
+    let core = joined(alloc, operator, left, truth_of(right))?;
+    Ok(core)
+}
+
+/// A sum or a product with one more operand at this place.
+pub(crate) fn join_whole(
+    alloc: Global,
+    operator: Operator,
+    left: Option<Term>,
+    right: Option<Typed<'_>>,
+    place: u32,
+    walk: &mut Walk,
+) -> Result<Option<Term>, AllocError>
+    ensures at { OnOk result (walk.new.at ≡ walk.old.at) }
+    ensures faults { OnOk result (least_tree walk.new.least ≡ keep (least_tree walk.old.least) (rule.wants kinds.is_whole place (judged_tree right.entry))) }
+    ensures meant { IfOk result (λ c. core_tree c ≡ rule.joined operator (core_tree left) (rule.whole_of (judged_tree right.entry))) }
+{
+    note_unless_whole(walk, place, &right);
+    let core = joined(alloc, operator, left, whole_of(right))?;
+    Ok(core)
+}
+
+/// The remainder by a number, which isn't 0.
+pub(crate) fn modulo_of(
+    alloc: Global,
+    divisor: u64,
+    left: Option<Term>,
+) -> Result<Option<Term>, AllocError>
+    ensures { IfOk result (λ c. core_tree c ≡ rule.modulo_of divisor (core_tree left)) }
+{
+    let Some(left) = left else {
+        return Ok(None);
+    };
+    if divisor == 0 {
+        return Ok(None);
+    }
+    let left = Box::new(alloc, left)?;
+    Ok(Some(Term::Modulo(left, divisor.cast_signed())))
+}
+
+fn compares(relation: Relation, left: Shape<'_>, right: Shape<'_>) -> bool
+    ensures { result ≡ rule.compares relation (shape_tree left.entry) (shape_tree right.entry) }
+{
+    match relation {
+        Relation::Equal => fits(left, right),
+        Relation::NotEqual => fits(left, right),
+        Relation::Less => is_whole(left) && is_whole(right),
+        Relation::AtMost => is_whole(left) && is_whole(right),
+        Relation::Greater => is_whole(left) && is_whole(right),
+        Relation::AtLeast => is_whole(left) && is_whole(right),
+    }
+}
+
+fn compared(alloc: Global, relation: Relation, left: Term, right: Term) -> Result<Term, AllocError>
+    ensures { IfOk result (λ c. term_tree c ≡ rule.compared relation (term_tree left) (term_tree right)) }
+{
+    let left = Box::new(alloc, left)?;
+    let right = Box::new(alloc, right)?;
+    match relation {
+        Relation::Equal => Ok(Term::Binary(Operator::Same, left, right)),
+        Relation::NotEqual => Ok(Term::Binary(Operator::Differs, left, right)),
+        Relation::Less => Ok(Term::Binary(Operator::Less, left, right)),
+        Relation::AtMost => Ok(Term::Binary(Operator::AtMost, left, right)),
+        Relation::Greater => Ok(Term::Binary(Operator::Less, right, left)),
+        Relation::AtLeast => Ok(Term::Binary(Operator::AtMost, right, left)),
+    }
+}
+
+/// A comparison whose right operand stands at this place.
+pub(crate) fn end_compare<'a>(
+    alloc: Global,
+    relation: Relation,
+    left: Option<Typed<'a>>,
+    right: Option<Typed<'a>>,
+    place: u32,
+    walk: &mut Walk,
+) -> Result<Option<Typed<'a>>, AllocError>
+    ensures at { OnOk result (walk.new.at ≡ walk.old.at) }
+    ensures faults { OnOk result (least_tree walk.new.least ≡ keep (least_tree walk.old.least) (rule.compare_faults relation place (judged_tree left.entry) (judged_tree right.entry))) }
+    ensures meant { IfOk result (λ j. judged_tree j ≡ rule.compare_of relation (judged_tree left.entry) (judged_tree right.entry)) }
+{
+    let Some(left) = left else {
+        return Ok(None);
+    };
+    let Some(right) = right else {
+        return Ok(None);
+    };
+    let fits = compares(relation, left.shape, right.shape);
+    walk.note_if(!fits, place, 12);
+    if !fits {
+        return Ok(None);
+    }
+    let core = compared(alloc, relation, left.core, right.core)?;
+    Ok(Some(Typed {
+        core,
+        shape: Shape::Truth,
+    }))
+}

@@ -1,0 +1,241 @@
+//! What is asked of sequences, and the elements of arrays.
+ghost use Rattle.std.specs.Prelude.{◌≡◌, ◌++◌, Some, OnOk, IfOk};
+ghost use Rattle.terms.specs.TermTree.{term_tree};
+ghost use Rattle.ioa_kinds.specs.Views.{kind_tree, shape_tree};
+ghost use Rattle.ioa_rules.specs.Faults.{keep};
+ghost use Rattle.ioa_rules.specs.Kinds as kinds;
+ghost use Rattle.ioa_rules.specs.TermRules as rule;
+ghost use Rattle.ioa_typing.specs.Views.{judged_tree, least_tree, typed_tree};
+
+use crate::listing::{item_shape, listed_of};
+use crate::typed::{Typed, note_unfit, note_unless_seq, placed};
+use crate::walk::Walk;
+use ioa_kinds::shape::{fits, shape_of};
+use ioa_kinds::{Kind, Shape};
+use ioa_trees::tree::Call;
+use std::alloc::{AllocError, Global};
+use terms::Term;
+
+fn called<'a>(
+    alloc: Global,
+    call: Call,
+    item: &'a Kind,
+    most: u64,
+    core: Term,
+) -> Result<Typed<'a>, AllocError>
+    ensures { IfOk result (λ t. Some (typed_tree t) ≡ rule.called call (kind_tree item.now) most (term_tree core)) }
+{
+    match call {
+        Call::Head => {
+            let kind = item_shape(alloc, item)?;
+            let core = Term::Head(Box::new(alloc, core)?, kind);
+            Ok(Typed {
+                core,
+                shape: shape_of(item),
+            })
+        }
+        Call::Tail => {
+            let core = Term::Tail(Box::new(alloc, core)?);
+            Ok(Typed {
+                core,
+                shape: Shape::Seq(item, most),
+            })
+        }
+        Call::Len => {
+            let core = Term::Length(Box::new(alloc, core)?);
+            Ok(Typed {
+                core,
+                shape: Shape::Whole,
+            })
+        }
+    }
+}
+
+// What a call of this word means.
+fn call_of<'a>(
+    alloc: Global,
+    call: Call,
+    of: Option<Typed<'a>>,
+) -> Result<Option<Typed<'a>>, AllocError>
+    ensures { IfOk result (λ j. judged_tree j ≡ rule.call_of call (judged_tree of.entry)) }
+{
+    let Some(of) = of else {
+        return Ok(None);
+    };
+    match of.shape {
+        Shape::Seq(item, most) => {
+            let found = called(alloc, call, item, most, of.core)?;
+            Ok(Some(found))
+        }
+        Shape::Truth => Ok(None),
+        Shape::Whole => Ok(None),
+        Shape::Range(_, _) => Ok(None),
+        Shape::Enumeration(_, _) => Ok(None),
+        Shape::Array(_, _) => Ok(None),
+    }
+}
+
+/// A call on what stands at this place.
+pub(crate) fn end_call<'a>(
+    alloc: Global,
+    call: Call,
+    of: Option<Typed<'a>>,
+    place: u32,
+    walk: &mut Walk,
+) -> Result<Option<Typed<'a>>, AllocError>
+    ensures at { OnOk result (walk.new.at ≡ walk.old.at) }
+    ensures faults { OnOk result (least_tree walk.new.least ≡ keep (least_tree walk.old.least) (rule.wants kinds.is_seq place (judged_tree of.entry))) }
+    ensures meant { IfOk result (λ j. judged_tree j ≡ rule.call_of call (judged_tree of.entry)) }
+{
+    note_unless_seq(walk, place, &of);
+    let found = call_of(alloc, call, of)?;
+    Ok(found)
+}
+
+fn note_item(walk: &mut Walk, place: u32, list: &Option<Typed<'_>>, item: &Option<Typed<'_>>)
+    ensures at { walk.new.at ≡ walk.old.at }
+    ensures least { least_tree walk.new.least ≡ keep (least_tree walk.old.least) (rule.append_faults place (judged_tree list.now) (judged_tree item.now)) }
+{
+    if let Some(list) = list {
+        if let Shape::Seq(kind, _) = list.shape {
+            note_unfit(walk, shape_of(kind), place, item);
+        }
+    }
+}
+
+fn appended_to<'a>(
+    alloc: Global,
+    list: Typed<'a>,
+    item: Typed<'a>,
+) -> Result<Option<Typed<'a>>, AllocError>
+    ensures { IfOk result (λ j. judged_tree j ≡ rule.appended_to (term_tree list.entry.core) (shape_tree list.entry.shape) (typed_tree item.entry)) }
+{
+    let Shape::Seq(kind, most) = list.shape else {
+        return Ok(None);
+    };
+    if !fits(shape_of(kind), item.shape) {
+        return Ok(None);
+    }
+    let last = placed(alloc, shape_of(kind), item.core)?;
+    let last = Box::new(alloc, last)?;
+    let core = Term::Append(Box::new(alloc, list.core)?, last, most as usize);
+    Ok(Some(Typed {
+        core,
+        shape: list.shape,
+    }))
+}
+
+fn append_of<'a>(
+    alloc: Global,
+    list: Option<Typed<'a>>,
+    item: Option<Typed<'a>>,
+) -> Result<Option<Typed<'a>>, AllocError>
+    ensures { IfOk result (λ j. judged_tree j ≡ rule.append_of (judged_tree list.entry) (judged_tree item.entry)) }
+{
+    let Some(list) = list else {
+        return Ok(None);
+    };
+    let Some(item) = item else {
+        return Ok(None);
+    };
+    let found = appended_to(alloc, list, item)?;
+    Ok(found)
+}
+
+/// A sequence at the first place with the item at the second.
+#[tactic(auto, using(crate::proofs::Keeps::keep_append))]
+pub(crate) fn end_append<'a>(
+    alloc: Global,
+    list: Option<Typed<'a>>,
+    item: Option<Typed<'a>>,
+    first: u32,
+    second: u32,
+    walk: &mut Walk,
+) -> Result<Option<Typed<'a>>, AllocError>
+    ensures at { OnOk result (walk.new.at ≡ walk.old.at) }
+    ensures faults { OnOk result (least_tree walk.new.least ≡ keep (least_tree walk.old.least) (rule.wants kinds.is_seq first (judged_tree list.entry) ++ rule.append_faults second (judged_tree list.entry) (judged_tree item.entry))) }
+    ensures meant { IfOk result (λ j. judged_tree j ≡ rule.append_of (judged_tree list.entry) (judged_tree item.entry)) }
+{
+    note_unless_seq(walk, first, &list);
+    note_item(walk, second, &list, &item);
+    let found = append_of(alloc, list, item)?;
+    Ok(found)
+}
+
+fn note_index(
+    walk: &mut Walk,
+    first: u32,
+    place: u32,
+    of: &Option<Typed<'_>>,
+    index: &Option<Typed<'_>>,
+)
+    ensures at { walk.new.at ≡ walk.old.at }
+    ensures least { least_tree walk.new.least ≡ keep (least_tree walk.old.least) (rule.index_faults first place (judged_tree of.now) (judged_tree index.now)) }
+{
+    if let Some(of) = of {
+        match of.shape {
+            Shape::Array(by, _) => note_unfit(walk, shape_of(by), place, index),
+            Shape::Truth => walk.note_if(true, first, 12),
+            Shape::Whole => walk.note_if(true, first, 12),
+            Shape::Range(_, _) => walk.note_if(true, first, 12),
+            Shape::Enumeration(_, _) => walk.note_if(true, first, 12),
+            Shape::Seq(_, _) => walk.note_if(true, first, 12),
+        }
+    }
+}
+
+fn element<'a>(
+    alloc: Global,
+    of: Typed<'a>,
+    index: Typed<'a>,
+) -> Result<Option<Typed<'a>>, AllocError>
+    ensures { IfOk result (λ j. judged_tree j ≡ rule.element (term_tree of.entry.core) (shape_tree of.entry.shape) (typed_tree index.entry)) }
+{
+    let Shape::Array(by, item) = of.shape else {
+        return Ok(None);
+    };
+    if !fits(shape_of(by), index.shape) {
+        return Ok(None);
+    }
+    let index = Box::new(alloc, index.core)?;
+    let core = Term::Index(Box::new(alloc, of.core)?, index, listed_of(by));
+    Ok(Some(Typed {
+        core,
+        shape: shape_of(item),
+    }))
+}
+
+fn element_of<'a>(
+    alloc: Global,
+    of: Option<Typed<'a>>,
+    index: Option<Typed<'a>>,
+) -> Result<Option<Typed<'a>>, AllocError>
+    ensures { IfOk result (λ j. judged_tree j ≡ rule.element_of (judged_tree of.entry) (judged_tree index.entry)) }
+{
+    let Some(of) = of else {
+        return Ok(None);
+    };
+    let Some(index) = index else {
+        return Ok(None);
+    };
+    let found = element(alloc, of, index)?;
+    Ok(found)
+}
+
+/// The element of what begins at the first token, at an index at this place.
+pub(crate) fn end_element<'a>(
+    alloc: Global,
+    of: Option<Typed<'a>>,
+    index: Option<Typed<'a>>,
+    first: u32,
+    place: u32,
+    walk: &mut Walk,
+) -> Result<Option<Typed<'a>>, AllocError>
+    ensures at { OnOk result (walk.new.at ≡ walk.old.at) }
+    ensures faults { OnOk result (least_tree walk.new.least ≡ keep (least_tree walk.old.least) (rule.index_faults first place (judged_tree of.entry) (judged_tree index.entry))) }
+    ensures meant { IfOk result (λ j. judged_tree j ≡ rule.element_of (judged_tree of.entry) (judged_tree index.entry)) }
+{
+    note_index(walk, first, place, &of, &index);
+    let found = element_of(alloc, of, index)?;
+    Ok(found)
+}
