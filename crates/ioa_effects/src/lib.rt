@@ -8,3 +8,6 @@ pub mod values;
 
 pub use statements::check_statements;
 pub use values::{Put, check_init};
+
+#[cfg(test)]
+mod tests;
