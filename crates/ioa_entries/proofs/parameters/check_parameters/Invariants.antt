@@ -1,0 +1,21 @@
+use Rattle.std.proofs.Common.{◌≡◌, ◌+◌, drop, map, option_map}
+use Rattle.ioa_trees.specs.Views.{view_parameter}
+use Rattle.ioa_rules.specs.EntryRules.{parameters_faults, times, tuples, with_parameters}
+use Rattle.ioa_rules.specs.Faults.{keep}
+use Rattle.ioa_rules.specs.Sizes.{listed_size, parameter_size}
+use Rattle.ioa_kinds.specs.Views.{capped}
+use Rattle.ioa_names.specs.Views.{names_tree}
+use Rattle.ioa_typing.specs.Views.{least_tree}
+use Rattle.ioa_entries.specs.Parts.{between, rest_size}
+use Rattle.ioa_entries.proofs.parameters.check_parameters.Given as goal
+
+abbrev pub invariant-loop-place : goal.invariant-loop-place
+invariant-loop-place l = record {
+  at : l.walk.at + rest_size l.place (map view_parameter (drop l.place l.parameters)) ≡ l.initial.walk.at + listed_size parameter_size (map view_parameter l.parameters);
+  names : with_parameters (names_tree l.names) l.place (map view_parameter (drop l.place l.parameters)) ≡ with_parameters (names_tree l.initial.names) 0 (map view_parameter l.parameters);
+  faults : keep (least_tree l.walk.least) (parameters_faults (names_tree l.names) l.controlled l.place (l.walk.at + between l.place) (map view_parameter (drop l.place l.parameters)))
+      ≡ keep (least_tree l.initial.walk.least) (parameters_faults (names_tree l.initial.names) l.controlled 0 l.initial.walk.at (map view_parameter l.parameters));
+  small : option_map capped l.tuples ≡ l.tuples;
+  many : option_map capped (times l.tuples (tuples (names_tree l.names) l.place (map view_parameter (drop l.place l.parameters))))
+      ≡ option_map capped (tuples (names_tree l.initial.names) 0 (map view_parameter l.parameters));
+}

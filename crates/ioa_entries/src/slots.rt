@@ -1,0 +1,132 @@
+//! The parameters of a transition: what each takes, and what they declare.
+ghost use Rattle.std.specs.Prelude.{◌≡◌, ◌+◌, ◌<◌, ◌^◌, map, OnOk, IfOk};
+ghost use Rattle.ioa_trees.specs.Views.{view_declared, view_parameter};
+ghost use Rattle.ioa_rules.specs.EntryRules as rule;
+ghost use Rattle.ioa_rules.specs.Scopes.{named};
+ghost use Rattle.ioa_rules.specs.Sizes.{declared_size, listed_size, parameter_size};
+ghost use Rattle.ioa_rules.specs.TypeRules.{kind_of};
+ghost use Rattle.ioa_kinds.specs.Views.{option_tree};
+ghost use Rattle.ioa_names.specs.Views.{names_tree};
+ghost use Rattle.ioa_entries.specs.Parts as part;
+ghost use Rattle.ioa_entries.specs.Views.{slot_tree};
+
+use crate::parameters::between;
+use ioa_kinds::Kind;
+use ioa_kinds::kind::copy_kind;
+use ioa_names::{Meaning, Names};
+use ioa_trees::tree::{Declared, Parameter};
+use ioa_typing::{Walk, check_type};
+use std::alloc::{AllocError, Global};
+
+/// What a parameter of an action takes.
+#[derive(Drop)]
+pub enum Slot {
+    /// The value of the formal of this number alone.
+    Fixed(usize),
+    /// Each value of this kind.
+    Free(Kind),
+}
+
+fn formal_of(names: &Names, name: &str) -> Option<Slot>
+    ensures { slot_tree result ≡ rule.formal_of (named name.now (names_tree names.now)) }
+{
+    match names.get(name) {
+        Some(Meaning::Formal(number, _)) => Some(Slot::Fixed(*number)),
+        _ => None,
+    }
+}
+
+fn free_of(alloc: Global, kind: &Option<Kind>) -> Result<Option<Slot>, AllocError>
+    ensures { IfOk result (λ t. slot_tree t ≡ rule.free_of (option_tree kind.now)) }
+{
+    match kind {
+        None => Ok(None),
+        Some(kind) => Ok(Some(Slot::Free(copy_kind(alloc, kind)?))),
+    }
+}
+
+fn declare_typed(
+    alloc: Global,
+    names: &mut Names,
+    place: usize,
+    declared: &Declared,
+    walk: &mut Walk,
+) -> Result<Option<Slot>, AllocError>
+    requires room { walk.old.at + declared_size (view_declared declared.now) < 2 ^ 32 }
+    ensures at { OnOk result (walk.new.at ≡ walk.old.at + declared_size (view_declared declared.now)) }
+    ensures names { OnOk result (names_tree names.new ≡ rule.with_parameter (names_tree names.old) place (view_declared declared.now)) }
+    ensures slot { IfOk result (λ t. slot_tree t ≡ rule.free_of (kind_of (names_tree names.old) (view_declared declared.now).of)) }
+{
+    walk.at += 2;
+    let kind = check_type(alloc, names, &declared.of, walk)?;
+    let slot = free_of(alloc, &kind)?;
+    names.declare(&declared.name, Meaning::Parameter(place, kind))?;
+    Ok(slot)
+}
+
+fn declare_parameter(
+    alloc: Global,
+    names: &mut Names,
+    place: usize,
+    parameter: &Parameter,
+    walk: &mut Walk,
+) -> Result<Option<Slot>, AllocError>
+    requires room { walk.old.at + parameter_size (view_parameter parameter.now) < 2 ^ 32 }
+    ensures at { OnOk result (walk.new.at ≡ walk.old.at + parameter_size (view_parameter parameter.now)) }
+    ensures names { OnOk result (names_tree names.new ≡ part.after_parameter (names_tree names.old) place (view_parameter parameter.now)) }
+    ensures slot { IfOk result (λ t. slot_tree t ≡ part.slot_of (names_tree names.old) (view_parameter parameter.now)) }
+{
+    match parameter {
+        Parameter::Constant(name) => {
+            walk.at += 2;
+            Ok(formal_of(names, name.as_str()))
+        }
+        Parameter::Typed(declared) => {
+            let slot = declare_typed(alloc, names, place, declared, walk)?;
+            Ok(slot)
+        }
+    }
+}
+
+// Goes behind parameters and declares them, and says what each takes. What the walk notes is of no use.
+fn declare_each(
+    alloc: Global,
+    names: &mut Names,
+    parameters: &[Parameter],
+    walk: &mut Walk,
+) -> Result<Vec<Option<Slot>>, AllocError>
+    requires room { walk.old.at + listed_size parameter_size (map view_parameter parameters.now) < 2 ^ 32 }
+    ensures at { OnOk result (walk.new.at ≡ walk.old.at + listed_size parameter_size (map view_parameter parameters.now)) }
+    ensures names { OnOk result (names_tree names.new ≡ rule.with_parameters (names_tree names.old) 0 (map view_parameter parameters.now)) }
+    ensures slots { IfOk result (λ ts. map slot_tree ts.items ≡ rule.slots (names_tree names.old) 0 (map view_parameter parameters.now)) }
+{
+    let mut slots = Vec::new(alloc);
+    for (place, parameter) in parameters.iter().enumerate() {
+        walk.at += between(place);
+        let slot = declare_parameter(alloc, names, place, parameter, walk)?;
+        slots.push(slot)?;
+    }
+    Ok(slots)
+}
+
+/// Declares parameters and goes behind them, and says what each takes. Their faults are those of the entry, and aren't noted here.
+pub fn declare_parameters(
+    alloc: Global,
+    names: &mut Names,
+    parameters: &[Parameter],
+    walk: &mut Walk,
+) -> Result<Vec<Option<Slot>>, AllocError>
+    requires room { walk.old.at + listed_size parameter_size (map view_parameter parameters.now) < 2 ^ 32 }
+    ensures at { OnOk result (walk.new.at ≡ walk.old.at + listed_size parameter_size (map view_parameter parameters.now)) }
+    ensures least { walk.new.least ≡ walk.old.least }
+    ensures names { OnOk result (names_tree names.new ≡ rule.with_parameters (names_tree names.old) 0 (map view_parameter parameters.now)) }
+    ensures slots { IfOk result (λ ts. map slot_tree ts.items ≡ rule.slots (names_tree names.old) 0 (map view_parameter parameters.now)) }
+{
+    let mut apart = Walk {
+        at: walk.at,
+        least: None,
+    };
+    let slots = declare_each(alloc, names, parameters, &mut apart)?;
+    walk.at = apart.at;
+    Ok(slots)
+}
