@@ -1,0 +1,3 @@
+pub mod Parts
+pub mod Sets
+pub mod Views
