@@ -1,3 +1,4 @@
+pub mod Meant
 pub mod Parts
 pub mod Sets
 pub mod Views

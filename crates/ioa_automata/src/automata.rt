@@ -1,0 +1,37 @@
+//! The checks of automata that aren't composed.
+ghost use Rattle.std.specs.Prelude.{◌≡◌, ◌+◌, ◌<◌, ◌^◌, List, map, OnOk, IfOk};
+ghost use Rattle.ioa_trees.specs.Trees.{Bytes};
+ghost use Rattle.ioa_trees.specs.Views.{view_automaton};
+ghost use Rattle.ioa_rules.specs.Faults.{keep};
+ghost use Rattle.ioa_rules.specs.SourceRules as source;
+ghost use Rattle.ioa_names.specs.Views.{names_tree};
+ghost use Rattle.ioa_typing.specs.Views.{least_tree};
+ghost use Rattle.ioa_automata.specs.Meant.{automaton_tree};
+ghost use Rattle.ioa_automata.specs.Sets.{Adds, AreNames};
+ghost use Rattle.ioa_automata.specs.Views.{used_names};
+
+use crate::meant::MeantAutomaton;
+use crate::used::Used;
+use ioa_names::Names;
+use ioa_trees::tree::Automaton;
+use ioa_typing::Walk;
+use std::alloc::{AllocError, Global};
+
+/// Checks automata whose names may not be among these: notes their faults, goes behind them, declares them, puts all names that they
+/// declare inside among the names, and says what they mean.
+pub fn check_automata(
+    alloc: Global,
+    names: &mut Names,
+    used: &mut Used,
+    automata: &[Automaton],
+    walk: &mut Walk,
+) -> Result<Vec<MeantAutomaton>, AllocError>
+    requires room { walk.old.at + source.automata_size (map view_automaton automata.now) < 2 ^ 32 }
+    ensures at { OnOk result (walk.new.at ≡ walk.old.at + source.automata_size (map view_automaton automata.now)) }
+    ensures names { OnOk result (names_tree names.new ≡ source.with_automata (names_tree names.old) 0 (map view_automaton automata.now)) }
+    ensures used { OnOk result (Adds (used_names used.new) (source.all_locals (map view_automaton automata.now)) (used_names used.old)) }
+    ensures faults { OnOk result ((L : List Bytes) → AreNames (used_names used.old) L → least_tree walk.new.least ≡ keep (least_tree walk.old.least) (source.automata_faults (names_tree names.old) L 0 walk.old.at (map view_automaton automata.now))) }
+    ensures meant { IfOk result (λ ms. map automaton_tree ms.items ≡ source.meanings_of (names_tree names.old) 0 (map view_automaton automata.now)) }
+{
+    Err(AllocError)
+}
