@@ -1,5 +1,5 @@
 -- A source is had back from its node: two sources with one node are the same.
-use Rattle.std.proofs.Common.{◌≡◌, ℕ, Bool, true, false, cond, List, [], ◌∷◌, ◌++◌, map, Option, Some, None, refl, sym, ◌∙◌, ap}
+use Rattle.std.proofs.Common.{◌≡◌, ◌<◌, ℕ, arith, length, Bool, true, false, cond, List, [], ◌∷◌, ◌++◌, map, Option, Some, None, refl, sym, ◌∙◌, ap}
 use Rattle.ioa_trees.specs.declared.tree.EntryKind.TheVariants as kind
 use Rattle.ioa_tokens.specs.declared.Word.TheVariants as w
 use Rattle.ioa_tokens.specs.Tokens.{Name, Key, is}
@@ -267,6 +267,14 @@ has_none [] s (c ∷ cs) = at_parts cs
     at_parts : (cs : List PlainComponent) → has_automaton (pack (parts component_part w.Semicolon component_node cs)) ≡ false
     at_parts [] = refl
     at_parts (c ∷ cs) = at_parts cs
+
+-- A source has an automaton beside the composed one.
+pub some_automaton : (b : Bool) (x : PlainSource) → IsSource b x → 0 < length x.automata
+some_automaton b x p = at_automata x.automata p
+  where
+    at_automata : (rest : List PlainAutomaton) → IsSource b (laid x.types rest x.composed.name x.composed.components) → 0 < length rest
+    at_automata [] p = let a : true ≡ false = sym (source_wants _ p) ∙ has_none x.types x.composed.name x.composed.components in cc
+    at_automata (a ∷ rest) p = omega arith
 
 source_back : (b : Bool) (x : PlainSource) → IsSource b x → source_of (source_node x) ≡ x
 source_back b x p = at_automata x.automata p

@@ -1,5 +1,5 @@
 //! A source that was read.
-ghost use Rattle.std.specs.Prelude.{◌≡◌, ◌≤◌, length, IfOk};
+ghost use Rattle.std.specs.Prelude.{◌≡◌, ◌≤◌, ◌<◌, length, IfOk};
 ghost use Rattle.ioa_tokens.specs.Layout.{layout};
 ghost use Rattle.ioa_trees.specs.Spelling.{spell};
 ghost use Rattle.ioa_trees.specs.Views.{view_source};
@@ -39,11 +39,12 @@ impl Model for Source {
 }
 
 impl Source {
-    /// The tree, whose tokens are readable and few.
+    /// The tree, whose tokens are readable and few; it has an automaton beside the composed one.
     pub fn tree(&self) -> &SourceTree
         ensures same { result.now ≡ self.now }
         ensures readable { IsReadable (view_source self.now) }
         ensures few { length (spell (view_source self.now)) ≤ most_bytes }
+        ensures some { 0 < length (view_source self.now).automata }
     {
         &self.tree
     }

@@ -1,9 +1,12 @@
 //! One case.
 
+use ioa_check::check;
+use ioa_front::read;
 use serde_json::{Error, Value};
 use service::serve::serve;
 use service::{FileFault, Files};
 use std::alloc::{AllocError, Global};
+use terms::Refusal;
 use trace::Counted;
 
 /// A case, read from its line.
@@ -51,8 +54,33 @@ impl Case {
         Ok(Case { value })
     }
 
-    /// Whether the service answers with the wanted status and texts.
+    /// Whether it comes out as it should.
     pub fn comes_out(&self, alloc: Global) -> Result<bool, AllocError> {
+        match self.value.get("source").and_then(Value::as_str) {
+            Some(source) => self.is_checked(alloc, source),
+            None => self.is_served(alloc),
+        }
+    }
+
+    // Whether the check accepts the source, or refuses it with the wanted number at the wanted token.
+    fn is_checked(&self, alloc: Global, source: &str) -> Result<bool, AllocError> {
+        let bytes = bytes_of(alloc, source)?;
+        let number = self.value.get("number").and_then(Value::as_u64);
+        let place = self.value.get("place").and_then(Value::as_u64);
+        let Ok(source) = read(alloc, bytes.as_slice()) else {
+            return Ok(false);
+        };
+        match check(alloc, source) {
+            Ok(_) => Ok(number.is_none()),
+            Err(fault) => {
+                let found = fault.place().map(|place| place as u64);
+                Ok(number == Some(u64::from(fault.number())) && place == found)
+            }
+        }
+    }
+
+    // Whether the service answers with the wanted status and texts.
+    fn is_served(&self, alloc: Global) -> Result<bool, AllocError> {
         let words = self.words(alloc)?;
         let Some(files) = self.value.get("files") else {
             return Ok(false);
