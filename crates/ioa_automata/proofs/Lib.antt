@@ -1,3 +1,4 @@
+pub mod Bodies
 pub mod Cells
 pub mod Declaring
 pub mod Keeps
@@ -5,3 +6,4 @@ pub mod Lists
 pub mod Seen
 pub mod Sets
 pub mod Turns
+pub mod Whole

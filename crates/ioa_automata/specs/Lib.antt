@@ -1,3 +1,4 @@
+pub mod Bodies
 pub mod Meant
 pub mod Parts
 pub mod Sets

@@ -3,6 +3,7 @@
 
 pub mod automata;
 mod between;
+mod body;
 pub mod formals;
 pub mod locals;
 pub mod meant;

@@ -63,7 +63,7 @@ fn goes_over(before: u64, kind: &Option<Kind>) -> bool
 }
 
 // Whether a name stands in scope, or was used before.
-fn is_taken(names: &Names, used: &Used, name: &str) -> bool
+pub(crate) fn is_taken(names: &Names, used: &Used, name: &str) -> bool
     ensures { result ≡ (is_some (named name.now (names_tree names.now)) || list_any (bytes_eq name.now) (used_names used.now)) }
 {
     names.get(name).is_some() || used.contains(name)

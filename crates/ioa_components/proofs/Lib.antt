@@ -1,0 +1,4 @@
+pub mod Fitting
+pub mod Keeps
+pub mod Naming
+pub mod Rows
