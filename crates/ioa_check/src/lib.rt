@@ -14,6 +14,3 @@ pub use checked::Checked;
 pub use checking::check;
 pub use fault::CheckError;
 pub use resolved::{Automaton, Component, Resolved, Transition, Variable};
-
-#[cfg(test)]
-mod tests;

@@ -1,5 +1,5 @@
 //! Sources with known faults, and what a source means, by hand.
-use crate::{Automaton, CheckError, Component, Resolved, Transition, check};
+use ioa_check::{Automaton, CheckError, Component, Resolved, Transition, check};
 use ioa_entries::Slot;
 use ioa_front::read;
 use ioa_kinds::Kind;
@@ -247,7 +247,7 @@ fn is_node(node: &Automaton) -> bool {
         _ => false,
     };
     let tasks = match node.tasks.as_slice() {
-        [task] => task.as_slice() == [1],
+        [task] => matches!(task.as_slice(), [1]),
         _ => false,
     };
     node.name.as_str() == "Node" && formals && variables && tasks
