@@ -67,6 +67,13 @@ impl<T: Turns> Exchange<T> {
         &self.setup
     }
 
+    /// The bound that the last commit left: nothing below it can come any more. Before the first commit there is no key below it.
+    pub fn bound(&self) -> Bound
+        ensures { result ≡ self.now.bound }
+    {
+        self.bound
+    }
+
     /// Whether every base is the end: then all turns that there are lie below the bases.
     pub fn finished(&self) -> bool
         ensures { result ≡ list_all is_ended self.now.stubs }

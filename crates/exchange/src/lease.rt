@@ -1,5 +1,6 @@
 //! Leases: components that workers hold, away from what they share.
 ghost use Rattle.std.specs.Prelude.{◌≡◌, ◌≤◌, ◌<◌, ◌-◌, ◌^◌, [], length, min, true, false, None, IfOk, OnOk, OnErr, IfErr, IsErrOf, IsSomeAnd, ◌↔◌, ◌⊎◌};
+ghost use Rattle.antimessage.specs.Bags.{least_of};
 ghost use Rattle.event_keys.specs.declared.message.Sign.TheVariants.{Plus};
 ghost use Rattle.event_keys.specs.Ranks.{rank};
 ghost use Rattle.virtual_time.specs.Entries.{entry_key};
@@ -60,6 +61,13 @@ impl<T: Turns> Lease<T> {
         ensures { result ≡ self.now.component.number }
     {
         self.component.number()
+    }
+
+    /// The least key of what waits in its tray, or the end where the tray is empty.
+    pub fn least_coming(&self) -> Bound
+        ensures { result ≡ least_of self.now.tray }
+    {
+        self.tray.least()
     }
 
     /// Processes entries, at most `budget` of them, and answers how many. It stops short where nothing is pending and no turn is

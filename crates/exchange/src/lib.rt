@@ -17,6 +17,3 @@ pub use exchange::Exchange;
 pub use judging::MeetRefused;
 pub use lease::Lease;
 pub use stub::Stub;
-
-#[cfg(test)]
-mod tests;

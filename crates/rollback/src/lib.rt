@@ -18,6 +18,3 @@ pub use component::Component;
 pub use copied::Copies;
 pub use inverse::Trip;
 pub use refused::ProcessRefused;
-
-#[cfg(test)]
-mod tests;

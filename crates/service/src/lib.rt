@@ -11,6 +11,3 @@ pub mod serve;
 mod writing;
 
 pub use files::{FileFault, Files};
-
-#[cfg(test)]
-mod tests;

@@ -7,13 +7,14 @@ mod given;
 mod matching;
 mod refused;
 
-use crate::{ProcessRefused, Trip};
 use antimessage::Bag;
-use event_keys::{Bound, Key, Outcome, Turned};
+use event_keys::{Bound, Key, Message, Outcome, Turned};
 use given::{
-    Node, assert_processes, assert_same, bag, come, first_pass, key, minus, node, plus, sent,
+    Node, assert_comes, assert_empty, assert_holds, assert_next, assert_processes,
+    assert_rolls_back, assert_same, come, first_pass, key, minus, node, plus, sent,
 };
 use raw_events::EventList;
+use rollback::{ProcessRefused, Trip};
 use std::alloc::AllocGlobal;
 use std::process::Abort;
 use terms::{NoMemory, Refusal};
@@ -26,7 +27,7 @@ fn idled(rt: &(impl Abort + AllocGlobal), turns: usize) -> Node
     let mut out = Bag::new();
     let keys = [key(1, 1, 0), key(3, 1, 1)];
     assert_processes(rt, &mut second, &mut out, &keys[..turns]);
-    assert!(rt; out.is_empty());
+    assert_empty(rt, &out);
     second
 }
 
@@ -40,7 +41,7 @@ fn passed(rt: &(impl Abort + AllocGlobal), out: &mut Bag) -> Node {
 // Component 1 after it took the token and passed it on.
 fn passed_on(rt: &(impl Abort + AllocGlobal), out: &mut Bag) -> Node {
     let mut second = idled(rt, 1);
-    assert!(rt; come(rt, &mut second, plus(first_pass(rt)), out) == 0);
+    assert_comes(rt, &mut second, plus(first_pass(rt)), out, 0);
     assert_processes(rt, &mut second, out, &[key(2, 0, 0), key(3, 1, 1)]);
     second
 }
@@ -49,12 +50,12 @@ fn passed_on(rt: &(impl Abort + AllocGlobal), out: &mut Bag) -> Node {
 fn a_message_takes_back_what_is_later(rt: HostRuntime) {
     let mut out = Bag::new();
     passed(&rt, &mut out);
-    assert!(rt; out == bag(&rt, key(2, 0, 0), 1, false));
+    assert_holds(&rt, &out, key(2, 0, 0), 1, false);
     let mut second = idled(&rt, 2);
     let mut out = Bag::new();
-    assert!(rt; come(&rt, &mut second, plus(first_pass(&rt)), &mut out) == 1);
-    assert!(rt; second.next() == Bound::At(key(2, 0, 0)));
-    assert!(rt; out.is_empty());
+    assert_comes(&rt, &mut second, plus(first_pass(&rt)), &mut out, 1);
+    assert_next(&rt, &second, Bound::At(key(2, 0, 0)));
+    assert_empty(&rt, &out);
 }
 
 #[test]
@@ -62,23 +63,27 @@ fn a_pending_message_is_taken_back(rt: HostRuntime) {
     let mut second = idled(&rt, 2);
     let mut out = Bag::new();
     come(&rt, &mut second, plus(first_pass(&rt)), &mut out);
-    assert!(rt; come(&rt, &mut second, minus(first_pass(&rt)), &mut out) == 0);
-    assert!(rt; second.next() == Bound::At(key(3, 1, 1)));
+    assert_comes(&rt, &mut second, minus(first_pass(&rt)), &mut out, 0);
+    assert_next(&rt, &second, Bound::At(key(3, 1, 1)));
     assert_processes(&rt, &mut second, &mut out, &[key(3, 1, 1)]);
-    assert!(rt; out.is_empty());
+    assert_empty(&rt, &out);
     assert_same(&rt, second, idled(&rt, 2));
+}
+
+fn assert_meets(rt: &impl Abort, bag: &mut Bag, message: &Message) {
+    assert!(rt; bag.meet(message));
 }
 
 #[test]
 fn a_turn_is_rolled_back_once(rt: HostRuntime) {
     let mut out = Bag::new();
     let mut first = passed(&rt, &mut out);
-    assert!(rt; first.roll_back(&mut out));
-    assert!(rt; out == bag(&rt, key(2, 0, 0), 1, true));
-    assert!(rt; out.meet(&first_pass(&rt)));
-    assert!(rt; out.is_empty());
-    assert!(rt; !first.roll_back(&mut out));
-    assert!(rt; out.is_empty());
+    assert_rolls_back(&rt, &mut first, &mut out, true);
+    assert_holds(&rt, &out, key(2, 0, 0), 1, true);
+    assert_meets(&rt, &mut out, &first_pass(&rt));
+    assert_empty(&rt, &out);
+    assert_rolls_back(&rt, &mut first, &mut out, false);
+    assert_empty(&rt, &out);
     assert_same(&rt, first, node(&rt, 0));
 }
 
@@ -86,10 +91,10 @@ fn a_turn_is_rolled_back_once(rt: HostRuntime) {
 fn an_antimessage_is_owed_until_its_message_comes(rt: HostRuntime) {
     let mut second = node(&rt, 1);
     let mut out = Bag::new();
-    assert!(rt; come(&rt, &mut second, minus(first_pass(&rt)), &mut out) == 0);
-    assert!(rt; come(&rt, &mut second, plus(first_pass(&rt)), &mut out) == 0);
-    assert!(rt; second.next() == Bound::At(key(1, 1, 0)));
-    assert!(rt; out.is_empty());
+    assert_comes(&rt, &mut second, minus(first_pass(&rt)), &mut out, 0);
+    assert_comes(&rt, &mut second, plus(first_pass(&rt)), &mut out, 0);
+    assert_next(&rt, &second, Bound::At(key(1, 1, 0)));
+    assert_empty(&rt, &out);
     assert_same(&rt, second, node(&rt, 1));
 }
 
@@ -99,26 +104,26 @@ fn an_antimessage_is_owed_once(rt: HostRuntime) {
     let mut out = Bag::new();
     come(&rt, &mut second, minus(first_pass(&rt)), &mut out);
     come(&rt, &mut second, plus(first_pass(&rt)), &mut out);
-    assert!(rt; second.next() == Bound::At(key(3, 1, 1)));
+    assert_next(&rt, &second, Bound::At(key(3, 1, 1)));
     come(&rt, &mut second, plus(first_pass(&rt)), &mut out);
-    assert!(rt; second.next() == Bound::At(key(2, 0, 0)));
+    assert_next(&rt, &second, Bound::At(key(2, 0, 0)));
 }
 
 #[test]
 fn a_message_that_comes_twice_is_taken_back_once(rt: HostRuntime) {
     let mut out = Bag::new();
     let mut first = passed(&rt, &mut out);
-    assert!(rt; first.roll_back(&mut out));
+    assert_rolls_back(&rt, &mut first, &mut out, true);
     assert_processes(&rt, &mut first, &mut out, &[key(2, 0, 0)]);
-    assert!(rt; out == bag(&rt, key(2, 0, 0), 2, true));
+    assert_holds(&rt, &out, key(2, 0, 0), 2, true);
     let mut out = Bag::new();
     let mut second = node(&rt, 1);
-    assert!(rt; come(&rt, &mut second, plus(first_pass(&rt)), &mut out) == 0);
-    assert!(rt; come(&rt, &mut second, plus(first_pass(&rt)), &mut out) == 0);
-    assert!(rt; come(&rt, &mut second, minus(first_pass(&rt)), &mut out) == 0);
+    assert_comes(&rt, &mut second, plus(first_pass(&rt)), &mut out, 0);
+    assert_comes(&rt, &mut second, plus(first_pass(&rt)), &mut out, 0);
+    assert_comes(&rt, &mut second, minus(first_pass(&rt)), &mut out, 0);
     let mut once = node(&rt, 1);
     come(&rt, &mut once, plus(first_pass(&rt)), &mut out);
-    assert!(rt; out.is_empty());
+    assert_empty(&rt, &out);
     assert_same(&rt, second, once);
 }
 
@@ -126,21 +131,31 @@ fn a_message_that_comes_twice_is_taken_back_once(rt: HostRuntime) {
 fn an_antimessage_takes_back_from_its_message_on(rt: HostRuntime) {
     let mut out = Bag::new();
     let mut second = passed_on(&rt, &mut out);
-    assert!(rt; out == bag(&rt, key(3, 1, 1), 1, false));
-    assert!(rt; come(&rt, &mut second, minus(first_pass(&rt)), &mut out) == 2);
-    assert!(rt; out == bag(&rt, key(3, 1, 1), 1, true));
-    assert!(rt; second.next() == Bound::At(key(3, 1, 1)));
+    assert_holds(&rt, &out, key(3, 1, 1), 1, false);
+    assert_comes(&rt, &mut second, minus(first_pass(&rt)), &mut out, 2);
+    assert_holds(&rt, &out, key(3, 1, 1), 1, true);
+    assert_next(&rt, &second, Bound::At(key(3, 1, 1)));
     assert_same(&rt, second, idled(&rt, 1));
+}
+
+fn go_and_come_back(
+    rt: &(impl Abort + AllocGlobal),
+    node: &mut Node,
+    most: u32,
+    out: &mut Bag,
+    wanted: Trip,
+) {
+    node.is_in_order();
+    let trip = node.there_and_back(rt.alloc(), most, out);
+    assert!(rt; trip == wanted, "{} entries", trip.entries);
 }
 
 // Component 0 passes the token and then idles.
 fn assert_trip(rt: &(impl Abort + AllocGlobal), most: u32, wanted: Trip) {
     let mut out = Bag::new();
     let mut first = node(rt, 0);
-    first.is_in_order();
-    let trip = first.there_and_back(rt.alloc(), most, &mut out);
-    assert!(rt; trip == wanted, "{} entries", trip.entries);
-    assert!(rt; out == bag(rt, key(2, 0, 0), 1, true));
+    go_and_come_back(rt, &mut first, most, &mut out, wanted);
+    assert_holds(rt, &out, key(2, 0, 0), 1, true);
     assert_same(rt, first, node(rt, 0));
 }
 
@@ -192,42 +207,52 @@ fn assert_turns(rt: &impl Abort, mut turns: EventList<Turned>, wanted: &[Turned]
     assert!(rt; turns.peek_next().is_none());
 }
 
+// A cut at a bound gives these turns.
+fn assert_drops(rt: &impl Abort, node: &mut Node, bound: Bound, wanted: &[Turned]) {
+    assert_turns(rt, node.drop_below(bound), wanted);
+}
+
 #[test]
 fn what_is_below_the_bound_is_dropped(rt: HostRuntime) {
     let mut out = Bag::new();
     let mut second = idled(&rt, 2);
-    let dropped = second.drop_below(Bound::At(key(3, 1, 1)));
-    assert_turns(&rt, dropped, &[idle(key(1, 1, 0))]);
-    assert!(rt; second.roll_back(&mut out));
-    assert!(rt; second.next() == Bound::At(key(3, 1, 1)));
-    assert!(rt; !second.roll_back(&mut out));
-    assert!(rt; out.is_empty());
+    assert_drops(
+        &rt,
+        &mut second,
+        Bound::At(key(3, 1, 1)),
+        &[idle(key(1, 1, 0))],
+    );
+    assert_rolls_back(&rt, &mut second, &mut out, true);
+    assert_next(&rt, &second, Bound::At(key(3, 1, 1)));
+    assert_rolls_back(&rt, &mut second, &mut out, false);
+    assert_empty(&rt, &out);
     assert_processes(&rt, &mut second, &mut out, &[key(3, 1, 1)]);
-    assert_turns(&rt, second.drop_below(Bound::End), &[idle(key(3, 1, 1))]);
-    assert!(rt; !second.roll_back(&mut out));
+    assert_drops(&rt, &mut second, Bound::End, &[idle(key(3, 1, 1))]);
+    assert_rolls_back(&rt, &mut second, &mut out, false);
 }
 
 #[test]
 fn turns_are_dropped_in_order(rt: HostRuntime) {
     let mut out = Bag::new();
     let wanted = [idle(key(1, 1, 0)), did_pass(&rt, key(3, 1, 1))];
-    assert_turns(
-        &rt,
-        passed_on(&rt, &mut out).drop_below(Bound::End),
-        &wanted,
-    );
+    assert_drops(&rt, &mut passed_on(&rt, &mut out), Bound::End, &wanted);
     let wanted = [idle(key(1, 1, 0)), idle(key(3, 1, 1))];
-    assert_turns(&rt, idled(&rt, 2).drop_below(Bound::End), &wanted);
+    assert_drops(&rt, &mut idled(&rt, 2), Bound::End, &wanted);
+}
+
+// Nothing is left to process.
+fn assert_ended(rt: &(impl Abort + AllocGlobal), node: &mut Node, out: &mut Bag) {
+    assert!(rt; node.process(rt.alloc(), out) == Err(ProcessRefused::NothingPending));
 }
 
 #[test]
 fn nothing_is_pending_at_the_end(rt: HostRuntime) {
     let mut out = Bag::new();
     let mut second = idled(&rt, 2);
-    assert!(rt; second.next() == Bound::End);
-    assert!(rt; second.process(rt.alloc(), &mut out) == Err(ProcessRefused::NothingPending));
-    assert!(rt; second.next() == Bound::End);
-    assert!(rt; out.is_empty());
+    assert_next(&rt, &second, Bound::End);
+    assert_ended(&rt, &mut second, &mut out);
+    assert_next(&rt, &second, Bound::End);
+    assert_empty(&rt, &out);
 }
 
 #[test]

@@ -2,11 +2,11 @@
 ghost use Rattle.std.specs.Prelude.{◌≡◌, ◌<◌};
 
 use super::given::{
-    Node, assert_processes, assert_same, cell, key, pass, plus, start, start_sender,
+    Node, assert_bag, assert_processes, assert_same, cell, key, pass, plus, start, start_sender,
 };
-use crate::{Copies, ProcessRefused};
 use antimessage::Bag;
 use event_keys::Key;
+use rollback::{Copies, ProcessRefused};
 use std::alloc::{AllocGlobal, Global};
 use std::process::Abort;
 use std::test::Fail;
@@ -15,7 +15,7 @@ use terms::NoMemory;
 // What component 0 sends by its turn at the tick 2 comes to component 1.
 fn come(alloc: Global, node: &mut Node) -> Result<(), NoMemory> {
     let cell = cell(alloc, plus(pass(alloc, key(2, 0, 0), 1, 1)?))?;
-    if cell.value().message.to == node.number {
+    if cell.value().message.to == node.number() {
         node.deliver(cell, &mut Bag::new());
     }
     Ok(())
@@ -66,8 +66,23 @@ fn assert_kept(rt: &(impl Abort + AllocGlobal), mut node: Node, mut twin: Node, 
     assert!(rt; node == twin);
     assert_processes(rt, &mut node, &mut out, &[key]);
     assert_processes(rt, &mut twin, &mut twin_out, &[key]);
-    assert!(rt; out == twin_out);
+    assert_bag(rt, &out, &twin_out);
     assert_same(rt, node, twin);
+}
+
+// The same twice over.
+fn made_both(alloc: Global, number: u16, entries: u32) -> Result<(Node, Node), NoMemory>
+    requires { number < 2 }
+{
+    let twin = made(alloc, number, entries)?;
+    let node = made(alloc, number, entries)?;
+    Ok((node, twin))
+}
+
+fn made_bags(alloc: Global) -> Result<(Bag, Bag), NoMemory> {
+    let before = made_bag(alloc)?;
+    let out = made_bag(alloc)?;
+    Ok((before, out))
 }
 
 // The next entry has the key; where it is refused, the component and the bag stay.
@@ -79,30 +94,39 @@ fn assert_served_or_kept(
 ) -> Result<(), NoMemory>
     requires { number < 2 }
 {
-    let alloc = rt.alloc();
-    let twin = made(alloc, number, entries)?;
-    let node = made(alloc, number, entries)?;
-    assert_next_served_or_kept(rt, node, twin, key)
+    let bags = made_bags(rt.alloc())?;
+    let nodes = made_both(rt.alloc(), number, entries)?;
+    assert_next_served_or_kept(rt, nodes, bags, key);
+    Ok(())
 }
 
 fn assert_next_served_or_kept(
     rt: &(impl Abort + AllocGlobal),
-    mut node: Node,
-    twin: Node,
+    nodes: (Node, Node),
+    bags: (Bag, Bag),
     key: Key,
-) -> Result<(), NoMemory> {
-    let alloc = rt.alloc();
-    let before = made_bag(alloc)?;
-    let mut out = made_bag(alloc)?;
-    match node.process(alloc, &mut out) {
-        Ok(done) => assert!(rt; done == key),
+) {
+    let (mut node, twin) = nodes;
+    let (before, mut out) = bags;
+    if has_next(rt, node.process(rt.alloc(), &mut out), key) {
+        return;
+    }
+    assert_bag(rt, &out, &before);
+    assert_kept(rt, node, twin, key);
+}
+
+// Whether the next entry was done, which has the key; else it was refused its memory.
+fn has_next(rt: &impl Abort, done: Result<Key, ProcessRefused>, key: Key) -> bool {
+    match done {
+        Ok(done) => {
+            assert!(rt; done == key);
+            true
+        }
         Err(refused) => {
             assert!(rt; refused == ProcessRefused::NoMemory);
-            assert!(rt; out == before);
-            assert_kept(rt, node, twin, key);
+            false
         }
     }
-    Ok(())
 }
 
 #[test]
@@ -133,43 +157,54 @@ fn made_sender(alloc: Global) -> Result<Node, NoMemory> {
     }
 }
 
+fn made_both_senders(alloc: Global) -> Result<(Node, Node), NoMemory> {
+    let node = made_sender(alloc)?;
+    let twin = made_sender(alloc)?;
+    Ok((node, twin))
+}
+
 #[test]
 fn a_refused_turn_that_sends_to_two_changes_nothing(rt: HostRuntime) -> Result<(), Fail> {
-    let node = made_sender(rt.alloc())?;
-    let twin = made_sender(rt.alloc())?;
-    Ok(assert_next_served_or_kept(&rt, node, twin, key(1, 0, 0))?)
+    let bags = made_bags(rt.alloc())?;
+    let nodes = made_both_senders(rt.alloc())?;
+    assert_next_served_or_kept(&rt, nodes, bags, key(1, 0, 0));
+    Ok(())
+}
+
+fn made_copies(alloc: Global) -> Result<Copies, NoMemory> {
+    let of_sender = made_bag(alloc)?;
+    let of_receiver = made_bag(alloc)?;
+    Ok(Copies {
+        of_sender,
+        of_receiver,
+    })
 }
 
 // The next entry has the key; where it is refused, the component, the bag and the copies stay.
 fn assert_copied_or_kept(
     rt: &(impl Abort + AllocGlobal),
-    mut node: Node,
-    twin: Node,
+    nodes: (Node, Node),
+    bags: (Bag, Bag),
+    mut copies: Copies,
     key: Key,
-) -> Result<(), NoMemory> {
-    let alloc = rt.alloc();
-    let before = made_bag(alloc)?;
-    let mut out = made_bag(alloc)?;
-    let mut copies = Copies {
-        of_sender: made_bag(alloc)?,
-        of_receiver: made_bag(alloc)?,
-    };
-    match node.process_copied(alloc, &mut out, &mut copies) {
-        Ok(done) => assert!(rt; done == key),
-        Err(refused) => {
-            assert!(rt; refused == ProcessRefused::NoMemory);
-            assert!(rt; out == before);
-            assert!(rt; copies.of_sender == before);
-            assert!(rt; copies.of_receiver == before);
-            assert_kept(rt, node, twin, key);
-        }
+) {
+    let (mut node, twin) = nodes;
+    let (before, mut out) = bags;
+    let done = node.process_copied(rt.alloc(), &mut out, &mut copies);
+    if has_next(rt, done, key) {
+        return;
     }
-    Ok(())
+    assert_bag(rt, &out, &before);
+    assert_bag(rt, &copies.of_sender, &before);
+    assert_bag(rt, &copies.of_receiver, &before);
+    assert_kept(rt, node, twin, key);
 }
 
 #[test]
 fn a_refused_turn_that_is_copied_changes_nothing(rt: HostRuntime) -> Result<(), Fail> {
-    let node = made_sender(rt.alloc())?;
-    let twin = made_sender(rt.alloc())?;
-    Ok(assert_copied_or_kept(&rt, node, twin, key(1, 0, 0))?)
+    let bags = made_bags(rt.alloc())?;
+    let copies = made_copies(rt.alloc())?;
+    let nodes = made_both_senders(rt.alloc())?;
+    assert_copied_or_kept(&rt, nodes, bags, copies, key(1, 0, 0));
+    Ok(())
 }

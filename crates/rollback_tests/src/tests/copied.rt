@@ -1,10 +1,13 @@
 //! Steps that copy what they send, on the ring, by hand.
 ghost use Rattle.std.specs.Prelude.{◌≡◌, ◌<◌};
 
-use super::given::{Node, bag, come, first_pass, key, node, plus, post, sent};
-use crate::{Copies, ProcessRefused};
+use super::given::{
+    Node, assert_bag, assert_comes, assert_rolls_back, bag, come, first_pass, key, node, plus,
+    post, sent,
+};
 use antimessage::Bag;
 use event_keys::Key;
+use rollback::{Copies, ProcessRefused};
 use std::alloc::AllocGlobal;
 use std::process::Abort;
 
@@ -27,20 +30,33 @@ fn start(rt: &(impl Abort + AllocGlobal), number: u16) -> Copied
     }
 }
 
+fn assert_next_copied(
+    rt: &(impl Abort + AllocGlobal),
+    node: &mut Node,
+    out: &mut Bag,
+    copies: &mut Copies,
+    wanted: Result<Key, ProcessRefused>,
+) {
+    assert!(rt; node.process_copied(rt.alloc(), out, copies) == wanted);
+}
+
 fn assert_processes(rt: &(impl Abort + AllocGlobal), copied: &mut Copied, keys: &[Key]) {
     for key in keys {
-        let done = copied
-            .node
-            .process_copied(rt.alloc(), &mut copied.out, &mut copied.copies);
-        assert!(rt; done == Ok(*key), "at {}", key.tick);
+        assert_next_copied(
+            rt,
+            &mut copied.node,
+            &mut copied.out,
+            &mut copied.copies,
+            Ok(*key),
+        );
     }
 }
 
 // What was posted, and what there is of copies in each of the two bags.
 fn assert_bags(rt: &impl Abort, copied: Copied, out: Bag, copies: Bag) {
-    assert!(rt; copied.out == out);
-    assert!(rt; copied.copies.of_sender == copies);
-    assert!(rt; copied.copies.of_receiver == copies);
+    assert_bag(rt, &copied.out, &out);
+    assert_bag(rt, &copied.copies.of_sender, &copies);
+    assert_bag(rt, &copied.copies.of_receiver, &copies);
 }
 
 // A bag of what component 0 sends by its first turn, so many times.
@@ -67,7 +83,7 @@ fn a_further_turn_adds_its_copies(rt: HostRuntime) {
     let mut first = start(&rt, 0);
     assert_processes(&rt, &mut first, &[key(2, 0, 0)]);
     let back = plus(sent(&rt, key(3, 1, 1)));
-    assert!(rt; come(&rt, &mut first.node, back, &mut first.out) == 0);
+    assert_comes(&rt, &mut first.node, back, &mut first.out, 0);
     assert_processes(&rt, &mut first, &[key(3, 1, 1), key(4, 0, 1)]);
     assert_bags(&rt, first, both_passes(&rt), both_passes(&rt));
 }
@@ -76,7 +92,7 @@ fn a_further_turn_adds_its_copies(rt: HostRuntime) {
 fn a_roll_back_leaves_the_copies(rt: HostRuntime) {
     let mut first = start(&rt, 0);
     assert_processes(&rt, &mut first, &[key(2, 0, 0)]);
-    assert!(rt; first.node.roll_back(&mut first.out));
+    assert_rolls_back(&rt, &mut first.node, &mut first.out, true);
     assert_bags(&rt, first, bag(&rt, key(2, 0, 0), 1, true), passes(&rt, 1));
 }
 
@@ -84,7 +100,7 @@ fn a_roll_back_leaves_the_copies(rt: HostRuntime) {
 fn an_entry_that_is_done_again_is_copied_again(rt: HostRuntime) {
     let mut first = start(&rt, 0);
     assert_processes(&rt, &mut first, &[key(2, 0, 0)]);
-    assert!(rt; first.node.roll_back(&mut first.out));
+    assert_rolls_back(&rt, &mut first.node, &mut first.out, true);
     assert_processes(&rt, &mut first, &[key(2, 0, 0)]);
     assert_bags(&rt, first, bag(&rt, key(2, 0, 0), 2, true), passes(&rt, 2));
 }
@@ -107,9 +123,12 @@ fn an_idle_turn_and_an_input_make_no_copies(rt: HostRuntime) {
 fn where_nothing_is_next_the_copies_stay(rt: HostRuntime) {
     let mut first = start(&rt, 0);
     assert_processes(&rt, &mut first, &[key(2, 0, 0), key(4, 0, 1)]);
-    let refused = first
-        .node
-        .process_copied(rt.alloc(), &mut first.out, &mut first.copies);
-    assert!(rt; refused == Err(ProcessRefused::NothingPending));
+    assert_next_copied(
+        &rt,
+        &mut first.node,
+        &mut first.out,
+        &mut first.copies,
+        Err(ProcessRefused::NothingPending),
+    );
     assert_bags(&rt, first, passes(&rt, 1), passes(&rt, 1));
 }

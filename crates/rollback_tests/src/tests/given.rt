@@ -5,11 +5,11 @@ ghost use Rattle.compose.specs.Fan.{fan_of_three};
 ghost use Rattle.compose.specs.Ring.{ring_of_two};
 ghost use Rattle.task_seed.specs.Setups.{plan_of};
 
-use crate::Component;
 use antimessage::Bag;
 use compose::{fan, ring};
-use event_keys::{Key, Message, Sign, Signed};
+use event_keys::{Bound, Key, Message, Sign, Signed};
 use raw_events::EventCell;
+use rollback::Component;
 use std::alloc::{AllocGlobal, Global};
 use std::process::Abort;
 use std::sync::Arc;
@@ -153,9 +153,21 @@ pub(crate) fn come(
     signed: Signed,
     out: &mut Bag,
 ) -> u64 {
-    assert!(rt; signed.message.to == node.number);
+    assert!(rt; signed.message.to == node.number());
     let cell = cell(rt.alloc(), signed).expect(rt, "memory for a cell");
     node.deliver(cell, out)
+}
+
+/// The same, which takes back so many entries.
+pub(crate) fn assert_comes(
+    rt: &(impl Abort + AllocGlobal),
+    node: &mut Node,
+    signed: Signed,
+    out: &mut Bag,
+    taken_back: u64,
+) {
+    let count = come(rt, node, signed, out);
+    assert!(rt; count == taken_back, "{count} taken back");
 }
 
 pub(crate) fn assert_processes(
@@ -175,4 +187,32 @@ pub(crate) fn assert_processes(
 
 pub(crate) fn assert_same(rt: &impl Abort, first: Node, second: Node) {
     assert!(rt; first == second);
+}
+
+pub(crate) fn assert_next(rt: &impl Abort, node: &Node, wanted: Bound) {
+    assert!(rt; node.next() == wanted);
+}
+
+/// Whether there was something to take back.
+pub(crate) fn assert_rolls_back(rt: &impl Abort, node: &mut Node, out: &mut Bag, wanted: bool) {
+    assert!(rt; node.roll_back(out) == wanted);
+}
+
+pub(crate) fn assert_empty(rt: &impl Abort, bag: &Bag) {
+    assert!(rt; bag.is_empty());
+}
+
+pub(crate) fn assert_bag(rt: &impl Abort, bag: &Bag, wanted: &Bag) {
+    assert!(rt; *bag == *wanted);
+}
+
+/// A bag that holds just what a node sends by its turn of this key, so many times, and its antimessage once or not.
+pub(crate) fn assert_holds(
+    rt: &(impl Abort + AllocGlobal),
+    held: &Bag,
+    key: Key,
+    pluses: u32,
+    has_minus: bool,
+) {
+    assert_bag(rt, held, &bag(rt, key, pluses, has_minus));
 }

@@ -1,14 +1,10 @@
 //! Meetings of the ring's leases, worked out by hand.
-use super::started;
-use crate::{Exchange, Lease, MeetRefused};
-use event_keys::{Bound, Key, Outcome};
+use super::{Held, Shared, assert_commits, assert_finished, assert_settles, leased, two_leased};
+use event_keys::{Bound, Key, Outcome, Turned};
+use exchange::MeetRefused;
+use raw_events::EventList;
 use std::alloc::AllocGlobal;
 use std::process::Abort;
-use task_seed::TableTurns;
-
-type Shared = Exchange<TableTurns>;
-
-type Held = Lease<TableTurns>;
 
 fn at(tick: u64, component: u16, number: u64) -> Bound {
     Bound::At(Key {
@@ -16,14 +12,6 @@ fn at(tick: u64, component: u16, number: u64) -> Bound {
         component,
         number,
     })
-}
-
-// The exchange of the ring, and the leases of its components 0 and 1.
-fn ring_of(rt: &(impl Abort + AllocGlobal), horizon: u64) -> (Shared, Held, Held) {
-    let (exchange, mut leases) = started(rt.alloc(), horizon).expect(rt, "memory for an exchange");
-    let second = leases.pop().expect(rt, "a lease of component 1");
-    let first = leases.pop().expect(rt, "a lease of component 0");
-    (exchange, first, second)
 }
 
 fn assert_ahead(rt: &(impl Abort + AllocGlobal), lease: &mut Held, count: u32) {
@@ -49,7 +37,7 @@ fn run_and_meet(
     assert_met(rt, exchange, first, at(0, 0, 0));
     assert_ahead(rt, second, 2);
     assert_met(rt, exchange, second, at(0, 0, 0));
-    assert!(rt; second.tray.least() == at(2, 0, 0));
+    assert!(rt; second.least_coming() == at(2, 0, 0));
 }
 
 // The next chunk has no turn.
@@ -61,13 +49,17 @@ fn assert_no_turn(rt: &impl Abort, exchange: &mut Shared) {
 
 // The next chunk has just the first turn of component 1, at tick 1, which is idle.
 fn assert_first_turn(rt: &impl Abort, exchange: &mut Shared) {
-    let mut chunk = exchange.take_chunk();
+    let chunk = exchange.take_chunk();
     assert!(rt; chunk.first == 0);
-    let cell = chunk.turns.take_first().expect(rt, "a turn");
+    assert_one_idle(rt, chunk.turns, at(1, 1, 0));
+}
+
+fn assert_one_idle(rt: &impl Abort, mut turns: EventList<Turned>, key: Bound) {
+    let cell = turns.take_first().expect(rt, "a turn");
     let turned = cell.into_value();
-    assert!(rt; Bound::At(turned.key) == at(1, 1, 0));
+    assert!(rt; Bound::At(turned.key) == key);
     assert!(rt; turned.outcome == Outcome::Idle);
-    assert!(rt; chunk.turns.peek_next().is_none());
+    assert!(rt; turns.peek_next().is_none());
 }
 
 // A run of the ring in which both leases meet twice.
@@ -78,10 +70,10 @@ fn run_the_ring(
     second: &mut Held,
 ) {
     run_and_meet(rt, exchange, first, second);
-    assert!(rt; exchange.commit() == 1);
-    assert!(rt; exchange.bound == at(2, 0, 0));
+    assert_commits(rt, exchange, 1);
+    assert!(rt; exchange.bound() == at(2, 0, 0));
     assert_no_turn(rt, exchange);
-    assert!(rt; second.settle() == 1);
+    assert_settles(rt, second, 1);
     assert_met(rt, exchange, second, at(2, 0, 0));
     assert_met(rt, exchange, first, at(2, 0, 0));
     assert_first_turn(rt, exchange);
@@ -89,56 +81,81 @@ fn run_the_ring(
 
 // A lease does what it can, and meets.
 fn work(rt: &(impl Abort + AllocGlobal), exchange: &mut Shared, lease: &mut Held) {
+    work_ahead(rt, lease);
+    assert!(rt; exchange.meet(lease).is_ok());
+}
+
+fn work_ahead(rt: &(impl Abort + AllocGlobal), lease: &mut Held) {
     lease.settle();
     assert!(rt; lease.run_ahead(rt.alloc(), 5).is_ok());
-    assert!(rt; exchange.meet(lease).is_ok());
+}
+
+// Both leases work, and what is final then is committed.
+fn work_in_turn(
+    rt: &(impl Abort + AllocGlobal),
+    exchange: &mut Shared,
+    first: &mut Held,
+    second: &mut Held,
+) {
+    work(rt, exchange, first);
+    work(rt, exchange, second);
+    exchange.commit();
 }
 
 // The chunk goes on after so many of these turns; the answer is how many there are then.
 fn count_turns(rt: &impl Abort, exchange: &mut Shared, keys: &[Bound], given: usize) -> usize {
-    let mut chunk = exchange.take_chunk();
+    let chunk = exchange.take_chunk();
     assert!(rt; chunk.first == given as u64);
+    count_of(rt, chunk.turns, keys, given)
+}
+
+fn count_of(rt: &impl Abort, mut turns: EventList<Turned>, keys: &[Bound], given: usize) -> usize {
     for index in given..keys.len() {
-        let Some(cell) = chunk.turns.take_first() else {
+        let Some(cell) = turns.take_first() else {
             return index;
         };
         assert!(rt; Bound::At(cell.into_value().key) == keys[index]);
     }
-    assert!(rt; chunk.turns.peek_next().is_none());
+    assert!(rt; turns.peek_next().is_none());
     keys.len()
 }
 
 #[test]
 fn the_first_turn_is_committed_and_given(rt: HostRuntime) {
-    let (mut exchange, mut first, mut second) = ring_of(&rt, 1000);
+    let (mut exchange, mut first, mut second) = two_leased(&rt, 1000);
     run_the_ring(&rt, &mut exchange, &mut first, &mut second);
-    assert!(rt; !exchange.finished());
+    assert_finished(&rt, &exchange, false);
 }
 
 #[test]
 fn all_turns_come_once_and_in_order(rt: HostRuntime) {
-    let (mut exchange, mut first, mut second) = ring_of(&rt, 1000);
+    let (mut exchange, mut first, mut second) = two_leased(&rt, 1000);
     let keys = [at(1, 1, 0), at(2, 0, 0), at(3, 1, 1), at(4, 0, 1)];
     let mut given = 0;
     for _round in 0..6 {
-        work(&rt, &mut exchange, &mut first);
-        work(&rt, &mut exchange, &mut second);
-        exchange.commit();
+        work_in_turn(&rt, &mut exchange, &mut first, &mut second);
         given = count_turns(&rt, &mut exchange, &keys, given);
     }
     assert!(rt; given == 4);
-    assert!(rt; exchange.finished());
+    assert_finished(&rt, &exchange, true);
 }
 
 #[test]
 fn a_fresh_lease_is_known_at_the_start_and_a_stranger_later(rt: HostRuntime) {
-    let (mut exchange, mut first, mut second) = ring_of(&rt, 1000);
-    let (_other, mut fresh, _) = ring_of(&rt, 1000);
-    assert_met(&rt, &mut exchange, &mut fresh, at(0, 0, 0));
+    let (mut exchange, mut first, mut second) = two_leased(&rt, 1000);
+    assert_met(&rt, &mut exchange, &mut leased(&rt, 1000), at(0, 0, 0));
     run_the_ring(&rt, &mut exchange, &mut first, &mut second);
-    let (_third, mut stale, _) = ring_of(&rt, 1000);
-    assert_refused(&rt, &mut exchange, &mut stale, MeetRefused::Stranger);
-    let (_shorter, mut foreign, _) = ring_of(&rt, 999);
-    assert_refused(&rt, &mut exchange, &mut foreign, MeetRefused::OtherSetup);
+    assert_refused(
+        &rt,
+        &mut exchange,
+        &mut leased(&rt, 1000),
+        MeetRefused::Stranger,
+    );
+    assert_refused(
+        &rt,
+        &mut exchange,
+        &mut leased(&rt, 999),
+        MeetRefused::OtherSetup,
+    );
     assert_met(&rt, &mut exchange, &mut first, at(2, 0, 0));
 }

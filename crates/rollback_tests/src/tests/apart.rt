@@ -2,7 +2,8 @@
 ghost use Rattle.std.specs.Prelude.{◌≡◌, ◌<◌};
 
 use super::given::{
-    Node, assert_processes, assert_same, come, first_pass, key, minus, node, pass, plus,
+    Node, assert_comes, assert_empty, assert_next, assert_processes, assert_same, come, first_pass,
+    key, minus, node, pass, plus,
 };
 use antimessage::Bag;
 use event_keys::{Bound, Key, Message};
@@ -22,8 +23,8 @@ fn other(rt: &(impl Abort + AllocGlobal), key: Key, argument: i64) -> Message {
 fn waiting(rt: &(impl Abort + AllocGlobal), message: Message) -> Node {
     let mut second = node(rt, 1);
     let mut out = Bag::new();
-    assert!(rt; come(rt, &mut second, plus(message), &mut out) == 0);
-    assert!(rt; out.is_empty());
+    assert_comes(rt, &mut second, plus(message), &mut out, 0);
+    assert_empty(rt, &out);
     second
 }
 
@@ -33,10 +34,10 @@ fn an_antimessage_takes_its_own_message_alone(rt: HostRuntime) {
     for (key, argument) in others() {
         let mut second = waiting(&rt, first_pass(&rt));
         come(&rt, &mut second, plus(other(&rt, key, argument)), &mut out);
-        assert!(rt; come(&rt, &mut second, minus(first_pass(&rt)), &mut out) == 0);
+        assert_comes(&rt, &mut second, minus(first_pass(&rt)), &mut out, 0);
         assert_same(&rt, second, waiting(&rt, other(&rt, key, argument)));
     }
-    assert!(rt; out.is_empty());
+    assert_empty(&rt, &out);
 }
 
 #[test]
@@ -46,10 +47,10 @@ fn another_antimessage_leaves_a_message(rt: HostRuntime) {
         let mut second = waiting(&rt, other(&rt, key, argument));
         come(&rt, &mut second, plus(first_pass(&rt)), &mut out);
         let unsent = minus(other(&rt, key, argument));
-        assert!(rt; come(&rt, &mut second, unsent, &mut out) == 0);
+        assert_comes(&rt, &mut second, unsent, &mut out, 0);
         assert_same(&rt, second, waiting(&rt, first_pass(&rt)));
     }
-    assert!(rt; out.is_empty());
+    assert_empty(&rt, &out);
 }
 
 #[test]
@@ -58,8 +59,8 @@ fn an_antimessage_leaves_another_input_that_is_done(rt: HostRuntime) {
     for (at, argument) in others() {
         let mut second = waiting(&rt, other(&rt, at, argument));
         assert_processes(&rt, &mut second, &mut out, &[key(1, 1, 0), at]);
-        assert!(rt; come(&rt, &mut second, minus(first_pass(&rt)), &mut out) == 0);
-        assert!(rt; second.next() == Bound::At(key(3, 1, 1)));
+        assert_comes(&rt, &mut second, minus(first_pass(&rt)), &mut out, 0);
+        assert_next(&rt, &second, Bound::At(key(3, 1, 1)));
     }
-    assert!(rt; out.is_empty());
+    assert_empty(&rt, &out);
 }

@@ -1,0 +1,313 @@
+//! The command line's rows, served from memory.
+
+use service::serve::serve;
+use service::{FileFault, Files};
+use std::alloc::{AllocGlobal, Global};
+use std::io::{self, Write};
+use std::process::Abort;
+use trace::Counted;
+
+// One file in memory.
+#[derive(Clone, Copy)]
+struct OneFile<'a> {
+    name: &'a str,
+    bytes: &'a [u8],
+}
+
+impl<'a> Files for OneFile<'a> {
+    ghost has = { λ _ _ _. Unit {0} };
+
+    ghost lacks = { λ _ _. Unit {0} };
+
+    fn read(&self, alloc: Global, name: &str, most: u64) -> Result<Vec<u8>, FileFault> {
+        if name != self.name {
+            return Err(FileFault::Failed);
+        }
+        let count = (self.bytes.len() as u64).min(most) as usize;
+        match self.bytes[..count].to_vec(alloc) {
+            Ok(bytes) => Ok(bytes),
+            Err(_) => Err(FileFault::NoMemory),
+        }
+    }
+}
+
+fn words(rt: &(impl Abort + AllocGlobal), all: &[&str]) -> Vec<String> {
+    let mut words = Vec::new(rt.alloc());
+    for word in all {
+        let word = String::from_str(rt.alloc(), word).expect(rt, "memory for a word");
+        words.push(word).expect(rt, "memory for words");
+    }
+    words
+}
+
+// A writer over memory that takes so many bytes in all.
+#[derive(Drop)]
+struct Narrow {
+    held: Vec<u8>,
+    room: usize,
+}
+
+impl Write for Narrow {
+    fn write(&mut self, buf: &[u8]) -> io::Result<usize> {
+        let count = buf.len().min(self.room);
+        self.held.extend_from_slice(&buf[..count])?;
+        self.room -= count;
+        Ok(count)
+    }
+
+    fn flush(&mut self) -> io::Result<()> {
+        Ok(())
+    }
+}
+
+const RING: &str = "0 2 0 0\n0 2 0 0\n1 1 0 0\n1 2 0 0\n";
+
+// The exit status of these words; what went out and what was said stay in the writers.
+fn status_of<W: Write>(
+    rt: &(impl Abort + AllocGlobal),
+    all: &[&str],
+    files: &OneFile,
+    out: &mut Counted<W>,
+    err: &mut Counted<Vec<u8>>,
+) -> u8 {
+    let words = words(rt, all);
+    serve(rt.alloc(), words.as_slice(), files, out, err)
+}
+
+fn assert_bytes(rt: &impl Abort, written: &[u8], wanted: &str, at: &str) {
+    assert_eq!(rt; written, wanted.as_bytes(), "{at}");
+}
+
+fn assert_written(rt: &impl Abort, written: Counted<Vec<u8>>, wanted: &str, at: &str) {
+    assert_bytes(rt, written.into_inner().as_slice(), wanted, at);
+}
+
+// What these words write where all of it can be written.
+fn assert_serves(
+    rt: &(impl Abort + AllocGlobal),
+    all: &[&str],
+    files: &OneFile,
+    printed: &str,
+    said: &str,
+    status: u8,
+) {
+    let mut out = Counted::new(Vec::new(rt.alloc()));
+    let mut err = Counted::new(Vec::new(rt.alloc()));
+    let ended = status_of(rt, all, files, &mut out, &mut err);
+    assert_eq!(rt; ended, status, "{said}");
+    assert_written(rt, err, said, printed);
+    assert_written(rt, out, printed, said);
+}
+
+// What these words write where so many bytes can be written.
+fn assert_serves_narrow(
+    rt: &(impl Abort + AllocGlobal),
+    all: &[&str],
+    files: &OneFile,
+    room: usize,
+    printed: &str,
+    said: &str,
+    status: u8,
+) {
+    let held = Vec::new(rt.alloc());
+    let mut out = Counted::new(Narrow { held, room });
+    let mut err = Counted::new(Vec::new(rt.alloc()));
+    let ended = status_of(rt, all, files, &mut out, &mut err);
+    assert_eq!(rt; ended, status, "{printed}");
+    assert_written(rt, err, said, printed);
+    assert_bytes(rt, out.into_inner().held.as_slice(), printed, said);
+}
+
+#[test]
+fn tables_are_run_or_refused(rt: HostRuntime) {
+    let rows = [
+        (RING, 100, "1 1 0 idle\n", "", 0u8),
+        (RING, 11, "1 1 0 idle\n", "", 0),
+        (RING, 5, "1 1 0", "fault 60\n", 3),
+        (RING, 0, "", "fault 60\n", 3),
+        ("0 1 0 0\n1 1 0 0", 100, "", "", 0),
+        ("1 7 0 0\n", 100, "7 1 0 idle\n", "", 0),
+        ("1 1001 0 0\n", 100, "", "", 0),
+        ("", 100, "", "", 0),
+        ("1 0 0 0\n", 100, "", "refused 27 at 1\n", 1),
+        ("1 1 1 0\n", 100, "", "refused 28 at 1\n", 1),
+        ("0 1 0\n", 100, "", "refused 29 at 1\n", 1),
+        ("2 1 0 0\n", 100, "", "refused 30 at 1\n", 1),
+        (
+            "0 1 0 0\n2 0 1 0\n1 0 0 0\n",
+            100,
+            "",
+            "refused 27 at 2\n",
+            1,
+        ),
+        ("2 0 1 0\n\n", 100, "", "refused 29 at 2\n", 1),
+    ];
+    for (table, room, printed, said, status) in rows {
+        let files = OneFile {
+            name: "table",
+            bytes: table.as_bytes(),
+        };
+        let words = ["first", "table"];
+        assert_serves_narrow(&rt, &words, &files, room, printed, said, status);
+    }
+}
+
+#[test]
+fn files_that_are_missing(rt: HostRuntime) {
+    let files = OneFile {
+        name: "table",
+        bytes: b"0 1 0 0",
+    };
+    for command in ["first", "print"] {
+        assert_serves(&rt, &[command, "missing"], &files, "", "fault 63\n", 3);
+    }
+}
+
+fn text_of(rt: &impl Abort, written: Counted<Vec<u8>>) -> String {
+    String::from_utf8(written.into_inner()).expect(rt, "text")
+}
+
+fn assert_has(rt: &impl Abort, text: &str, part: &str) {
+    assert!(rt; text.contains(part), "{text}");
+}
+
+// Words that are wrong are said to be so, and help is printed; a part of what is written.
+fn assert_speaks(
+    rt: &(impl Abort + AllocGlobal),
+    all: &[&str],
+    files: &OneFile,
+    status: u8,
+    part: &str,
+) {
+    let mut out = Counted::new(Vec::new(rt.alloc()));
+    let mut err = Counted::new(Vec::new(rt.alloc()));
+    let ended = status_of(rt, all, files, &mut out, &mut err);
+    assert_eq!(rt; ended, status, "{part}");
+    let (full, empty) = if status == 0 { (out, err) } else { (err, out) };
+    assert_has(rt, text_of(rt, full).as_str(), part);
+    assert_written(rt, empty, "", part);
+}
+
+#[test]
+fn wrong_words_and_help(rt: HostRuntime) {
+    let files = OneFile {
+        name: "table",
+        bytes: b"0 1 0 0",
+    };
+    let rows: [(&[&str], u8, &str); 9] = [
+        (&[], 2, "Usage: warp <COMMAND>"),
+        (&["first"], 2, "<TABLE>"),
+        (&["print"], 2, "<F>"),
+        (&["last", "table"], 2, "last"),
+        (&["first", "table", "table"], 2, "table"),
+        (&["print", "table", "--loud"], 2, "--loud"),
+        (&["help"], 0, "Usage: warp <COMMAND>"),
+        (&["--help"], 0, "Usage: warp <COMMAND>"),
+        (&["print", "-h"], 0, "print <F>"),
+    ];
+    for (said, status, part) in rows {
+        assert_speaks(&rt, said, &files, status, part);
+    }
+}
+
+#[test]
+fn help_that_is_cut(rt: HostRuntime) {
+    let files = OneFile {
+        name: "table",
+        bytes: b"0 1 0 0",
+    };
+    let held = Vec::new(rt.alloc());
+    let mut out = Counted::new(Narrow { held, room: 5 });
+    let mut err = Counted::new(Vec::new(rt.alloc()));
+    let ended = status_of(&rt, &["help"], &files, &mut out, &mut err);
+    assert_eq!(rt; ended, 3);
+    assert_written(&rt, err, "fault 60\n", "help");
+    assert_eq!(rt; out.into_inner().held.len(), 5);
+}
+
+const RING_SOURCE: &str =
+    "type Id = 0..1\nautomaton Node(me: Id, nx: Id, first: Bool)\nsignature\ninput pass(const me)\noutput pass(const nx)\nstates has: Bool := first\ntransitions\ninput pass(const me)\neff has := true\noutput pass(const nx)\npre has\neff has := false\ntasks { pass }\nautomaton Ring\ncomponents a: Node(0, 1, true); b: Node(1, 0, false)\n";
+
+#[test]
+fn sources_are_printed_or_refused(rt: HostRuntime) {
+    let counter =
+        "automaton C signature internal up states n: Int := 9223372036854775807 transitions internal up eff n := n + 1 tasks {up} automaton S components c: C";
+    let ten_lines =
+        "automaton C\nsignature\ninternal up\nstates n: Int := 9223372036854775807\ntransitions\ninternal up\neff n := n + 1\ntasks { up }\nautomaton S\ncomponents c: C\n";
+    let rows: [(&[u8], usize, &str, &str, u8); 6] = [
+        (RING_SOURCE.as_bytes(), 1000, RING_SOURCE, "", 0),
+        (counter.as_bytes(), 1000, ten_lines, "", 0),
+        (counter.as_bytes(), 5, "autom", "fault 60\n", 3),
+        (counter.as_bytes(), 0, "", "fault 60\n", 3),
+        (
+            b"type A = enumeration of a, b",
+            1000,
+            "",
+            "refused 4 at 28\n",
+            1,
+        ),
+        (b"typ\xc8 A = 0..1", 1000, "", "refused 2 at 3\n", 1),
+    ];
+    for (source, room, printed, said, status) in rows {
+        let files = OneFile {
+            name: "source",
+            bytes: source,
+        };
+        let words = ["print", "source"];
+        assert_serves_narrow(&rt, &words, &files, room, printed, said, status);
+    }
+}
+
+#[test]
+fn the_limit_of_a_source(rt: HostRuntime) {
+    // Blanks up to the limit of 65,536 bytes, and one more.
+    let mut bytes = Vec::new(rt.alloc());
+    extend(&rt, &mut bytes, RING_SOURCE.as_bytes());
+    for _k in bytes.len()..65_536 {
+        extend(&rt, &mut bytes, b" ");
+    }
+    assert_source(&rt, bytes.as_slice(), RING_SOURCE, "", 0);
+    extend(&rt, &mut bytes, b" ");
+    assert_source(&rt, bytes.as_slice(), "", "refused 5\n", 1);
+}
+
+fn extend(rt: &impl Abort, bytes: &mut Vec<u8>, more: &[u8]) {
+    bytes
+        .extend_from_slice(more)
+        .expect(rt, "memory for more bytes");
+}
+
+fn assert_source(
+    rt: &(impl Abort + AllocGlobal),
+    bytes: &[u8],
+    printed: &str,
+    said: &str,
+    status: u8,
+) {
+    let files = OneFile {
+        name: "source",
+        bytes,
+    };
+    assert_serves(rt, &["print", "source"], &files, printed, said, status);
+}
+
+#[test]
+fn the_limit_of_a_table(rt: HostRuntime) {
+    // 1,048,576 rows of 16 bytes are 16,777,216 bytes, the limit.
+    let mut bytes = Vec::new(rt.alloc());
+    for _k in 0..1_048_576u32 {
+        extend(&rt, &mut bytes, b"0 1 0 429496729\n");
+    }
+    assert_table(&rt, bytes.as_slice(), "", 0);
+    extend(&rt, &mut bytes, b"0");
+    assert_table(&rt, bytes.as_slice(), "fault 64\n", 3);
+}
+
+// A table of which nothing is printed.
+fn assert_table(rt: &(impl Abort + AllocGlobal), bytes: &[u8], said: &str, status: u8) {
+    let files = OneFile {
+        name: "table",
+        bytes,
+    };
+    assert_serves(rt, &["first", "table"], &files, "", said, status);
+}
