@@ -1,5 +1,5 @@
 -- What a check answers.
-use Rattle.std.proofs.Common.{◌≡◌, ℕ, ◌+◌, ◌≤◌, true, Option, Some, None, List, [], length, sym, subst, arith}
+use Rattle.std.proofs.Common.{◌≡◌, ◌+◌, ◌≤◌, Some, length, sym, subst, arith}
 use Rattle.ioa_trees.specs.Spelling.{spell}
 use Rattle.ioa_trees.specs.Trees.{PlainSource}
 use Rattle.ioa_rules.specs.Faults.{Fault, IsLeast}

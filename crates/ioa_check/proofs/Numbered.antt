@@ -1,6 +1,5 @@
 -- Every fault has a number from 10 to 17.
-use Rattle.std.proofs.Common.{◌≡◌, ◌∙◌, ℕ, ◌+◌, Bool, true, false, not, ◌&&◌, ◌||◌, Option, Some, None, List, [], ◌∷◌, ◌++◌, length, refl, if◌then◌else◌, nat_lt, nat_eq, nat_le, inl, inr, bytes_eq, int_lt}
-use Rattle.std.specs.List.{list_any}
+use Rattle.std.proofs.Common.{◌≡◌, ◌∙◌, ℕ, ◌+◌, Bool, true, false, ◌&&◌, Option, Some, None, List, [], ◌∷◌, ◌++◌, refl, if◌then◌else◌, nat_lt, inl, inr}
 use Rattle.ioa_trees.specs.Trees as tree
 use Rattle.ioa_trees.specs.Trees.{Bytes, PlainType, PlainTerm, PlainTerms, PlainFactors, PlainAddends, no_term, more_terms, no_factor, more_factors, no_addend, more_addends, PlainInit, PlainDeclared, PlainStatement, PlainStatements, PlainBranches, no_statement, more_statements, no_branch, more_branches, PlainParameter, PlainEntry, PlainVariable, PlainTransition, PlainAutomaton, PlainComponent, PlainTypeBody, PlainTypeDefinition, PlainSource}
 use Rattle.ioa_trees.specs.declared.tree.EntryKind.{EntryKind}
@@ -8,12 +7,11 @@ use Rattle.ioa_trees.specs.declared.tree.Relation.{Relation}
 use Rattle.ioa_rules.specs.Faults.{Fault, IsIn, at_fault, where_wrong}
 use Rattle.ioa_rules.specs.Kinds as kind
 use Rattle.ioa_rules.specs.Kinds.{Kind, can_be_listed, is_array, is_seq, is_truth, is_whole, fits, count, number}
-use Rattle.ioa_rules.specs.Scopes.{Scope, named, doubled, taken_before, declare, OfType, OfMember, OfFormal, automaton_meant}
-use Rattle.ioa_rules.specs.Sizes.{type_size, size, at_size, init_size, statement_size, statements_size, branches_size, declared_size, entry_size, pre_size, transition_size, variable_size, task_size, definition_size, automaton_size, component_size}
-use Rattle.ioa_rules.specs.TypeRules.{overweight, unlisted, unscalar, type_faults, kind_of, is_bad_bound}
-use Rattle.ioa_rules.specs.TermRules.{Judged, judge, wants, unfit, append_faults, index_faults, compare_faults, compares, faults, indexes_faults, factors_faults, addends_faults, truths_faults, element_of}
-use Rattle.ioa_rules.specs.ValueRules.{inner_faults, misfits, item_kind, is_misfit}
-use Rattle.ioa_rules.specs.EffectRules.{left_faults, at_faults, assignment_faults, cell_kind, left_kind, in_loop, statement_faults, branches_faults, statements_faults}
+use Rattle.ioa_rules.specs.Scopes.{Scope}
+use Rattle.ioa_rules.specs.TypeRules.{overweight, unlisted, unscalar, type_faults}
+use Rattle.ioa_rules.specs.TermRules.{Judged, judge, wants, append_faults, index_faults, compare_faults, faults, indexes_faults, factors_faults, addends_faults, truths_faults}
+use Rattle.ioa_rules.specs.ValueRules.{inner_faults, misfits, item_kind}
+use Rattle.ioa_rules.specs.EffectRules.{left_faults, at_faults, assignment_faults, in_loop, statement_faults, branches_faults, statements_faults}
 use Rattle.ioa_rules.specs.EntryRules as entry
 use Rattle.ioa_rules.specs.AutomatonRules as automaton
 use Rattle.ioa_rules.specs.SourceRules as source

@@ -1,5 +1,5 @@
 -- The faults of a whole source, one part after the other.
-use Rattle.std.proofs.Common.{◌≡◌, ℕ, ◌+◌, Bool, true, false, ◌||◌, Option, None, List, [], ◌++◌, bytes_eq, refl, sym, ap, ◌∙◌, arith}
+use Rattle.std.proofs.Common.{◌≡◌, ℕ, ◌+◌, Bool, true, false, ◌||◌, Option, None, List, [], ◌++◌, bytes_eq, refl, ap, ◌∙◌, arith}
 use Rattle.std.specs.List.{list_any}
 use Rattle.ioa_trees.specs.Trees.{Bytes, PlainSource}
 use Rattle.ioa_automata.specs.Sets.{Adds, AreNames}

@@ -1,6 +1,6 @@
 -- Refused sources: the number of a refusal, and the token at which it stands.
-use Rattle.std.specs.Prelude.{◌≡◌, ℕ, Option, None, Some, List, []}
-use Rattle.ioa_rules.specs.Faults.{Fault, IsLeast}
+use Rattle.std.specs.Prelude.{◌≡◌, ℕ, Option, None, Some, []}
+use Rattle.ioa_rules.specs.Faults.{IsLeast}
 use Rattle.ioa_rules.specs.SourceRules.{MeantSource, source_faults, source_meaning}
 use Rattle.ioa_front.specs.Reading.{IsReadable}
 use Rattle.ioa_trees.specs.Trees.{PlainSource}

@@ -1,5 +1,5 @@
 -- What sources mean, without where it lies in memory.
-use Rattle.std.specs.Prelude.{Some, map, string_bytes}
+use Rattle.std.specs.Prelude.{map, string_bytes}
 use Rattle.ioa_automata.specs.Meant.{automaton_tree}
 use Rattle.ioa_components.specs.Views.{component_tree}
 use Rattle.ioa_rules.specs.SourceRules as rule

@@ -17,8 +17,6 @@ mod source;
 mod statements;
 mod stop;
 mod term;
-#[cfg(test)]
-mod tests;
 pub mod texts;
 mod transitions;
 mod types;

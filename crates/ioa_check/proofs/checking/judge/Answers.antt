@@ -1,11 +1,11 @@
-use Rattle.std.proofs.Common.{rules, refl, None, [], ap}
+use Rattle.std.proofs.Common.{rules, refl, None}
 use Rattle.ioa_automata.specs.Meant.{automaton_tree}
 use Rattle.ioa_automata.specs.Views.{used_names}
 use Rattle.ioa_names.specs.Views.{names_tree}
 use Rattle.ioa_trees.specs.Views.{view_source}
 use Rattle.ioa_typing.specs.Views.{least_tree}
 use Rattle.std.proofs.Common.{map}
-use Rattle.ioa_check.proofs.Whole.{Parts, all_kept}
+use Rattle.ioa_check.proofs.Whole.{all_kept}
 use Rattle.ioa_check.proofs.checking.judge.Goals as goal
 
 pub returns-clause-least : goal.returns-clause-least

@@ -1,4 +1,4 @@
-use Rattle.std.proofs.Common.{◌≡◌, ◌+◌, ◌<◌, drop, length, map, string_bytes}
+use Rattle.std.proofs.Common.{◌≡◌, ◌+◌, drop, length, map, string_bytes}
 use Rattle.ioa_rules.specs.Faults.{keep}
 use Rattle.ioa_rules.specs.Sizes.{listed_size, name_size}
 use Rattle.ioa_rules.specs.SourceRules.{members_faults, with_members}

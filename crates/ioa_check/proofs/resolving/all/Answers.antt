@@ -1,6 +1,5 @@
-use Rattle.std.proofs.Common.{rules, arith, ◌≡◌, ◌∷◌, ◌++◌, [], Some, length, map, refl, sym, ap, subst, ◌∙◌, append-nil}
+use Rattle.std.proofs.Common.{rules, arith, ◌≡◌, ◌∷◌, Some, length, sym, ap}
 use Rattle.std.specs.Vec.Iter.{into_iter_items}
-use Rattle.ioa_rules.specs.Meant.{AllSome}
 use Rattle.ioa_check.proofs.Taken.{next_some, others_some, put}
 use Rattle.ioa_check.proofs.resolving.all.Goals as goal
 

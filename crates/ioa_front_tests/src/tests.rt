@@ -3,7 +3,7 @@
 ghost use Rattle.std.specs.Prelude.{◌≡◌, IfOk};
 ghost use Rattle.ioa_trees.specs.Views.{view_source};
 
-use crate::{MOST_BYTES, ReadError, Source, print, read};
+use ioa_front::{MOST_BYTES, ReadError, Source, print, read};
 use std::alloc::Global;
 use std::test::Fail;
 
