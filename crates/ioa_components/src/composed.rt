@@ -30,7 +30,7 @@ fn is_taken(names: &Names, used: &Used, name: &str) -> bool
     names.get(name).is_some() || used.contains(name)
 }
 
-// Checks the name behind the word `composed`.
+// Checks the name behind the first word.
 fn check_name(names: &Names, used: &Used, name: &str, walk: &mut Walk)
     requires room { walk.old.at + 1 < 2 ^ 32 }
     ensures at { walk.new.at ≡ walk.old.at }
