@@ -129,6 +129,52 @@ fn values_and_types(rt: HostRuntime) -> Result<(), Fail> {
 }
 
 #[test]
+fn assignments_and_parameters(rt: HostRuntime) -> Result<(), Fail> {
+    let rows = [
+        (
+            "signature internal up states a: Array[0..1, Int] := fill(0) transitions internal up eff a[true] := 0 tasks {up}",
+            CheckError::WrongType(27),
+        ),
+        (
+            "signature internal up states n: Int := 0 transitions internal up eff n[0] := 1 tasks {up}",
+            CheckError::WrongType(15),
+        ),
+        (
+            "signature internal up states n: Int := 0 transitions internal up eff m := true tasks {up}",
+            CheckError::UnknownName(15),
+        ),
+        (
+            "signature internal up transitions internal up pre true mod 0 = 0 tasks {up}",
+            CheckError::WrongType(9),
+        ),
+        (
+            "signature internal up transitions internal up pre 1 mod 0 = 0 tasks {up}",
+            CheckError::WrongType(11),
+        ),
+        (
+            "signature input go(const q) transitions input go(const q)",
+            CheckError::UnknownName(7),
+        ),
+        (
+            "signature input go internal up transitions internal up tasks {up}",
+            CheckError::NoTransition(3),
+        ),
+        (
+            "(f: Int) signature input go(const f) transitions input go(f: Int)",
+            CheckError::WrongType(16),
+        ),
+        (
+            "signature internal up transitions internal up(a: Bool, b: Bool, d: Bool, e: Bool, f: Bool, g: Bool, h: Bool, i: Bool, j: Bool, k: Bool, l: Bool, m: Bool, n: Bool, o: Bool, p: Bool, q: Bool, r: Bool) tasks {up}",
+            CheckError::WrongType(7),
+        ),
+    ];
+    for (body, wanted) in rows {
+        assert!(rt; within(rt.alloc(), body)? == Some(wanted));
+    }
+    Ok(())
+}
+
+#[test]
 fn limits(rt: HostRuntime) -> Result<(), Fail> {
     let rows = [
         (
@@ -223,6 +269,10 @@ fn accepted_sources(rt: HostRuntime) -> Result<(), Fail> {
         "automaton C signature internal up states n: Int := 9223372036854775807 transitions internal up eff n := n + 1 tasks {up} automaton S components c: C",
         "automaton C signature input go transitions input go automaton S components c: Nope(1)",
         "automaton C signature input go(v: 0..01) transitions input go(v: 0..1) automaton S components c: C; d: C",
+        "automaton C signature input a(v: Int) input b(v: Int) transitions input a(v: Int) input b(v: Int) automaton S components c: C",
+        "automaton C signature internal up states n: Int := 0 transitions internal up eff for i: Bool do n := 1 od; for i: Bool do n := 2 od tasks {up} automaton S components c: C",
+        "type go = Bool automaton C signature input go transitions input go automaton S components go: C",
+        "type T = Bool automaton C signature input go transitions input go automaton S components c: S; d: T; e: C",
     ];
     for text in rows {
         assert!(rt; refused(rt.alloc(), text)?.is_none());
