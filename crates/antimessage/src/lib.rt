@@ -10,6 +10,3 @@ pub(crate) mod merge;
 pub(crate) mod walks;
 
 pub use bag::Bag;
-
-#[cfg(test)]
-mod tests;

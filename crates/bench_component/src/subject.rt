@@ -1,15 +1,15 @@
 //! The component that is measured: component 1 of the ring, which has a turn at every tick from 1 on.
 ghost use Rattle.std.specs.Prelude.{◌≡◌, ◌<◌, IfOk};
-ghost use Rattle.compose.specs.Plans.{composition};
-ghost use Rattle.compose.specs.Ring.{ring_of_two};
+ghost use Rattle.plans.specs.Plans.{composition};
+ghost use Rattle.ring_source.specs.Ring.{ring_of_two};
 ghost use Rattle.task_seed.specs.Setups.{plan_of};
 
 use crate::messages::{LATE, SUBJECT, cells, ticks_back};
 use antimessage::Bag;
 use anyhow::Result;
-use compose::ring;
 use event_keys::{Sign, Signed};
 use raw_events::EventCell;
+use ring_source::ring;
 use rollback::{Component, ProcessRefused};
 use std::alloc::Global;
 use std::sync::Arc;

@@ -1,1 +1,3 @@
 mod Telling
+mod Numbers
+mod Locals

@@ -1,10 +1,15 @@
 -- What the words of the command line ask for, as `clap` reads them.
-use Rattle.std.specs.Prelude.{◌≡◌, ◌≢◌, ◌⊎◌, Option, Some, true, List, [], codes}
-use Rattle.clap.specs.Words.{App, IsAmong, Row, Rule, Text, fault_of, first_of, new_app, new_rule, subcommand_of, with_rule, with_subcommand}
+use Rattle.std.specs.Prelude.{◌≡◌, ◌≢◌, ◌⊎◌, ◌≤◌, ◌↔◌, ℕ, Bool, Option, Some, true, List, [], ◌∷◌, codes, option_map}
+use Rattle.std.specs.Str.Parse.{IsNumeral, digits_value, without_leading_plus}
+use Rattle.clap.specs.Words.{App, IsAmong, Row, Rule, Text, fault_of, first_of, new_app, new_rule, one_of, subcommand_of, with_rule, with_subcommand}
+use Rattle.clap.specs.declared.builder.action.ArgAction.TheVariants.{SetTrue}
+use Rattle.clap.specs.declared.builder.value_parser.ValueParser.{ValueParser}
+use Rattle.clap.specs.declared.builder.value_parser.ValueParser.TheVariants.{Unsigned}
 use Rattle.clap.specs.declared.error.ErrorKind.{ErrorKind}
 use Rattle.clap.specs.declared.error.ErrorKind.TheVariants as error
 use Rattle.command_line.specs.declared.Asked.{Asked}
 use Rattle.command_line.specs.declared.Asked.TheVariants as asked
+use Rattle.command_line.specs.declared.Options.{Options}
 use Rattle.command_line.specs.declared.Refused.{Refused}
 use Rattle.command_line.specs.declared.Refused.TheVariants as refused
 
@@ -20,8 +25,75 @@ of_file name file = with_rule (new_app name) (file_rule file)
 abbrev pub bare : App
 bare = record (new_app (codes "warp")) { top = record (new_app (codes "warp")).top { no_binary_name = true; subcommand_required = true } }
 
+abbrev pub print_app : App
+print_app = of_file (codes "print") (codes "F")
+
+abbrev pub first_app : App
+first_app = of_file (codes "first") (codes "TABLE")
+
+-- a number with a default
+abbrev pub number_rule : Text → Text → ValueParser → Rule
+number_rule name default parser = record (new_rule name) { long = Some name; defaults = default ∷ []; parser = Some parser }
+
+abbrev pub table_rule : Rule
+table_rule = record (new_rule (codes "table")) { long = Some (codes "table"); value_names = 1 }
+
+abbrev pub trace_rule : Rule
+trace_rule = record (new_rule (codes "trace")) { long = Some (codes "trace"); action = Some SetTrue }
+
+abbrev pub whole : ValueParser
+whole = Unsigned 0 18446744073709551615
+
+-- a subcommand that simulates
+abbrev pub simulating : App → App
+simulating app =
+    with_rule (with_rule (with_rule (with_rule (with_rule (with_rule app (number_rule (codes "seed") (codes "1") whole)) (number_rule (codes "stream") (codes "0") whole))
+    (number_rule (codes "gap") (codes "8") (Unsigned 1 65535))) (number_rule (codes "ticks") (codes "1000") (Unsigned 0 4294967296))) table_rule) trace_rule
+
+abbrev pub reference_app : App
+reference_app = simulating (of_file (codes "reference") (codes "F"))
+
+abbrev pub check_app : App
+check_app = with_rule (of_file (codes "check") (codes "F")) (file_rule (codes "TRACE"))
+
 abbrev pub warp : App
-warp = with_subcommand (with_subcommand bare (of_file (codes "print") (codes "F")).top) (of_file (codes "first") (codes "TABLE")).top
+warp = with_subcommand (with_subcommand (with_subcommand (with_subcommand bare print_app.top) first_app.top) reference_app.top) check_app.top
+
+-- the number that stands for an option, within a range
+pub record IsNumber (rows : List Row) (option : Text) (least most n : ℕ) : Type 0 where
+  pub text : Text
+  pub given : one_of option rows ≡ Some text
+  pub numeral : IsNumeral 10 (without_leading_plus text)
+  pub value : n ≡ digits_value 10 (without_leading_plus text)
+  pub above : least ≤ n
+  pub below : n ≤ most
+
+-- whether a flag was set
+abbrev pub IsFlag : Option Text → Bool → Type 0
+IsFlag text set = (text ≡ Some (codes "true")) ↔ (set ≡ true)
+
+-- the options as they were entered, or else as they are where they aren't
+pub record HasOptions (rows : List Row) (options : Options) : Type 0 where
+  pub seed : IsNumber rows (codes "seed") 0 18446744073709551615 options.seed
+  pub stream : IsNumber rows (codes "stream") 0 18446744073709551615 options.stream
+  pub gap : IsNumber rows (codes "gap") 1 65535 options.gap
+  pub ticks : IsNumber rows (codes "ticks") 0 4294967296 options.ticks
+  pub table : option_map (λ s. s.now) options.table ≡ first_of (codes "table") rows
+  pub trace : IsFlag (first_of (codes "trace") rows) options.trace
+
+-- what was entered is this subcommand, with this file and these options
+pub record Simulates (entered : Option (Text × List Row)) (subcommand source : Text) (options : Options) : Type 0 where
+  pub rows : List Row
+  pub is : entered ≡ Some (subcommand, rows)
+  pub given : first_of (codes "F") rows ≡ Some source
+  pub chosen : HasOptions rows options
+
+-- what was entered is this subcommand, with these two files
+pub record NamesBoth (entered : Option (Text × List Row)) (subcommand first second first_file second_file : Text) : Type 0 where
+  pub rows : List Row
+  pub is : entered ≡ Some (subcommand, rows)
+  pub first_given : first_of first rows ≡ Some first_file
+  pub second_given : first_of second rows ≡ Some second_file
 
 -- what was entered is this subcommand, and this is its file
 pub record Names (entered : Option (Text × List Row)) (subcommand argument file : Text) : Type 0 where
@@ -32,12 +104,14 @@ pub record Names (entered : Option (Text × List Row)) (subcommand argument file
 abbrev pub IsNamed : Option (Text × List Row) → Asked → Type 0
 IsNamed entered (asked.Print source) = Names entered (codes "print") (codes "F") source.now
 IsNamed entered (asked.First table) = Names entered (codes "first") (codes "TABLE") table.now
+IsNamed entered (asked.Reference source options) = Simulates entered (codes "reference") source.now options
+IsNamed entered (asked.Check source trace) = NamesBoth entered (codes "check") (codes "F") (codes "TRACE") source.now trace.now
 
 -- `clap` finds this fault in the words
 abbrev pub HasFault : List Text → ErrorKind → Type 0
 HasFault words kind = IsAmong kind (fault_of warp words)
 
--- the words are without fault, and name a subcommand with its file
+-- the words are without fault, and name a subcommand with its files and options
 abbrev pub IsAsked : List Text → Asked → Type 0
 IsAsked words a = (fault_of warp words ≡ []) × IsNamed (subcommand_of warp words) a
 
@@ -47,7 +121,7 @@ pub record IsWrong (words : List Text) : Type 0 where
   pub found : HasFault words kind
   pub other : kind ≢ error.DisplayHelp
 
--- the words name no subcommand with its file
+-- the words name no subcommand with its files and options
 abbrev pub AskNothing : List Text → Type 0
 AskNothing words = (a : Asked) → IsNamed (subcommand_of warp words) a → ⊥
 

@@ -1,14 +1,16 @@
 //! The command line of `warp`: its subcommands and their options, read by `clap`.
 #![tactic(auto)]
 
-ghost use Rattle.std.specs.Prelude.{◌≡◌, false, IfOk, MatchOption, MatchResult, map, option_map, string_bytes};
+ghost use Rattle.std.specs.Prelude.{◌≡◌, ℕ, false, IfOk, MatchOption, MatchResult, map, option_map, string_bytes};
 ghost use Rattle.clap.specs.Words.{app_of, first_of, found_of, kind_of, rows_of, rule_of, subcommand_rows_of};
 ghost use Rattle.command_line.specs.declared.Asked.{Asked as AskedValue};
-ghost use Rattle.command_line.specs.Words.{warp, file_rule, IsAsked, IsNamed, IsRefused, IsTold};
+ghost use Rattle.command_line.specs.declared.Options.{Options as OptionsValue};
+ghost use Rattle.command_line.specs.Words.{warp, file_rule, number_rule, table_rule, trace_rule, simulating, print_app, first_app, reference_app, check_app, HasOptions, IsAsked, IsFlag, IsNamed, IsNumber, IsRefused, IsTold};
 ghost use Rattle.command_line.specs.declared.Refused.TheVariants.{NoMemory};
 
+use clap::builder::ValueParser;
 use clap::error::{Error, ErrorKind};
-use clap::{Arg, ArgMatches, Command};
+use clap::{Arg, ArgAction, ArgMatches, Command, value_parser};
 use std::alloc::{AllocError, Global};
 
 #[cfg(test)]
@@ -18,9 +20,40 @@ mod tests;
 #[derive(Clone, Copy, Debug, PartialEq, Eq)]
 pub enum Asked<'a> {
     /// The source in this file is printed in its layout.
-    Print { source: &'a str },
+    Print {
+        source: &'a str,
+    },
     /// The table in this file is run by the first path.
-    First { table: &'a str },
+    First {
+        table: &'a str,
+    },
+    /// The composition of the source in this file is simulated by one thread.
+    Reference {
+        source: &'a str,
+        options: Options<'a>,
+    },
+    /// Whether the actions in the second file are a schedule of the composition of the source in the first.
+    Check {
+        source: &'a str,
+        trace: &'a str,
+    },
+}
+
+/// How a composition is simulated.
+#[derive(Clone, Copy, Debug, PartialEq, Eq)]
+pub struct Options<'a> {
+    /// The seed of the turns; with a table, seed, stream and gap aren't used.
+    pub seed: u64,
+    /// The stream of component 0; component i has this one plus i, modulo 2^64.
+    pub stream: u64,
+    /// The greatest gap between two turns of a component, 1 to 65,535 ticks.
+    pub gap: u64,
+    /// The last tick, 0 to 4,294,967,296.
+    pub ticks: u64,
+    /// The file of a table of turns.
+    pub table: Option<&'a str>,
+    /// Only turns with an external action are written.
+    pub trace: bool,
 }
 
 /// Why the words ask for nothing.
@@ -66,19 +99,116 @@ pub fn read_words<'a>(alloc: Global, words: &'a [String]) -> Result<Asked<'a>, R
 fn described<'a>(alloc: Global) -> Result<Command<'a>, AllocError>
     ensures app { IfOk result (λ c. app_of c ≡ warp) }
 {
-    let print = Command::new(alloc, "print")
-        .about("Print a source in its layout; it is read and not checked")
-        .arg(file(alloc, "F", "The file of the source"))?;
-    let first = Command::new(alloc, "first")
-        .about("Run the ring of two with a table of turns up to its first commit")
-        .hide(true)
-        .arg(file(alloc, "TABLE", "The file of the table"))?;
     Command::new(alloc, "warp")
         .about("A parallel simulator of composed I/O automata")
         .no_binary_name(true)
         .subcommand_required(true)
-        .subcommand(print)?
-        .subcommand(first)
+        .subcommand(print(alloc)?)?
+        .subcommand(first(alloc)?)?
+        .subcommand(reference(alloc)?)?
+        .subcommand(check(alloc)?)
+}
+
+fn print<'a>(alloc: Global) -> Result<Command<'a>, AllocError>
+    ensures { IfOk result (λ c. app_of c ≡ print_app) }
+{
+    Command::new(alloc, "print")
+        .about("Print a source in its layout; it is read and not checked")
+        .arg(file(alloc, "F", "The file of the source"))
+}
+
+fn first<'a>(alloc: Global) -> Result<Command<'a>, AllocError>
+    ensures { IfOk result (λ c. app_of c ≡ first_app) }
+{
+    Command::new(alloc, "first")
+        .about("Run the ring of two with a table of turns up to its first commit")
+        .hide(true)
+        .arg(file(alloc, "TABLE", "The file of the table"))
+}
+
+fn reference<'a>(alloc: Global) -> Result<Command<'a>, AllocError>
+    ensures { IfOk result (λ c. app_of c ≡ reference_app) }
+{
+    let command = Command::new(alloc, "reference")
+        .about(
+            "Simulate a composition by one thread, which always takes the turn with the least key",
+        )
+        .arg(file(alloc, "F", "The file of the source"))?;
+    with_options(alloc, command)
+}
+
+fn check<'a>(alloc: Global) -> Result<Command<'a>, AllocError>
+    ensures { IfOk result (λ c. app_of c ≡ check_app) }
+{
+    Command::new(alloc, "check")
+        .about("Say whether actions are a schedule of a composition")
+        .arg(file(alloc, "F", "The file of the source"))?
+        .arg(file(alloc, "TRACE", "The file of the actions, one a line"))
+}
+
+// The options of what simulates.
+fn with_options<'a>(alloc: Global, command: Command<'a>) -> Result<Command<'a>, AllocError>
+    ensures { IfOk result (λ c. app_of c ≡ simulating (app_of command.entry)) }
+{
+    let whole = value_parser!(u64);
+    let gaps = value_parser!(u64).range(1..65_536);
+    let ticks = value_parser!(u64).range(0..4_294_967_297);
+    command
+        .arg(number(alloc, "seed", "1", whole, "The seed of the turns"))?
+        .arg(number(
+            alloc,
+            "stream",
+            "0",
+            whole,
+            "The stream of the first component's turns",
+        ))?
+        .arg(number(
+            alloc,
+            "gap",
+            "8",
+            gaps,
+            "The greatest gap between two turns, in ticks",
+        ))?
+        .arg(number(alloc, "ticks", "1000", ticks, "The last tick"))?
+        .arg(table(alloc))?
+        .arg(trace(alloc))
+}
+
+fn number<'a>(
+    alloc: Global,
+    name: &'a str,
+    default: &'a str,
+    parser: ValueParser<'a>,
+    help: &'a str,
+) -> Arg<'a>
+    ensures rule { rule_of result ≡ number_rule name.now default.now parser.entry }
+    ensures local { result.global ≡ false }
+{
+    Arg::new(alloc, name)
+        .long(name)
+        .default_value(default)
+        .value_parser(parser)
+        .help(help)
+}
+
+fn table<'a>(alloc: Global) -> Arg<'a>
+    ensures rule { rule_of result ≡ table_rule }
+    ensures local { result.global ≡ false }
+{
+    Arg::new(alloc, "table")
+        .long("table")
+        .value_name("FILE")
+        .help("The file of a table of turns; seed, stream and gap are then not used")
+}
+
+fn trace<'a>(alloc: Global) -> Arg<'a>
+    ensures rule { rule_of result ≡ trace_rule }
+    ensures local { result.global ≡ false }
+{
+    Arg::new(alloc, "trace")
+        .long("trace")
+        .action(ArgAction::SetTrue)
+        .help("Write only turns with an external action")
 }
 
 fn file<'a>(alloc: Global, name: &'a str, help: &'a str) -> Arg<'a>
@@ -101,7 +231,63 @@ fn asked_by<'a>(matches: &ArgMatches<'a>) -> Option<Asked<'a>>
         let table = file_of(found, "TABLE")?;
         return Some(Asked::First { table });
     }
+    if name == "reference" {
+        let source = file_of(found, "F")?;
+        let options = options_of(found)?;
+        return Some(Asked::Reference { source, options });
+    }
+    if name == "check" {
+        let source = file_of(found, "F")?;
+        let trace = file_of(found, "TRACE")?;
+        return Some(Asked::Check { source, trace });
+    }
     None
+}
+
+// The options, each number in its range.
+fn options_of<'a>(found: &ArgMatches<'a>) -> Option<Options<'a>>
+    ensures { MatchOption result ((o : OptionsValue) → HasOptions (rows_of (found_of found.now)) o → ⊥) (HasOptions (rows_of (found_of found.now))) }
+{
+    let seed = number_of(found, "seed", 0, u64::MAX)?;
+    let stream = number_of(found, "stream", 0, u64::MAX)?;
+    let gap = number_of(found, "gap", 1, 65_535)?;
+    let ticks = number_of(found, "ticks", 0, 4_294_967_296)?;
+    Some(Options {
+        seed,
+        stream,
+        gap,
+        ticks,
+        table: file_of(found, "table"),
+        trace: is_set(found, "trace"),
+    })
+}
+
+// The number that stands for an option, if it is in a range.
+fn number_of(found: &ArgMatches, option: &str, least: u64, most: u64) -> Option<u64>
+    ensures { MatchOption result ((n : ℕ) → IsNumber (rows_of (found_of found.now)) option.now least most n → ⊥) (IsNumber (rows_of (found_of found.now)) option.now least most) }
+{
+    match found.get_one::<u64>(option) {
+        Some(number) => {
+            if number < least {
+                return None;
+            }
+            if most < number {
+                return None;
+            }
+            Some(number)
+        }
+        None => None,
+    }
+}
+
+// Whether a flag was entered: clap then has the text `true` for it.
+fn is_set(found: &ArgMatches, flag: &str) -> bool
+    ensures { IsFlag (first_of flag.now (rows_of (found_of found.now))) result }
+{
+    match file_of(found, flag) {
+        Some(text) => text == "true",
+        None => false,
+    }
 }
 
 fn file_of<'a>(found: &ArgMatches<'a>, argument: &str) -> Option<&'a str>

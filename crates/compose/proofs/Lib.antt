@@ -1,2 +1,5 @@
-mod FanFormed
-mod Pairs
+pub mod Composed
+pub mod Formed
+pub mod Least
+pub mod Named
+pub mod Unknown

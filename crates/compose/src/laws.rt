@@ -1,52 +1,19 @@
-//! Laws of compositions that the crates above cite.
-ghost use Rattle.std.specs.Prelude.{◌≡◌, ℕ, List, true, false, Some};
-ghost use Rattle.terms.specs.Named.{Named};
-ghost use Rattle.compose.specs.Automata.{Instance};
-ghost use Rattle.compose.specs.Compatible.{IsCompatible};
-ghost use Rattle.compose.specs.Plans.{composition};
-ghost use Rattle.compose.specs.Signatures.{inputs, receives, receivers_of};
-ghost use Rattle.compose.specs.Receivers.{Rising, IsIn};
-ghost use Rattle.compose.specs.Ring.{ring_of_two};
-ghost use Rattle.compose.specs.RingRuns.{pass_to_0, pass_to_1};
-ghost use Rattle.compose.specs.Steps.{IsSchedule, Joint, applied};
-ghost use Rattle.compose.specs.Outcomes.{outcome_of};
-ghost use Rattle.compose.specs.WellFormed.{IsWellFormed};
-ghost use Rattle.terms.specs.Datum.{Datum};
-ghost use Rattle.std.specs.Prelude.{◌∷◌, []};
-ghost use Rattle.compose.specs.Plans.{action_texts, member_texts};
+//! What holds of compositions without faults.
+ghost use Rattle.std.specs.Prelude.{◌≡◌, ◌≤◌, ◌^◌, ℕ, List, length};
+ghost use Rattle.std.specs.List.{All};
+ghost use Rattle.ioa_trees.specs.Trees.{Bytes};
+ghost use Rattle.ioa_rules.specs.SourceRules.{MeantSource};
+ghost use Rattle.ioa_facts.specs.Sound.{IsSoundAutomaton};
+ghost use Rattle.plans.specs.WellFormed.{IsWellFormed};
+ghost use Rattle.compatibility.specs.Rules.{Breaks};
+ghost use Rattle.compatibility.specs.declared.rule.Rule.TheVariants as rule;
+ghost use Rattle.instances.specs.Instances.{instances};
+ghost use Rattle.instances.specs.Names.{AreNames};
 
-use crate::plan::Plan;
-
-/// The components of a plan are compatible, each action of a component has one entry, and the tasks of a component are a
-/// partition of what it controls.
-pub fn compatible(plan: &Plan)
-    ensures compatible { IsCompatible (composition plan.now) }
-    ensures formed { IsWellFormed (composition plan.now) }
-{}
-
-/// The action that a turn takes is a joint step of the composition, whatever states the others are in.
-pub fn turn_is_step(plan: &Plan)
-    ensures { (i task choice : ℕ) (state : ℕ → List Datum) (action : Named) → outcome_of (composition plan.now) i task choice (state i) ≡ Some action → Joint (composition plan.now) state action (λ j. applied (composition plan.now) j action (state j)) }
-{}
-
-/// Nobody receives its own action; each receiver is listed once and in order; the receivers are all other components that
-/// have the action as an input, and no others.
-pub fn receivers_law()
-    ensures own { (composition : List Instance) (action : Named) (sender : ℕ) → receives composition sender action sender ≡ false }
-    ensures once { (composition : List Instance) (action : Named) (sender : ℕ) → Rising 0 (receivers_of composition action sender) }
-    ensures all { (composition : List Instance) (action : Named) (sender j : ℕ) → IsIn j (receivers_of composition action sender) ≡ receives composition sender action j }
-    ensures input { (composition : List Instance) (action : Named) (sender j : ℕ) → IsIn j (receivers_of composition action sender) ≡ true → inputs composition j action ≡ true }
-{}
-
-/// The ring's token goes to and fro: what a schedule is, on the smallest composition.
-pub fn ring_schedules()
-    ensures to_and_fro { IsSchedule ring_of_two (pass_to_1 ∷ pass_to_0 ∷ pass_to_1 ∷ []) }
-    ensures not_twice { IsSchedule ring_of_two (pass_to_1 ∷ pass_to_1 ∷ []) → ⊥ }
-    ensures not_first { IsSchedule ring_of_two (pass_to_0 ∷ []) → ⊥ }
-{}
-
-/// Two plans are equal exactly where they are the same composition, with the same texts of actions and of members.
-pub fn equal_law(a: &Plan, b: &Plan)
-    ensures same { ⟦<Plan as PartialEq>⟧.eq a.now b.now ≡ true → (composition a.now ≡ composition b.now) × (action_texts a.now ≡ action_texts b.now) × (member_texts a.now ≡ member_texts b.now) }
-    ensures equal { (composition a.now ≡ composition b.now) × (action_texts a.now ≡ action_texts b.now) × (member_texts a.now ≡ member_texts b.now) → ⟦<Plan as PartialEq>⟧.eq a.now b.now ≡ true }
+/// A source whose automata are sound, and of which no component has an action in two of its own sets, means a well-formed composition.
+pub fn formed_law()
+    ensures { (m : MeantSource) (names : List Bytes) → AreNames names m
+        → All (IsSoundAutomaton (length m.members)) m.automata → length m.members ≤ 2 ^ 16
+        → ((j : ℕ) → Breaks rule.Own (instances names m) j → ⊥)
+        → IsWellFormed (instances names m) }
 {}

@@ -1,14 +1,10 @@
-//! Compositions of input/output automata: signatures, start states, joint steps and the outcomes of turns.
+//! Composition: a checked source becomes a plan, if its components are compatible.
 #![tactic(auto)]
 
-pub mod automaton;
+pub mod composing;
+pub mod fault;
 pub mod laws;
-pub mod plan;
 
-pub use automaton::{ActionName, Automaton, Component, Entry, Kind, Param};
-pub use plan::Plan;
-pub use plan::fan::fan;
-pub use plan::ring::{ring, ring_from};
-
-#[cfg(test)]
-mod tests;
+pub use composing::compose;
+pub use fault::ComposeError;
+pub use plans::Plan;

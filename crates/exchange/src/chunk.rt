@@ -3,7 +3,7 @@ ghost use Rattle.std.specs.Prelude.{◌≡◌, ◌<◌, ◌+◌, ◌++◌, ◌^�
 ghost use Rattle.event_keys.specs.Ranks.{rank_of_bound};
 ghost use Rattle.virtual_time.specs.Reference.{reference_below};
 ghost use Rattle.virtual_time.specs.Exchange.Meetings.{IsChunk};
-ghost use Rattle.compose.specs.Plans.{composition};
+ghost use Rattle.plans.specs.Plans.{composition};
 ghost use Rattle.task_seed.specs.Setups.{plan_of};
 ghost use Rattle.rollback.specs.Held.{machine_of};
 ghost use Rattle.rollback.specs.Kept.{onto};

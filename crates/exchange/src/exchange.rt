@@ -5,7 +5,7 @@ ghost use Rattle.event_keys.specs.declared.key.Bound.TheVariants.{At, End};
 ghost use Rattle.event_keys.specs.Ranks.{rank_of_bound};
 ghost use Rattle.virtual_time.specs.Reference.{reference_below, point, turns_of};
 ghost use Rattle.virtual_time.specs.Exchange.Meetings.{IsCommit};
-ghost use Rattle.compose.specs.Plans.{composition};
+ghost use Rattle.plans.specs.Plans.{composition};
 ghost use Rattle.task_seed.specs.Setups.{system, plan_of};
 ghost use Rattle.task_seed.specs.Machines.{end_rank};
 ghost use Rattle.rollback.specs.Held.{machine_of};

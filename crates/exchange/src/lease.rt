@@ -37,7 +37,7 @@ impl<T: Turns> Model for Lease<T> {
     ghost use Rattle.task_seed.specs.declared.setup.Setup.{Setup};
     ghost use Rattle.exchange.specs.Holding.{Holding, IsHolding};
     ghost use Rattle.rollback.specs.Held.{machine_of};
-    ghost use Rattle.compose.specs.Plans.{composition};
+    ghost use Rattle.plans.specs.Plans.{composition};
     ghost use Rattle.task_seed.specs.Setups.{plan_of};
     ghost use Rattle.std.specs.Prelude.{length};
     ghost use Rattle.std.specs.Coded.{codes};

@@ -5,7 +5,7 @@ ghost use Rattle.antimessage.specs.Bags.{insert_all};
 ghost use Rattle.antimessage.specs.Counts.{Each};
 ghost use Rattle.virtual_time.specs.Exchange.Leases.{IsFloor, Matches};
 ghost use Rattle.virtual_time.specs.Exchange.Meetings.{Met};
-ghost use Rattle.compose.specs.Plans.{composition};
+ghost use Rattle.plans.specs.Plans.{composition};
 ghost use Rattle.task_seed.specs.Setups.{plan_of, system};
 ghost use Rattle.rollback.specs.Held.{machine_of};
 ghost use Rattle.exchange.specs.declared.stub.Stub.{Stub as StubValue};

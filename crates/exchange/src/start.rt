@@ -2,7 +2,7 @@
 ghost use Rattle.std.specs.Prelude.{◌≡◌, ◌<◌, IfOk, length, map};
 ghost use Rattle.std.specs.List.{range_with_len};
 ghost use Rattle.std.specs.Arc.{arc_value};
-ghost use Rattle.compose.specs.Plans.{composition};
+ghost use Rattle.plans.specs.Plans.{composition};
 ghost use Rattle.task_seed.specs.Setups.{system, plan_of};
 ghost use Rattle.rollback.specs.Held.{machine_of};
 ghost use Rattle.exchange.specs.Start.{first_bound, start_stub, start_holding, start_shared};

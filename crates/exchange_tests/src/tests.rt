@@ -1,14 +1,14 @@
 //! The exchange of the ring of two, against values worked out by hand.
 ghost use Rattle.std.specs.Prelude.{◌≡◌, IfOk};
-ghost use Rattle.compose.specs.Plans.{composition};
-ghost use Rattle.compose.specs.Ring.{ring_of_two};
+ghost use Rattle.plans.specs.Plans.{composition};
+ghost use Rattle.ring_source.specs.Ring.{ring_of_two};
 ghost use Rattle.task_seed.specs.Setups.{plan_of};
 
 mod meeting;
 mod same;
 
-use compose::ring;
 use exchange::{Exchange, Lease, MeetRefused};
+use ring_source::ring;
 use std::alloc::{AllocGlobal, Global};
 use std::process::Abort;
 use std::sync::Arc;

@@ -17,6 +17,3 @@ pub use meant::MeantAutomaton;
 pub use tasks::{check_tasks, task_places};
 pub use used::Used;
 pub use variables::{Cell, check_variables, declare_variables};
-
-#[cfg(test)]
-mod tests;

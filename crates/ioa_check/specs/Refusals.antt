@@ -1,8 +1,9 @@
 -- Refused sources: the number of a refusal, and the token at which it stands.
-use Rattle.std.specs.Prelude.{◌≡◌, ℕ, Option, None, Some, []}
+use Rattle.std.specs.Prelude.{◌≡◌, ◌<◌, ◌≤◌, ℕ, Option, None, Some, [], length}
 use Rattle.ioa_rules.specs.Faults.{IsLeast}
 use Rattle.ioa_rules.specs.SourceRules.{MeantSource, source_faults, source_meaning}
-use Rattle.ioa_front.specs.Reading.{IsReadable}
+use Rattle.ioa_front.specs.Reading.{IsReadable, most_bytes}
+use Rattle.ioa_trees.specs.Spelling.{spell}
 use Rattle.ioa_trees.specs.Trees.{PlainSource}
 use Rattle.ioa_check.specs.declared.fault.CheckError.{CheckError}
 use Rattle.ioa_check.specs.declared.fault.CheckError.TheVariants as fault
@@ -37,9 +38,11 @@ Refuses x number (Some at) = IsLeast (record { place = at; number = number }) (s
 abbrev pub IsRefused : PlainSource → CheckError → Type 0
 IsRefused x e = Refuses x (check_number e) (check_place e)
 
--- It is the meaning of a source that is readable and has no fault.
+-- It is the meaning of a source that is readable, has few tokens and an automaton beside the composed one, and has no fault.
 pub record IsMeant (m : MeantSource) : Type 0 where
   pub source : PlainSource
   pub readable : IsReadable source
+  pub few : length (spell source) ≤ most_bytes
+  pub some : 0 < length source.automata
   pub faultless : source_faults source ≡ []
   pub same : m ≡ source_meaning source

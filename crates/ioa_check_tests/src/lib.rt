@@ -2,4 +2,6 @@
 #![tactic(auto)]
 
 #[cfg(test)]
+mod meanings;
+#[cfg(test)]
 mod tests;

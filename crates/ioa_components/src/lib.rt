@@ -9,6 +9,3 @@ pub mod composed;
 
 pub use component::MeantComponent;
 pub use composed::check_composed;
-
-#[cfg(test)]
-mod tests;

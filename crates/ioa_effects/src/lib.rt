@@ -8,6 +8,3 @@ pub mod values;
 
 pub use statements::check_statements;
 pub use values::{Put, check_init};
-
-#[cfg(test)]
-mod tests;

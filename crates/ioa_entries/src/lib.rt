@@ -10,6 +10,3 @@ pub mod transitions;
 pub use entries::check_entries;
 pub use slots::Slot;
 pub use transitions::{Meant, check_transitions};
-
-#[cfg(test)]
-mod tests;

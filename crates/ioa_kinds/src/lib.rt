@@ -6,6 +6,3 @@ pub mod shape;
 
 pub use kind::Kind;
 pub use shape::Shape;
-
-#[cfg(test)]
-mod tests;

@@ -6,6 +6,3 @@ pub mod names;
 
 pub use meaning::Meaning;
 pub use names::Names;
-
-#[cfg(test)]
-mod tests;

@@ -13,6 +13,3 @@ pub use term::check_term;
 pub use typed::Typed;
 pub use types::check_type;
 pub use walk::{Fault, Walk};
-
-#[cfg(test)]
-mod tests;

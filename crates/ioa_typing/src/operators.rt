@@ -1,5 +1,5 @@
 //! Names, and what operators make of terms.
-ghost use Rattle.std.specs.Prelude.{◌≡◌, not, OnOk, IfOk};
+ghost use Rattle.std.specs.Prelude.{◌≡◌, ◌+◌, ◌<◌, ◌^◌, not, OnOk, IfOk};
 ghost use Rattle.terms.specs.TermTree as core;
 ghost use Rattle.terms.specs.TermTree.{term_tree};
 ghost use Rattle.ioa_kinds.specs.Views.{option_tree, shape_tree};
@@ -79,10 +79,14 @@ pub(crate) fn check_name<'a>(
     value_named(names, name)
 }
 
-/// A literal.
-pub(crate) fn known<'a>(scalar: Scalar, shape: Shape<'a>) -> Option<Typed<'a>>
-    ensures { judged_tree result ≡ rule.judged (shape_tree shape.entry) (core.Known scalar) }
+/// A literal, which is one token.
+pub(crate) fn known<'a>(walk: &mut Walk, scalar: Scalar, shape: Shape<'a>) -> Option<Typed<'a>>
+    requires room { walk.old.at + 1 < 2 ^ 32 }
+    ensures at { walk.new.at ≡ walk.old.at + 1 }
+    ensures least { walk.new.least ≡ walk.old.least }
+    ensures meant { judged_tree result ≡ rule.judged (shape_tree shape.entry) (core.Known scalar) }
 {
+    walk.at += 1;
     Some(Typed {
         core: Term::Known(scalar),
         shape,

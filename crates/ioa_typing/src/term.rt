@@ -1,8 +1,10 @@
 //! The checks of terms.
-ghost use Rattle.std.specs.Prelude.{◌≡◌, ◌+◌, ◌<◌, ◌^◌, map, OnOk, IfOk};
+ghost use Rattle.std.specs.Prelude.{◌≡◌, ◌+◌, ◌<◌, ◌^◌, ◌++◌, map, OnOk, IfOk};
 ghost use Rattle.ioa_rules.specs.Faults.{keep};
 ghost use Rattle.ioa_rules.specs.Sizes.{size, indexes_size, joined_size, factor_size, factors_size, addends_size};
+ghost use Rattle.ioa_rules.specs.Kinds as kinds;
 ghost use Rattle.ioa_rules.specs.TermRules as rule;
+ghost use Rattle.ioa_trees.specs.Trees as plain;
 ghost use Rattle.ioa_trees.specs.Trees.{no_factor, more_factors, pack_terms, pack_factors, pack_addends};
 ghost use Rattle.ioa_trees.specs.Views.{view, view_factor, view_addend};
 ghost use Rattle.ioa_names.specs.Views.{names_tree};
@@ -17,7 +19,7 @@ use crate::typed::{Typed, note_unless_truth, note_unless_whole, truth_of, whole_
 use crate::walk::Walk;
 use ioa_kinds::Shape;
 use ioa_names::Names;
-use ioa_trees::tree::{Addend, Factor, Term};
+use ioa_trees::tree::{Addend, Call, Factor, Relation, Term};
 use std::alloc::{AllocError, Global};
 use terms::{Operator, Scalar};
 
@@ -36,43 +38,21 @@ pub fn check_term<'a>(
 {
     let at = walk.at;
     match term {
-        Term::Number(number) => {
-            walk.at += 1;
-            Ok(known(Scalar::Int(number.cast_signed()), Shape::Whole))
-        }
-        Term::True => {
-            walk.at += 1;
-            Ok(known(Scalar::Bool(true), Shape::Truth))
-        }
-        Term::False => {
-            walk.at += 1;
-            Ok(known(Scalar::Bool(false), Shape::Truth))
-        }
+        Term::Number(number) => Ok(known(walk, Scalar::Int(number.cast_signed()), Shape::Whole)),
+        Term::True => Ok(known(walk, Scalar::Bool(true), Shape::Truth)),
+        Term::False => Ok(known(walk, Scalar::Bool(false), Shape::Truth)),
         Term::Name(name) => {
             walk.at += 1;
             Ok(check_name(names, name.as_str(), at, walk))
         }
-        Term::Group(inner) => {
-            walk.at += 1;
-            let found = check_term(alloc, names, inner, walk)?;
-            walk.at += 1;
-            Ok(found)
-        }
-        Term::Call(call, of) => {
-            walk.at += 2;
-            let of = check_term(alloc, names, of, walk)?;
-            walk.at += 1;
-            let found = end_call(alloc, *call, of, at + 2, walk)?;
-            Ok(found)
-        }
+        Term::Group(inner) => check_group(alloc, names, inner, walk),
+        Term::Call(call, of) => check_call(alloc, names, *call, of, walk),
+        Term::Minus(of) => check_minus(alloc, names, of, walk),
+        Term::Not(of) => check_not(alloc, names, of, walk),
         Term::Append(list, item) => {
             walk.at += 2;
             let list = check_term(alloc, names, list, walk)?;
-            walk.at += 1;
-            let place = walk.at;
-            let item = check_term(alloc, names, item, walk)?;
-            walk.at += 1;
-            let found = end_append(alloc, list, item, at + 2, place, walk)?;
+            let found = check_item(alloc, names, list, at + 2, item, walk)?;
             Ok(found)
         }
         Term::Index(of, indexes) => {
@@ -80,60 +60,235 @@ pub fn check_term<'a>(
             let found = check_indexes(alloc, names, of, at, indexes.as_slice(), walk)?;
             Ok(found)
         }
-        Term::Minus(of) => {
-            walk.at += 1;
-            let of = check_term(alloc, names, of, walk)?;
-            let found = end_minus(alloc, of, at + 1, walk)?;
+        Term::Product(of, factors) => {
+            let first = check_term(alloc, names, of, walk)?;
+            let found = check_product(alloc, names, first, at, factors.as_slice(), walk)?;
             Ok(found)
         }
-        Term::Product(first, factors) => {
-            let first = check_term(alloc, names, first, walk)?;
-            note_unless_whole(walk, at, &first);
-            let core = check_factors(alloc, names, whole_of(first), factors.as_slice(), walk)?;
-            Ok(of_core(Shape::Whole, core))
-        }
-        Term::Sum(first, addends) => {
-            let first = check_term(alloc, names, first, walk)?;
-            note_unless_whole(walk, at, &first);
-            let core = check_addends(alloc, names, whole_of(first), addends.as_slice(), walk)?;
-            Ok(of_core(Shape::Whole, core))
+        Term::Sum(of, addends) => {
+            let first = check_term(alloc, names, of, walk)?;
+            let found = check_sum(alloc, names, first, at, addends.as_slice(), walk)?;
+            Ok(found)
         }
         Term::Compare(left, relation, right) => {
             let left = check_term(alloc, names, left, walk)?;
-            walk.at += 1;
-            let place = walk.at;
-            let right = check_term(alloc, names, right, walk)?;
-            let found = end_compare(alloc, *relation, left, right, place, walk)?;
+            let found = check_right(alloc, names, left, *relation, right, walk)?;
             Ok(found)
         }
-        Term::Not(of) => {
-            walk.at += 1;
-            let of = check_term(alloc, names, of, walk)?;
-            let found = end_not(alloc, of, at + 1, walk)?;
-            Ok(found)
-        }
-        Term::And(first, others) => {
-            let first = check_term(alloc, names, first, walk)?;
-            note_unless_truth(walk, at, &first);
-            let core = truth_of(first);
-            let core = check_truths(alloc, names, Operator::Both, core, others.as_slice(), walk)?;
-            Ok(of_core(Shape::Truth, core))
-        }
-        Term::Or(first, others) => {
-            let first = check_term(alloc, names, first, walk)?;
-            note_unless_truth(walk, at, &first);
-            let core = truth_of(first);
-            let core = check_truths(
+        Term::And(of, others) => {
+            let first = check_term(alloc, names, of, walk)?;
+            let found = check_joined(
                 alloc,
                 names,
-                Operator::Either,
-                core,
+                Operator::Both,
+                first,
+                at,
                 others.as_slice(),
                 walk,
             )?;
-            Ok(of_core(Shape::Truth, core))
+            Ok(found)
+        }
+        Term::Or(of, others) => {
+            let first = check_term(alloc, names, of, walk)?;
+            let found = check_joined(
+                alloc,
+                names,
+                Operator::Either,
+                first,
+                at,
+                others.as_slice(),
+                walk,
+            )?;
+            Ok(found)
         }
     }
+}
+
+// A term in parentheses.
+#[cycle(checking_terms)]
+fn check_group<'a>(
+    alloc: Global,
+    names: &'a Names,
+    inner: &Term,
+    walk: &mut Walk,
+) -> Result<Option<Typed<'a>>, AllocError>
+    requires room { walk.old.at + size (plain.Group (view inner.now)) < 2 ^ 32 }
+    ensures at { OnOk result (walk.new.at ≡ walk.old.at + size (plain.Group (view inner.now))) }
+    ensures faults { OnOk result (least_tree walk.new.least ≡ keep (least_tree walk.old.least) (rule.faults (names_tree names.now) walk.old.at (plain.Group (view inner.now)))) }
+    ensures meant { IfOk result (λ j. judged_tree j ≡ rule.judge (names_tree names.now) (plain.Group (view inner.now))) }
+{
+    walk.at += 1;
+    let found = check_term(alloc, names, inner, walk)?;
+    walk.at += 1;
+    Ok(found)
+}
+
+// `head`, `tail` or `len`.
+#[cycle(checking_terms)]
+fn check_call<'a>(
+    alloc: Global,
+    names: &'a Names,
+    call: Call,
+    of: &Term,
+    walk: &mut Walk,
+) -> Result<Option<Typed<'a>>, AllocError>
+    requires room { walk.old.at + size (plain.Called call (view of.now)) < 2 ^ 32 }
+    ensures at { OnOk result (walk.new.at ≡ walk.old.at + size (plain.Called call (view of.now))) }
+    ensures faults { OnOk result (least_tree walk.new.least ≡ keep (least_tree walk.old.least) (rule.faults (names_tree names.now) walk.old.at (plain.Called call (view of.now)))) }
+    ensures meant { IfOk result (λ j. judged_tree j ≡ rule.judge (names_tree names.now) (plain.Called call (view of.now))) }
+{
+    walk.at += 2;
+    let place = walk.at;
+    let of = check_term(alloc, names, of, walk)?;
+    walk.at += 1;
+    let found = end_call(alloc, call, of, place, walk)?;
+    Ok(found)
+}
+
+// `-` before a term.
+#[cycle(checking_terms)]
+fn check_minus<'a>(
+    alloc: Global,
+    names: &'a Names,
+    of: &Term,
+    walk: &mut Walk,
+) -> Result<Option<Typed<'a>>, AllocError>
+    requires room { walk.old.at + size (plain.Minus (view of.now)) < 2 ^ 32 }
+    ensures at { OnOk result (walk.new.at ≡ walk.old.at + size (plain.Minus (view of.now))) }
+    ensures faults { OnOk result (least_tree walk.new.least ≡ keep (least_tree walk.old.least) (rule.faults (names_tree names.now) walk.old.at (plain.Minus (view of.now)))) }
+    ensures meant { IfOk result (λ j. judged_tree j ≡ rule.judge (names_tree names.now) (plain.Minus (view of.now))) }
+{
+    walk.at += 1;
+    let place = walk.at;
+    let of = check_term(alloc, names, of, walk)?;
+    let found = end_minus(alloc, of, place, walk)?;
+    Ok(found)
+}
+
+// `not` before a term.
+#[cycle(checking_terms)]
+fn check_not<'a>(
+    alloc: Global,
+    names: &'a Names,
+    of: &Term,
+    walk: &mut Walk,
+) -> Result<Option<Typed<'a>>, AllocError>
+    requires room { walk.old.at + size (plain.Not (view of.now)) < 2 ^ 32 }
+    ensures at { OnOk result (walk.new.at ≡ walk.old.at + size (plain.Not (view of.now))) }
+    ensures faults { OnOk result (least_tree walk.new.least ≡ keep (least_tree walk.old.least) (rule.faults (names_tree names.now) walk.old.at (plain.Not (view of.now)))) }
+    ensures meant { IfOk result (λ j. judged_tree j ≡ rule.judge (names_tree names.now) (plain.Not (view of.now))) }
+{
+    walk.at += 1;
+    let place = walk.at;
+    let of = check_term(alloc, names, of, walk)?;
+    let found = end_not(alloc, of, place, walk)?;
+    Ok(found)
+}
+
+// The item of an `append`, behind the sequence at this place.
+#[cycle(checking_terms)]
+fn check_item<'a>(
+    alloc: Global,
+    names: &'a Names,
+    list: Option<Typed<'a>>,
+    place: u32,
+    item: &Term,
+    walk: &mut Walk,
+) -> Result<Option<Typed<'a>>, AllocError>
+    requires room { walk.old.at + (size (view item.now) + 2) < 2 ^ 32 }
+    ensures at { OnOk result (walk.new.at ≡ walk.old.at + (size (view item.now) + 2)) }
+    ensures faults { OnOk result (least_tree walk.new.least ≡ keep (least_tree walk.old.least) (rule.faults (names_tree names.now) (walk.old.at + 1) (view item.now) ++ (rule.wants kinds.is_seq place (judged_tree list.entry) ++ rule.append_faults (walk.old.at + 1) (judged_tree list.entry) (rule.judge (names_tree names.now) (view item.now))))) }
+    ensures meant { IfOk result (λ j. judged_tree j ≡ rule.append_of (judged_tree list.entry) (rule.judge (names_tree names.now) (view item.now))) }
+{
+    walk.at += 1;
+    let behind = walk.at;
+    let item = check_term(alloc, names, item, walk)?;
+    walk.at += 1;
+    let found = end_append(alloc, list, item, place, behind, walk)?;
+    Ok(found)
+}
+
+// The sign of a comparison and what stands behind it.
+#[cycle(checking_terms)]
+fn check_right<'a>(
+    alloc: Global,
+    names: &'a Names,
+    left: Option<Typed<'a>>,
+    relation: Relation,
+    right: &Term,
+    walk: &mut Walk,
+) -> Result<Option<Typed<'a>>, AllocError>
+    requires room { walk.old.at + (size (view right.now) + 1) < 2 ^ 32 }
+    ensures at { OnOk result (walk.new.at ≡ walk.old.at + (size (view right.now) + 1)) }
+    ensures faults { OnOk result (least_tree walk.new.least ≡ keep (least_tree walk.old.least) (rule.faults (names_tree names.now) (walk.old.at + 1) (view right.now) ++ rule.compare_faults relation (walk.old.at + 1) (judged_tree left.entry) (rule.judge (names_tree names.now) (view right.now)))) }
+    ensures meant { IfOk result (λ j. judged_tree j ≡ rule.compare_of relation (judged_tree left.entry) (rule.judge (names_tree names.now) (view right.now))) }
+{
+    walk.at += 1;
+    let place = walk.at;
+    let right = check_term(alloc, names, right, walk)?;
+    let found = end_compare(alloc, relation, left, right, place, walk)?;
+    Ok(found)
+}
+
+// What follows in a product whose first factor stands at this place.
+#[cycle(checking_terms)]
+fn check_product<'a>(
+    alloc: Global,
+    names: &'a Names,
+    first: Option<Typed<'a>>,
+    place: u32,
+    factors: &[Factor],
+    walk: &mut Walk,
+) -> Result<Option<Typed<'a>>, AllocError>
+    requires room { walk.old.at + factors_size (pack_factors (map view_factor factors.now)) < 2 ^ 32 }
+    ensures at { OnOk result (walk.new.at ≡ walk.old.at + factors_size (pack_factors (map view_factor factors.now))) }
+    ensures faults { OnOk result (least_tree walk.new.least ≡ keep (least_tree walk.old.least) (rule.wants kinds.is_whole place (judged_tree first.entry) ++ rule.factors_faults (names_tree names.now) walk.old.at (pack_factors (map view_factor factors.now)))) }
+    ensures meant { IfOk result (λ j. judged_tree j ≡ rule.of_core kinds.Whole (rule.multiplied (names_tree names.now) (rule.whole_of (judged_tree first.entry)) (pack_factors (map view_factor factors.now)))) }
+{
+    note_unless_whole(walk, place, &first);
+    let core = check_factors(alloc, names, whole_of(first), factors, walk)?;
+    Ok(of_core(Shape::Whole, core))
+}
+
+// What follows in a sum whose first addend stands at this place.
+#[cycle(checking_terms)]
+fn check_sum<'a>(
+    alloc: Global,
+    names: &'a Names,
+    first: Option<Typed<'a>>,
+    place: u32,
+    addends: &[Addend],
+    walk: &mut Walk,
+) -> Result<Option<Typed<'a>>, AllocError>
+    requires room { walk.old.at + addends_size (pack_addends (map view_addend addends.now)) < 2 ^ 32 }
+    ensures at { OnOk result (walk.new.at ≡ walk.old.at + addends_size (pack_addends (map view_addend addends.now))) }
+    ensures faults { OnOk result (least_tree walk.new.least ≡ keep (least_tree walk.old.least) (rule.wants kinds.is_whole place (judged_tree first.entry) ++ rule.addends_faults (names_tree names.now) walk.old.at (pack_addends (map view_addend addends.now)))) }
+    ensures meant { IfOk result (λ j. judged_tree j ≡ rule.of_core kinds.Whole (rule.added (names_tree names.now) (rule.whole_of (judged_tree first.entry)) (pack_addends (map view_addend addends.now)))) }
+{
+    note_unless_whole(walk, place, &first);
+    let core = check_addends(alloc, names, whole_of(first), addends, walk)?;
+    Ok(of_core(Shape::Whole, core))
+}
+
+// What follows behind the first of some terms with `and` between them, or with `or`.
+#[cycle(checking_terms)]
+fn check_joined<'a>(
+    alloc: Global,
+    names: &'a Names,
+    operator: Operator,
+    first: Option<Typed<'a>>,
+    place: u32,
+    others: &[Term],
+    walk: &mut Walk,
+) -> Result<Option<Typed<'a>>, AllocError>
+    requires room { walk.old.at + joined_size (pack_terms (map view others.now)) < 2 ^ 32 }
+    ensures at { OnOk result (walk.new.at ≡ walk.old.at + joined_size (pack_terms (map view others.now))) }
+    ensures faults { OnOk result (least_tree walk.new.least ≡ keep (least_tree walk.old.least) (rule.wants kinds.is_truth place (judged_tree first.entry) ++ rule.truths_faults (names_tree names.now) walk.old.at (pack_terms (map view others.now)))) }
+    ensures meant { IfOk result (λ j. judged_tree j ≡ rule.of_core kinds.Truth (rule.combined (names_tree names.now) operator (rule.truth_of (judged_tree first.entry)) (pack_terms (map view others.now)))) }
+{
+    note_unless_truth(walk, place, &first);
+    let core = check_truths(alloc, names, operator, truth_of(first), others, walk)?;
+    Ok(of_core(Shape::Truth, core))
 }
 
 // The indexes of what begins at the first token.

@@ -19,8 +19,8 @@ use Rattle.event_keys.specs.contracts.message.SignedPartialEq.TheImpl.Laws.{laws
 use Rattle.event_keys.specs.contracts.outcome.TurnedPartialEq.TheImpl.Laws.{laws-law as turned_laws}
 use Rattle.event_keys.specs.Apart.{action_apart, bound_apart}
 use Rattle.event_keys.specs.Orders.{action_order, bound_order}
-use Rattle.compose.specs.SameCompositions.{same_plan}
-use Rattle.compose.specs.SameLaws.{same_plan_laws}
+use Rattle.plans.specs.SameCompositions.{same_plan}
+use Rattle.plans.specs.SameLaws.{same_plan_laws}
 use Rattle.undo_records.specs.First.{same_state}
 use Rattle.virtual_time.specs.Entries.{Entry, Own, Input as Received, Item}
 use Rattle.virtual_time.specs.Records.{Record}

@@ -11,8 +11,8 @@ use crate::component::Component;
 use crate::done::Done;
 use antimessage::Bag;
 use antimessage::laws::order_law;
-use compose::laws::receivers_law;
 use event_keys::{Message, Sign, Signed};
+use plans::laws::receivers_law;
 use raw_events::{EventList, Iter};
 use task_seed::Turns;
 

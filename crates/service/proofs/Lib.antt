@@ -6,5 +6,6 @@ pub mod Pieces
 pub mod Printings
 pub mod Ringed
 pub mod Seen
+pub mod Served
 pub mod Texts
 pub mod Told

@@ -3,9 +3,9 @@ use Rattle.std.proofs.Common.{◌≡◌, ℕ, zero, suc, ◌^◌, Bool, true, fa
 use Rattle.std.specs.Prelude.{nat_lt, ◌&&◌, if◌then◌else◌}
 use Rattle.event_keys.specs.declared.key.Key.{Key}
 use Rattle.event_keys.specs.Ranks.{rank, rank_of_bound}
-use Rattle.compose.specs.Outcomes.{outcome_of}
-use Rattle.compose.specs.Ring.{ring_of_two}
-use Rattle.compose.specs.Steps.{start_of}
+use Rattle.plans.specs.Outcomes.{outcome_of}
+use Rattle.ring_source.specs.Ring.{ring_of_two}
+use Rattle.plans.specs.Steps.{start_of}
 use Rattle.task_seed.specs.declared.turns.Turn.{Turn}
 use Rattle.task_seed.specs.Machines.{machine, turn_rank, end_rank, outcome_by}
 use Rattle.task_seed.specs.Turning.{System, has_turns, key_at, ticks, turn_in}

@@ -4,8 +4,8 @@ use Rattle.std.specs.Prelude.{slice_get}
 use Rattle.std.specs.List.{range_with_len}
 use Rattle.terms.specs.Datum.{Datum}
 use Rattle.terms.specs.Named.{Named}
-use Rattle.compose.specs.Plans.{composition}
-use Rattle.compose.specs.Ring.{ring_of_two}
+use Rattle.plans.specs.Plans.{composition}
+use Rattle.ring_source.specs.Ring.{ring_of_two}
 use Rattle.virtual_time.specs.Machine.{Machine, Lawful, HasCount}
 use Rattle.virtual_time.specs.Records.{next_of}
 use Rattle.virtual_time.specs.Exchange.Meetings.{Met, IsChunk, IsCommit}

@@ -13,8 +13,8 @@ use Rattle.event_keys.specs.Ranks.{rank, rank_of_bound}
 use Rattle.antimessage.specs.Order.{KeyFits}
 use Rattle.virtual_time.specs.Machine.{Lawful}
 use Rattle.virtual_time.specs.Reference.{Turn}
-use Rattle.compose.specs.declared.plan.Plan.{Plan}
-use Rattle.compose.specs.Ring.{ring_of_two}
+use Rattle.plans.specs.declared.plan.Plan.{Plan}
+use Rattle.ring_source.specs.Ring.{ring_of_two}
 use Rattle.raw_events.specs.Around.{is_nonempty}
 use Rattle.task_seed.specs.Machines.{machine, turn_rank, end_rank}
 use Rattle.task_seed.specs.Turning.{System, has_turns, key_at, key_of, ticks}

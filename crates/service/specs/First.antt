@@ -2,7 +2,7 @@
 use Rattle.std.specs.Prelude.{◌≡◌, ℕ, ◌++◌, codes, nat_lt, if◌then◌else◌, Option, None, Some, List, [], map, slice_get}
 use Rattle.event_keys.specs.declared.key.Key.{Key}
 use Rattle.event_keys.specs.Ranks.{rank, rank_of_bound}
-use Rattle.compose.specs.Ring.{ring_of_two}
+use Rattle.ring_source.specs.Ring.{ring_of_two}
 use Rattle.task_seed.specs.declared.table.Row.{Row}
 use Rattle.task_seed.specs.Table.{lines_of, spelled}
 use Rattle.task_seed.specs.Rows.{turns_of}

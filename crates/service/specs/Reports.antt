@@ -5,7 +5,7 @@ use Rattle.command_line.specs.declared.Asked.{Asked}
 use Rattle.command_line.specs.declared.Asked.TheVariants as asked
 use Rattle.command_line.specs.Words.{AskNothing, HasFault, IsAsked, IsWrong}
 use Rattle.service.specs.declared.report.Report.{Report}
-use Rattle.service.specs.declared.report.Report.TheVariants.{Done, Refused, Fault, Misused}
+use Rattle.service.specs.declared.report.Report.TheVariants.{Done, No, Refused, Fault, Misused}
 use Rattle.service.specs.Printing.{IsPrinted, IsRefusedSource}
 use Rattle.service.specs.Tables.{IsAccepted, IsRefused}
 use Rattle.service.specs.First.{HasText}
@@ -13,6 +13,7 @@ use Rattle.service.specs.Written.{SomeText}
 
 abbrev pub status_of : Report → ℕ
 status_of Done = 0
+status_of No = 4
 status_of (Refused number place) = 1
 status_of (Fault number) = 3
 status_of Misused = 2
@@ -20,6 +21,7 @@ status_of Misused = 2
 -- the line on standard error, with its line feed; nothing where all is done, and nothing after what was said of wrong words
 abbrev pub line_of : Report → List ℕ
 line_of Done = []
+line_of No = []
 line_of (Refused number None) = codes "refused " ++ decimal number ++ codes "\n"
 line_of (Refused number (Some place)) = codes "refused " ++ decimal number ++ codes " at " ++ decimal place ++ codes "\n"
 line_of (Fault number) = codes "fault " ++ decimal number ++ codes "\n"
@@ -70,6 +72,7 @@ IsFault has lacks kept cut number = ((IsFileFault has lacks number ⊎ IsMeetFau
 -- after so many bytes of a text.
 abbrev pub IsFirstReport : (List ℕ → Type 0) → Type 0 → Type 0 → (List ℕ → Type 0) → (List ℕ → ℕ → Type 0) → Report → Type 0
 IsFirstReport has lacks kept wrote cut Done = IsTableWith has (λ table. IsAccepted table × HasText table wrote)
+IsFirstReport has lacks kept wrote cut No = ⊥
 IsFirstReport has lacks kept wrote cut (Refused number place) = IsTableWith has (λ table. IsRefused table number place) × kept
 IsFirstReport has lacks kept wrote cut (Fault number) = IsFault has lacks kept cut number
 IsFirstReport has lacks kept wrote cut Misused = ⊥
@@ -88,14 +91,25 @@ pub record IsPrintCut (has : List ℕ → Type 0) (cut : List ℕ → ℕ → Ty
 -- The report on a source file that has these bytes, or can't be read, where the same became of the output.
 abbrev pub IsPrintReport : (List ℕ → Type 0) → Type 0 → Type 0 → (List ℕ → Type 0) → (List ℕ → ℕ → Type 0) → Report → Type 0
 IsPrintReport has lacks kept wrote cut Done = IsSourceWith has (λ source. IsPrinted source wrote)
+IsPrintReport has lacks kept wrote cut No = ⊥
 IsPrintReport has lacks kept wrote cut (Refused number place) = IsSourceWith has (λ source. IsRefusedSource source number place) × kept
 IsPrintReport has lacks kept wrote cut (Fault number) = (IsUnread lacks number × kept) ⊎ IsPrintCut has cut number
 IsPrintReport has lacks kept wrote cut Misused = ⊥
+
+-- A report on what was simulated or judged. Which one is given when isn't said here.
+abbrev pub IsServed : Report → Type 0
+IsServed Done = Unit {0}
+IsServed No = Unit {0}
+IsServed (Refused number place) = Unit {0}
+IsServed (Fault number) = Unit {0}
+IsServed Misused = ⊥
 
 -- the report on what is asked for
 abbrev pub IsReportOn : Asked → (List ℕ → List ℕ → Type 0) → (List ℕ → Type 0) → Type 0 → (List ℕ → Type 0) → (List ℕ → ℕ → Type 0) → Report → Type 0
 IsReportOn (asked.Print source) has lacks = IsPrintReport (has source.now) (lacks source.now)
 IsReportOn (asked.First table) has lacks = IsFirstReport (has table.now) (lacks table.now)
+IsReportOn (asked.Reference source options) has lacks = λ kept wrote cut report. IsServed report
+IsReportOn (asked.Check source trace) has lacks = λ kept wrote cut report. IsServed report
 
 -- the words ask for something, and this is the report on it
 pub record IsReportOnAsked (words : List (List ℕ)) (has : List ℕ → List ℕ → Type 0) (lacks : List ℕ → Type 0) (kept : Type 0) (wrote : List ℕ → Type 0) (cut : List ℕ → ℕ → Type 0) (report : Report) : Type 0 where
@@ -117,6 +131,7 @@ pub record IsHelpCut (words : List (List ℕ)) (cut : List ℕ → ℕ → Type 
 -- The report on words that aren't served: help, want of memory (1), a failed write of help's text (60), or words of another program.
 abbrev pub IsUnserved : List (List ℕ) → Type 0 → (List ℕ → Type 0) → (List ℕ → ℕ → Type 0) → Report → Type 0
 IsUnserved words kept wrote cut Done = IsHelped words wrote
+IsUnserved words kept wrote cut No = ⊥
 IsUnserved words kept wrote cut (Refused number place) = ⊥
 IsUnserved words kept wrote cut (Fault number) = ((number ≡ 1) × kept) ⊎ IsHelpCut words cut number
 IsUnserved words kept wrote cut Misused = (IsWrong words ⊎ AskNothing words) × kept

@@ -1,6 +1,6 @@
 -- When a table of the ring is accepted, and when it is refused.
 use Rattle.std.specs.Prelude.{◌≡◌, ◌⊎◌, ℕ, Option, Some, List, map, All}
-use Rattle.compose.specs.Ring.{ring_of_two}
+use Rattle.ring_source.specs.Ring.{ring_of_two}
 use Rattle.task_seed.specs.declared.table.Row.{Row}
 use Rattle.task_seed.specs.Table.{lines_of, spelled, IsFirstBadLine}
 use Rattle.task_seed.specs.Faults.{HasFault, IsFirstFault}

@@ -1,8 +1,8 @@
 //! The first path: a table for the ring of two, run as far as one turn and the meetings after it lead.
 ghost use Rattle.std.specs.Prelude.{◌≡◌, ◌≢◌, ◌<◌, ◌≤◌, ℕ, All, [], length, slice_get, IfErr, IfOk, OnOk};
 ghost use Rattle.std.specs.Arc.{arc_value};
-ghost use Rattle.compose.specs.Plans.{composition};
-ghost use Rattle.compose.specs.Ring.{ring_of_two};
+ghost use Rattle.plans.specs.Plans.{composition};
+ghost use Rattle.ring_source.specs.Ring.{ring_of_two};
 ghost use Rattle.task_seed.specs.Faults.{HasFault, IsFirstFault};
 ghost use Rattle.task_seed.specs.Given.{table_turn};
 ghost use Rattle.task_seed.specs.Setups.{plan_of, system};
@@ -14,7 +14,7 @@ ghost use Rattle.service.specs.Written.{IsStopped, IsWritten};
 use crate::exchanged::{first_turns, write_first};
 use crate::fault::FirstFault;
 use antimessage::Bag;
-use compose::ring;
+use ring_source::ring;
 use rollback::{Component, ProcessRefused};
 use std::alloc::Global;
 use std::io::Write;

@@ -13,6 +13,8 @@ use trace::{Counted, WriteFault};
 pub enum Report {
     /// Done.
     Done,
+    /// `check` says no, which stands on standard output.
+    No,
     /// A file was refused, with the refusal's number and its place, where it has one.
     Refused(u8, Option<usize>),
     /// A run fault, or a file that couldn't be read: 1 for want of memory, 40 and 41 for a refused lease, 60 for a failed write, 63 and 64
@@ -23,7 +25,7 @@ pub enum Report {
 }
 
 impl Report {
-    /// The exit status: 0, 1 for what was refused, 2 for words, 3 for faults.
+    /// The exit status: 0, 1 for what was refused, 2 for words, 3 for faults, 4 where `check` says no.
     pub fn status(self) -> u8
         ensures { result ≡ status_of self }
     {
@@ -32,16 +34,17 @@ impl Report {
             Report::Refused(_, _) => 1,
             Report::Misused => 2,
             Report::Fault(_) => 3,
+            Report::No => 4,
         }
     }
 
     /// Writes the line of a report, if it has one, up to the first write that fails.
     pub fn tell<E: Write>(self, err: &mut Counted<E>)
         ensures said { IsSaid E.contents err.old err.new (line_of self) }
-        ensures quiet { (self ≡ Report.Done) ⊎ (self ≡ Report.Misused) → err.new ≡ err.old }
+        ensures quiet { (self ≡ Report.Done) ⊎ ((self ≡ Report.No) ⊎ (self ≡ Report.Misused)) → err.new ≡ err.old }
     {
         match self {
-            Report::Done | Report::Misused => {}
+            Report::Done | Report::No | Report::Misused => {}
             Report::Refused(number, Some(place)) => {
                 let _ = write_refused(u64::from(number), place as u64, err);
             }

@@ -12,6 +12,7 @@ use crate::files::{FileFault, Files};
 use crate::first::first_run;
 use crate::printing::print_source;
 use crate::report::{Report, report_of};
+use crate::simulation::{check_file, simulate_file};
 use crate::writing::{say, write_text};
 use clap::error::Error;
 use command_line::{Asked, Refused, read_words};
@@ -20,11 +21,11 @@ use std::io::Write;
 use terms::Refusal;
 use trace::Counted;
 
-/// The most bytes that a table may have.
+/// The most bytes that a table or a file of actions may have.
 pub const MOST_BYTES: u64 = 16_777_216;
 
 /// One byte more than a source may have: a longer file is refused for its size.
-const SOURCE_BYTES: u64 = ioa_front::MOST_BYTES as u64 + 1;
+pub(crate) const SOURCE_BYTES: u64 = ioa_front::MOST_BYTES as u64 + 1;
 
 /// Serves the words after the program's name: what is asked goes to `out`, as help does; faults and what is wrong with the words go to
 /// `err`, up to the first write that fails there, and the answer is the exit status.
@@ -70,6 +71,8 @@ fn do_asked<F: Files, W: Write>(
     match asked {
         Asked::Print { source } => print_file(alloc, source, files, out),
         Asked::First { table } => judge(alloc, table, files, out),
+        Asked::Reference { source, options } => simulate_file(alloc, source, options, files, out),
+        Asked::Check { source, trace } => check_file(alloc, source, trace, files, out),
     }
 }
 
@@ -154,7 +157,7 @@ fn print_file<F: Files, W: Write>(
 }
 
 // All of a table, or the number of the fault.
-fn read_whole<F: Files>(alloc: Global, name: &str, files: &F) -> Result<Vec<u8>, u8>
+pub(crate) fn read_whole<F: Files>(alloc: Global, name: &str, files: &F) -> Result<Vec<u8>, u8>
     ensures ok { IfOk result (λ bytes. F.has files.now name.now bytes.items × (length bytes.items ≤ most_bytes)) }
     ensures err { IfErr result (λ number. IsFileFault (F.has files.now name.now) (F.lacks files.now name.now) number) }
 {
@@ -166,7 +169,12 @@ fn read_whole<F: Files>(alloc: Global, name: &str, files: &F) -> Result<Vec<u8>,
 }
 
 // The first bytes of a file, or the number of the fault.
-fn read_front<F: Files>(alloc: Global, name: &str, most: u64, files: &F) -> Result<Vec<u8>, u8>
+pub(crate) fn read_front<F: Files>(
+    alloc: Global,
+    name: &str,
+    most: u64,
+    files: &F,
+) -> Result<Vec<u8>, u8>
     ensures ok { IfOk result (λ bytes. IsReadOf (F.has files.now name.now) most bytes.items) }
     ensures err { IfErr result (λ number. IsUnread (F.lacks files.now name.now) number) }
 {

@@ -1,3 +1,5 @@
+pub mod Drawing
 pub mod Judged
+pub mod KnownWords
 pub mod Lines
 pub mod Words

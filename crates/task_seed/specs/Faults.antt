@@ -1,7 +1,7 @@
 -- The faults of rows.
 use Rattle.std.specs.Prelude.{◌≡◌, ℕ, ◌+◌, ◌<◌, ◌≤◌, ◌⊎◌, max, Option, Some, List, ◌∷◌, ◌++◌, length, All}
-use Rattle.compose.specs.Automata.{Instance}
-use Rattle.compose.specs.Outcomes.{task_count}
+use Rattle.plans.specs.Automata.{Instance}
+use Rattle.plans.specs.Outcomes.{task_count}
 use Rattle.task_seed.specs.declared.table.Row.{Row}
 
 -- the gap isn't 1 to 65,535

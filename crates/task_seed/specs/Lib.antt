@@ -1,3 +1,5 @@
+pub mod Drawn
+pub mod DrawnLaws
 pub mod Faults
 pub mod Gaps
 pub mod Given

@@ -12,9 +12,9 @@ use Rattle.event_keys.specs.Apart.{action_apart}
 use Rattle.event_keys.specs.Orders.{action_order}
 use Rattle.event_keys.specs.Ranks.{rank, owner_of}
 use Rattle.virtual_time.specs.Machine.{Lawful, HasCount}
-use Rattle.compose.specs.Automata.{Instance, component_at, absent}
-use Rattle.compose.specs.Signatures.{receives}
-use Rattle.compose.specs.Receivers.{no_own}
+use Rattle.plans.specs.Automata.{Instance, component_at, absent}
+use Rattle.plans.specs.Signatures.{receives}
+use Rattle.plans.specs.Receivers.{no_own}
 use Rattle.task_seed.specs.declared.turns.Turn.{Turn}
 use Rattle.task_seed.specs.Turning.{System, ticks, has_turns, first_turns, key_at}
 use Rattle.task_seed.specs.Ticks.{none_stays, few, gap_of_next}

@@ -2,6 +2,8 @@
 use Rattle.std.specs.Prelude.{ℕ, Option, None, Some}
 use Rattle.task_seed.specs.declared.table.ReadTableError.{ReadTableError}
 use Rattle.task_seed.specs.declared.table.ReadTableError.TheVariants as read
+use Rattle.task_seed.specs.declared.seed_turns.SeedTurnsError.{SeedTurnsError}
+use Rattle.task_seed.specs.declared.seed_turns.SeedTurnsError.TheVariants as seeds
 use Rattle.task_seed.specs.declared.setup.SetupError.{SetupError}
 use Rattle.task_seed.specs.declared.setup.SetupError.TheVariants as setup
 use Rattle.task_seed.specs.declared.table_turns.TableTurnsError.{TableTurnsError}
@@ -35,3 +37,8 @@ table_turns_place (turns.NoSuchComponent line) = Some line
 abbrev pub setup_number : SetupError → ℕ
 setup_number setup.NoMemory = 1
 setup_number setup.HorizonTooLarge = 26
+
+-- the number of refused turns of a seed
+abbrev pub seed_turns_number : SeedTurnsError → ℕ
+seed_turns_number seeds.NoMemory = 1
+seed_turns_number seeds.GapOutOfRange = 27

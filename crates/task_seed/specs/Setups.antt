@@ -1,7 +1,7 @@
 -- What a setup holds.
 use Rattle.std.specs.Prelude.{ℕ, Option}
-use Rattle.compose.specs.declared.plan.Plan.{Plan}
-use Rattle.compose.specs.Plans.{composition}
+use Rattle.plans.specs.declared.plan.Plan.{Plan}
+use Rattle.plans.specs.Plans.{composition}
 use Rattle.task_seed.specs.declared.turns.Turn.{Turn}
 use Rattle.task_seed.specs.declared.setup.Setup.{Setup}
 use Rattle.task_seed.specs.Turning.{System}

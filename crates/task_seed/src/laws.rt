@@ -1,13 +1,13 @@
 //! The machine of a setup, on which the theory of virtual time stands.
 ghost use Rattle.std.specs.Prelude.{◌≡◌, ℕ, true, length};
 ghost use Rattle.virtual_time.specs.Machine.{Lawful, HasCount};
-ghost use Rattle.compose.specs.Plans.{composition};
+ghost use Rattle.plans.specs.Plans.{composition};
 ghost use Rattle.task_seed.specs.Machines.{machine};
 ghost use Rattle.task_seed.specs.Setups.{system, plan_of, source_of, horizon_of};
 
 use crate::setup::Setup;
 use crate::turns::Turns;
-use compose::Plan;
+use plans::Plan;
 
 /// A setup's machine meets the laws of a machine, with as many components as its composition has: keys rise up to the end
 /// and tell their component, nobody receives its own action, and actions have one total order.

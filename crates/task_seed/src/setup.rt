@@ -2,8 +2,8 @@
 ghost use Rattle.std.specs.Prelude.{◌≡◌, ℕ, ◌≤◌, ◌<◌, ◌+◌, ◌↔◌, Option, None, Some, IfSome, IfOk, IsErrOf, IsSome};
 
 use crate::turns::{Turn, Turns};
-use compose::Plan;
 use event_keys::Key;
+use plans::Plan;
 use terms::Refusal;
 use thiserror::Error;
 

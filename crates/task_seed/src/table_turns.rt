@@ -5,7 +5,7 @@ ghost use Rattle.task_seed.specs.declared.table_turns.TableTurnsError.TheVariant
 
 use crate::table::Row;
 use crate::turns::{Turn, Turns};
-use compose::Plan;
+use plans::Plan;
 use std::alloc::{AllocError, AllocFailed, Global};
 use std::marker::{Send, Sync};
 use terms::{NoMemory, Refusal};
@@ -88,7 +88,7 @@ pub struct TableTurns {
 ghost use Rattle.task_seed.specs.Faults.{HasFault, IsFirstFault};
 ghost use Rattle.task_seed.specs.Refusals.{table_turns_number, table_turns_place};
 ghost use Rattle.task_seed.specs.Rows.{turns_of, turns_at};
-ghost use Rattle.compose.specs.Plans.{composition};
+ghost use Rattle.plans.specs.Plans.{composition};
 
 // The first fault of a row on a line, in the order of their numbers.
 fn check_row(plan: &Plan, row: &Row, line: usize) -> Result<(), TableTurnsError>
@@ -152,7 +152,7 @@ fn add_turn(lists: &mut Vec<Vec<Turn>>, row: &Row) -> Result<(), AllocError>
 impl TableTurns {
     ghost use Rattle.std.specs.Prelude.{◌≡◌, ◌≢◌, ℕ, ◌<◌, length, All, IfOk, IfErr, OnOk, slice_get};
     ghost use Rattle.task_seed.specs.declared.table_turns.TableTurnsError.TheVariants.{NoMemory as OutOfMemory};
-    ghost use Rattle.compose.specs.Plans.{composition};
+    ghost use Rattle.plans.specs.Plans.{composition};
     ghost use Rattle.task_seed.specs.Faults.{HasFault, IsFirstFault};
     ghost use Rattle.task_seed.specs.Refusals.{table_turns_number, table_turns_place};
     ghost use Rattle.task_seed.specs.Rows.{turns_of};

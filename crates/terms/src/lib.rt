@@ -30,6 +30,3 @@ pub use scalar::{Listed, Scalar, Shape};
 pub use state::State;
 pub use term::{Operator, Term};
 pub use value::Value;
-
-#[cfg(test)]
-mod tests;

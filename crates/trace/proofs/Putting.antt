@@ -8,7 +8,7 @@ use Rattle.std.proofs.lemmas.Grind.{flat_map-append}
 use Rattle.std.proofs.lemmas.List.{flat_map_more, take_more, take-append-drop, map-append}
 use Rattle.std.specs.Borrow.{Bor}
 use Rattle.event_keys.specs.declared.outcome.Turned.{Turned}
-use Rattle.compose.specs.declared.plan.Plan.{Plan}
+use Rattle.plans.specs.declared.plan.Plan.{Plan}
 use Rattle.trace.specs.declared.lines.Lines.{Lines}
 use Rattle.trace.specs.Lines.{text_of, shown_text, turns_at}
 use lib.Seq.{take-append-add}

@@ -9,9 +9,9 @@ use Rattle.event_keys.specs.declared.key.Key.{Key}
 use Rattle.event_keys.specs.declared.outcome.Outcome.{Outcome}
 use Rattle.event_keys.specs.declared.outcome.Outcome.TheVariants.{Idle, Did}
 use Rattle.event_keys.specs.declared.outcome.Turned.{Turned}
-use Rattle.compose.specs.declared.plan.Plan.{Plan}
-use Rattle.compose.specs.Plans.{composition, action_texts, member_texts}
-use Rattle.compose.specs.Signatures.{is_external}
+use Rattle.plans.specs.declared.plan.Plan.{Plan}
+use Rattle.plans.specs.Plans.{composition, action_texts, member_texts}
+use Rattle.plans.specs.Signatures.{is_external}
 use Rattle.trace.specs.declared.lines.Lines.{Lines}
 use Rattle.trace.specs.declared.lines.Lines.TheVariants.{All, Trace}
 

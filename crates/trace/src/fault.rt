@@ -1,6 +1,8 @@
-//! Why not all was written.
+//! Why not all was written, and why a trace isn't read.
 ghost use Rattle.std.specs.Prelude.{◌≡◌};
+ghost use Rattle.trace.specs.declared.fault.TraceError.TheVariants.{NoMemory as OutOfMemory};
 
+use std::alloc::{AllocError, AllocFailed};
 use terms::Refusal;
 use thiserror::Error;
 
@@ -27,5 +29,57 @@ impl Refusal for WriteFault {
 
     fn place(&self) -> Option<usize> {
         None
+    }
+}
+
+/// Why a trace file isn't read. Lines are counted from 1.
+#[derive(Clone, Copy, Debug, PartialEq, Eq, Error)]
+pub enum TraceError {
+    #[error("out of memory")]
+    NoMemory,
+    /// The first line at fault has another form than the lines of a trace.
+    #[error("line {0} is no line of a trace")]
+    BadLine(usize),
+    /// The first line at fault has the form of a trace's lines, but the composition has no such action.
+    #[error("line {0} has an action that the composition doesn't have")]
+    UnknownAction(usize),
+}
+
+impl Refusal for TraceError {
+    ghost use Rattle.trace.specs.Refusals.{trace_number, trace_place};
+
+    ghost number_of = { trace_number };
+
+    ghost place_of = { trace_place };
+
+    fn number(&self) -> u8 {
+        match self {
+            TraceError::NoMemory => 1,
+            TraceError::BadLine(_) => 50,
+            TraceError::UnknownAction(_) => 51,
+        }
+    }
+
+    fn place(&self) -> Option<usize> {
+        match self {
+            TraceError::NoMemory => None,
+            TraceError::BadLine(line) | TraceError::UnknownAction(line) => Some(*line),
+        }
+    }
+}
+
+impl From<AllocError> for TraceError {
+    ghost from_gives = { λ _ e. e ≡ OutOfMemory };
+
+    fn from(_refused: AllocError) -> TraceError {
+        TraceError::NoMemory
+    }
+}
+
+impl<T: Drop> From<AllocFailed<T>> for TraceError {
+    ghost from_gives = { λ _ e. e ≡ OutOfMemory };
+
+    fn from(_refused: AllocFailed<T>) -> TraceError {
+        TraceError::NoMemory
     }
 }

@@ -1,14 +1,17 @@
-//! Text of turns on its way out.
+//! Text of turns on its way out, and traces on their way in.
 #![tactic(auto)]
 
 pub mod counted;
 pub mod fault;
+mod known;
+pub mod laws;
+mod line_fault;
 pub mod lines;
+pub mod reading;
 mod words;
+mod written;
 
 pub use counted::Counted;
-pub use fault::WriteFault;
+pub use fault::{TraceError, WriteFault};
 pub use lines::{Lines, write_turns};
-
-#[cfg(test)]
-mod tests;
+pub use reading::read_trace;

@@ -11,8 +11,8 @@ ghost use Rattle.trace.specs.Puts.{Puts, Stops};
 use crate::counted::Counted;
 use crate::fault::WriteFault;
 use crate::words::{put, put_number, put_outcome};
-use compose::Plan;
 use event_keys::{Key, Outcome, Turned};
+use plans::Plan;
 use std::io::Write;
 
 /// Which turns are written.

@@ -4,13 +4,13 @@ ghost use Rattle.std.specs.Prelude.{◌≡◌, ◌+◌, ◌<◌, ◌++◌, IfOk,
 ghost use Rattle.trace.specs.Counts.{failures_of};
 ghost use Rattle.trace.specs.Puts.{Puts, Stops};
 ghost use Rattle.trace.specs.Lines.{name_at, argument_text, other_text, others_text, bracketed_text, arguments_text, action_text, outcome_text, number_text};
-ghost use Rattle.compose.specs.Plans.{action_texts, member_texts};
+ghost use Rattle.plans.specs.Plans.{action_texts, member_texts};
 
 use crate::counted::Counted;
 use crate::fault::WriteFault;
-use compose::Plan;
 use event_keys::Outcome;
 use itoa::Buffer;
+use plans::Plan;
 use std::io::Write;
 use terms::{Action, Scalar};
 

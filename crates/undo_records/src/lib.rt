@@ -7,6 +7,3 @@ pub mod laws;
 mod store;
 
 pub use store::Store;
-
-#[cfg(test)]
-mod tests;

@@ -1,5 +1,6 @@
 //! One case.
 
+use compose::compose;
 use ioa_check::check;
 use ioa_front::read;
 use serde_json::{Error, Value};
@@ -56,8 +57,11 @@ impl Case {
 
     /// Whether it comes out as it should.
     pub fn comes_out(&self, alloc: Global) -> Result<bool, AllocError> {
-        match self.value.get("source").and_then(Value::as_str) {
-            Some(source) => self.is_checked(alloc, source),
+        if let Some(source) = self.value.get("source").and_then(Value::as_str) {
+            return self.is_checked(alloc, source);
+        }
+        match self.value.get("composed").and_then(Value::as_str) {
+            Some(source) => self.is_composed(alloc, source),
             None => self.is_served(alloc),
         }
     }
@@ -65,18 +69,38 @@ impl Case {
     // Whether the check accepts the source, or refuses it with the wanted number at the wanted token.
     fn is_checked(&self, alloc: Global, source: &str) -> Result<bool, AllocError> {
         let bytes = bytes_of(alloc, source)?;
-        let number = self.value.get("number").and_then(Value::as_u64);
-        let place = self.value.get("place").and_then(Value::as_u64);
         let Ok(source) = read(alloc, bytes.as_slice()) else {
             return Ok(false);
         };
         match check(alloc, source) {
-            Ok(_) => Ok(number.is_none()),
-            Err(fault) => {
-                let found = fault.place().map(|place| place as u64);
-                Ok(number == Some(u64::from(fault.number())) && place == found)
-            }
+            Ok(_) => Ok(self.is_accepted()),
+            Err(fault) => Ok(self.has_refusal(fault.number(), fault.place())),
         }
+    }
+
+    // Whether the source is composed, or refused with the wanted number at the wanted component.
+    fn is_composed(&self, alloc: Global, source: &str) -> Result<bool, AllocError> {
+        let bytes = bytes_of(alloc, source)?;
+        let Ok(source) = read(alloc, bytes.as_slice()) else {
+            return Ok(false);
+        };
+        let Ok(checked) = check(alloc, source) else {
+            return Ok(false);
+        };
+        match compose(alloc, checked) {
+            Ok(_) => Ok(self.is_accepted()),
+            Err(fault) => Ok(self.has_refusal(fault.number(), fault.place())),
+        }
+    }
+
+    fn is_accepted(&self) -> bool {
+        self.value.get("number").and_then(Value::as_u64).is_none()
+    }
+
+    fn has_refusal(&self, number: u8, place: Option<usize>) -> bool {
+        let wanted = self.value.get("number").and_then(Value::as_u64);
+        let wanted_place = self.value.get("place").and_then(Value::as_u64);
+        wanted == Some(u64::from(number)) && wanted_place == place.map(|place| place as u64)
     }
 
     // Whether the service answers with the wanted status and texts.

@@ -1,66 +1,65 @@
 //! Messages that differ in the key or in the action alone, and what an antimessage does to them.
-ghost use Rattle.std.specs.Prelude.{◌≡◌, ◌<◌};
 
-use super::given::{
-    Node, assert_comes, assert_empty, assert_next, assert_processes, assert_same, come, first_pass,
-    key, minus, node, pass, plus,
-};
-use antimessage::Bag;
-use event_keys::{Bound, Key, Message};
-use std::alloc::AllocGlobal;
-use std::process::Abort;
+use super::given::{AT_1, AT_2, AT_3, Pass, key, minus, plus};
+use super::steps::Step::{Come, Next, Process};
+use super::steps::{EMPTY, assert_runs, assert_same};
+use event_keys::{Bound, Sign};
+use std::test::Fail;
 
 // Each differs from the first pass, which has the tick 2, the number 0 and the argument 1, in one of these.
-fn others() -> [(Key, i64); 3] {
-    [(key(2, 0, 1), 1), (key(3, 0, 0), 1), (key(2, 0, 0), 7)]
-}
-
-fn other(rt: &(impl Abort + AllocGlobal), key: Key, argument: i64) -> Message {
-    pass(rt.alloc(), key, argument, 1).expect(rt, "memory for a message")
-}
-
-// Component 1 before its first turn, with a message pending.
-fn waiting(rt: &(impl Abort + AllocGlobal), message: Message) -> Node {
-    let mut second = node(rt, 1);
-    let mut out = Bag::new();
-    assert_comes(rt, &mut second, plus(message), &mut out, 0);
-    assert_empty(rt, &out);
-    second
+fn others() -> [Pass; 3] {
+    [
+        plus(key(2, 0, 1)),
+        plus(key(3, 0, 0)),
+        Pass {
+            sign: Sign::Plus,
+            key: AT_2,
+            argument: 7,
+        },
+    ]
 }
 
 #[test]
-fn an_antimessage_takes_its_own_message_alone(rt: HostRuntime) {
-    let mut out = Bag::new();
-    for (key, argument) in others() {
-        let mut second = waiting(&rt, first_pass(&rt));
-        come(&rt, &mut second, plus(other(&rt, key, argument)), &mut out);
-        assert_comes(&rt, &mut second, minus(first_pass(&rt)), &mut out, 0);
-        assert_same(&rt, second, waiting(&rt, other(&rt, key, argument)));
+fn an_antimessage_takes_its_own_message_alone(rt: HostRuntime) -> Result<(), Fail> {
+    for other in others() {
+        let steps = [
+            Come(plus(AT_2), 0),
+            Come(other, 0),
+            Come(minus(AT_2), 0),
+            EMPTY,
+        ];
+        assert_same(&rt, 1, &steps, &[Come(other, 0), EMPTY])?;
     }
-    assert_empty(&rt, &out);
+    Ok(())
 }
 
 #[test]
-fn another_antimessage_leaves_a_message(rt: HostRuntime) {
-    let mut out = Bag::new();
-    for (key, argument) in others() {
-        let mut second = waiting(&rt, other(&rt, key, argument));
-        come(&rt, &mut second, plus(first_pass(&rt)), &mut out);
-        let unsent = minus(other(&rt, key, argument));
-        assert_comes(&rt, &mut second, unsent, &mut out, 0);
-        assert_same(&rt, second, waiting(&rt, first_pass(&rt)));
+fn another_antimessage_leaves_a_message(rt: HostRuntime) -> Result<(), Fail> {
+    for other in others() {
+        let unsent = Pass {
+            sign: Sign::Minus,
+            key: other.key,
+            argument: other.argument,
+        };
+        let steps = [Come(other, 0), Come(plus(AT_2), 0), Come(unsent, 0), EMPTY];
+        assert_same(&rt, 1, &steps, &[Come(plus(AT_2), 0), EMPTY])?;
     }
-    assert_empty(&rt, &out);
+    Ok(())
 }
 
 #[test]
-fn an_antimessage_leaves_another_input_that_is_done(rt: HostRuntime) {
-    let mut out = Bag::new();
-    for (at, argument) in others() {
-        let mut second = waiting(&rt, other(&rt, at, argument));
-        assert_processes(&rt, &mut second, &mut out, &[key(1, 1, 0), at]);
-        assert_comes(&rt, &mut second, minus(first_pass(&rt)), &mut out, 0);
-        assert_next(&rt, &second, Bound::At(key(3, 1, 1)));
+fn an_antimessage_leaves_another_input_that_is_done(rt: HostRuntime) -> Result<(), Fail> {
+    for other in others() {
+        let steps = [
+            Come(other, 0),
+            EMPTY,
+            Process(Ok(AT_1)),
+            Process(Ok(other.key)),
+            Come(minus(AT_2), 0),
+            Next(Bound::At(AT_3)),
+            EMPTY,
+        ];
+        assert_runs(&rt, 1, &steps)?;
     }
-    assert_empty(&rt, &out);
+    Ok(())
 }

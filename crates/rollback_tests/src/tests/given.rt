@@ -1,32 +1,52 @@
-//! What the tests are given: the nodes of the ring, messages and bags.
-ghost use Rattle.std.specs.Prelude.{◌≡◌, ◌<◌, IfOk};
-ghost use Rattle.compose.specs.Plans.{composition};
-ghost use Rattle.compose.specs.Fan.{fan_of_three};
-ghost use Rattle.compose.specs.Ring.{ring_of_two};
-ghost use Rattle.task_seed.specs.Setups.{plan_of};
+//! What the tests are given: the components of the ring and of the fan, messages and bags.
 
 use antimessage::Bag;
-use compose::{fan, ring};
-use event_keys::{Bound, Key, Message, Sign, Signed};
+use compose::{Plan, compose};
+use event_keys::{Key, Message, Sign, Signed};
+use ioa_check::check;
+use ioa_front::read;
 use raw_events::EventCell;
+use ring_source::ring;
 use rollback::Component;
-use std::alloc::{AllocGlobal, Global};
-use std::process::Abort;
+use std::alloc::Global;
 use std::sync::Arc;
 use task_seed::{Row, Setup, TableTurns};
 use terms::{Action, NoMemory, Scalar};
 
 pub(crate) type Node = Component<TableTurns>;
 
-pub(crate) fn key(tick: u64, component: u16, number: u64) -> Key {
-    Key {
-        tick,
-        component,
-        number,
+/// A composition: the ring of two, or the fan, whose component 0 sends to two listeners.
+#[derive(Clone, Copy)]
+pub(crate) enum Given {
+    Ring,
+    Fan,
+}
+
+const FAN: &str =
+    "automaton S signature output go(v: 0..1) states n: 0..1 := 0 transitions output go(v: 0..1) pre v = n eff n := 1 tasks { go } automaton L signature input go(v: 0..1) states s: Int := 0 transitions input go(v: 0..1) eff s := s + v + 1 automaton F components a: S; b: L; c: L";
+
+// The plan of a source without faults.
+fn plan_of(alloc: Global, text: &str) -> Result<Plan, NoMemory> {
+    let Ok(source) = read(alloc, text.as_bytes()) else {
+        return Err(NoMemory);
+    };
+    let Ok(checked) = check(alloc, source) else {
+        return Err(NoMemory);
+    };
+    match compose(alloc, checked) {
+        Ok(plan) => Ok(plan),
+        Err(_) => Err(NoMemory),
     }
 }
 
-fn row(component: u64, gap: u32) -> Row {
+fn plan(alloc: Global, given: Given) -> Result<Plan, NoMemory> {
+    match given {
+        Given::Ring => ring(alloc),
+        Given::Fan => plan_of(alloc, FAN),
+    }
+}
+
+const fn row(component: u64, gap: u32) -> Row {
     Row {
         component,
         gap,
@@ -35,13 +55,17 @@ fn row(component: u64, gap: u32) -> Row {
     }
 }
 
-// Component 0 has turns at the ticks 2 and 4, component 1 at 1 and 3.
-fn setup(alloc: Global) -> Result<Setup<TableTurns>, NoMemory>
-    ensures { IfOk result (λ setup. composition (plan_of setup) ≡ ring_of_two) }
-{
-    let plan = ring(alloc)?;
-    let rows = [row(0, 2), row(0, 2), row(1, 1), row(1, 2)];
-    let Ok(turns) = TableTurns::new(alloc, &plan, &rows) else {
+// In the ring component 0 has turns at the ticks 2 and 4, component 1 at 1 and 3; in the fan component 0 at 1 and 2.
+fn setup(alloc: Global, given: Given) -> Result<Setup<TableTurns>, NoMemory> {
+    let plan = plan(alloc, given)?;
+    let turns = match given {
+        Given::Ring => {
+            let rows = [row(0, 2), row(0, 2), row(1, 1), row(1, 2)];
+            TableTurns::new(alloc, &plan, &rows)
+        }
+        Given::Fan => TableTurns::new(alloc, &plan, &[row(0, 1), row(0, 1)]),
+    };
+    let Ok(turns) = turns else {
         return Err(NoMemory);
     };
     match Setup::new(plan, turns, 1000) {
@@ -50,169 +74,133 @@ fn setup(alloc: Global) -> Result<Setup<TableTurns>, NoMemory>
     }
 }
 
-/// Component `number` of the ring, before its first turn.
-pub(crate) fn start(alloc: Global, number: u16) -> Result<Node, NoMemory>
-    requires { number < 2 }
-{
-    let setup = Arc::new(alloc, setup(alloc)?)?;
-    Component::new(alloc, setup, number)
-}
-
-/// The sender of the fan, which sends to two listeners at the tick 1 and again at the tick 2.
-pub(crate) fn start_sender(alloc: Global) -> Result<Node, NoMemory> {
-    let setup = Arc::new(alloc, fan_setup(alloc)?)?;
-    Component::new(alloc, setup, 0)
-}
-
-fn fan_setup(alloc: Global) -> Result<Setup<TableTurns>, NoMemory>
-    ensures { IfOk result (λ setup. composition (plan_of setup) ≡ fan_of_three) }
-{
-    let plan = fan(alloc)?;
-    let rows = [row(0, 1), row(0, 1)];
-    let Ok(turns) = TableTurns::new(alloc, &plan, &rows) else {
+/// A component before its first turn.
+pub(crate) fn start(alloc: Global, given: Given, number: u16) -> Result<Node, NoMemory> {
+    let setup = setup(alloc, given)?;
+    if number >= setup.plan().components() {
         return Err(NoMemory);
-    };
-    match Setup::new(plan, turns, 1000) {
-        Ok(setup) => Ok(setup),
-        Err(_) => Err(NoMemory),
+    }
+    Component::new(alloc, Arc::new(alloc, setup)?, number)
+}
+
+pub(crate) const fn key(tick: u64, component: u16, number: u64) -> Key {
+    Key {
+        tick,
+        component,
+        number,
     }
 }
 
-/// A component of the ring, with ample memory.
-pub(crate) fn node(rt: &(impl Abort + AllocGlobal), number: u16) -> Node
-    requires { number < 2 }
-{
-    start(rt.alloc(), number).expect(rt, "memory for a node")
+/// The key of the ring's turn at the tick 1, which is component 1's, and so on.
+pub(crate) const AT_1: Key = Key {
+    tick: 1,
+    component: 1,
+    number: 0,
+};
+
+pub(crate) const AT_2: Key = Key {
+    tick: 2,
+    component: 0,
+    number: 0,
+};
+
+pub(crate) const AT_3: Key = Key {
+    tick: 3,
+    component: 1,
+    number: 1,
+};
+
+pub(crate) const AT_4: Key = Key {
+    tick: 4,
+    component: 0,
+    number: 1,
+};
+
+/// The action `pass(argument)` of a turn with this key, on its way to the other component, or its antimessage.
+#[derive(Clone, Copy)]
+pub(crate) struct Pass {
+    pub(crate) sign: Sign,
+    pub(crate) key: Key,
+    pub(crate) argument: i64,
 }
 
-/// The action `pass(argument)` of a turn, on its way to a component.
-pub(crate) fn pass(alloc: Global, key: Key, argument: i64, to: u16) -> Result<Message, NoMemory> {
-    let args = Vec::from_array(alloc, [Scalar::Int(argument)])?;
-    Ok(Message {
+const fn other(component: u16) -> u16 {
+    if component == 0 { 1 } else { 0 }
+}
+
+/// What a component sends by its turn of this key: the number of the other one, to which it goes.
+pub(crate) const fn plus(key: Key) -> Pass {
+    Pass {
+        sign: Sign::Plus,
         key,
+        argument: other(key.component) as i64,
+    }
+}
+
+pub(crate) const fn minus(key: Key) -> Pass {
+    Pass {
+        sign: Sign::Minus,
+        key,
+        argument: other(key.component) as i64,
+    }
+}
+
+pub(crate) fn message(alloc: Global, pass: Pass) -> Result<Message, NoMemory> {
+    let args = Vec::from_array(alloc, [Scalar::Int(pass.argument)])?;
+    Ok(Message {
+        key: pass.key,
         action: Action { name: 0, args },
-        to,
+        to: other(pass.key.component),
     })
 }
 
-/// What a node sends by its turn of this key.
-pub(crate) fn sent(rt: &(impl Abort + AllocGlobal), key: Key) -> Message {
-    let to = if key.component == 0 { 1 } else { 0 };
-    pass(rt.alloc(), key, i64::from(to), to).expect(rt, "memory for a message")
-}
-
-/// What component 0 sends by its turn at the tick 2.
-pub(crate) fn first_pass(rt: &(impl Abort + AllocGlobal)) -> Message {
-    sent(rt, key(2, 0, 0))
-}
-
-pub(crate) fn plus(message: Message) -> Signed {
-    Signed {
+pub(crate) fn cell(alloc: Global, pass: Pass) -> Result<EventCell<Signed>, NoMemory> {
+    let message = message(alloc, pass)?;
+    let signed = Signed {
         message,
-        sign: Sign::Plus,
-    }
-}
-
-pub(crate) fn minus(message: Message) -> Signed {
-    Signed {
-        message,
-        sign: Sign::Minus,
-    }
-}
-
-pub(crate) fn cell(alloc: Global, signed: Signed) -> Result<EventCell<Signed>, NoMemory>
-    ensures { IfOk result (λ cell. cell ≡ signed) }
-{
+        sign: pass.sign,
+    };
     match EventCell::new(alloc, signed) {
         Ok(cell) => Ok(cell),
         Err(_) => Err(NoMemory),
     }
 }
 
-/// One more of a message of component 0 or 1, or of its antimessage.
-pub(crate) fn post(rt: &(impl Abort + AllocGlobal), bag: &mut Bag, signed: Signed) {
-    bag.post(cell(rt.alloc(), signed).expect(rt, "memory for a cell"));
+/// So many messages that a component sends by its turn of this key, and so many antimessages.
+#[derive(Clone, Copy)]
+pub(crate) struct Held {
+    pub(crate) key: Key,
+    pub(crate) pluses: u32,
+    pub(crate) minuses: u32,
 }
 
-/// A bag of what a node sends by its turn of this key, so many times, and of its antimessage once or not.
-pub(crate) fn bag(rt: &(impl Abort + AllocGlobal), key: Key, pluses: u32, has_minus: bool) -> Bag {
+pub(crate) const fn passes(key: Key, pluses: u32, minuses: u32) -> Held {
+    Held {
+        key,
+        pluses,
+        minuses,
+    }
+}
+
+pub(crate) const NOTHING: Held = Held {
+    key: AT_2,
+    pluses: 0,
+    minuses: 0,
+};
+
+fn post(alloc: Global, bag: &mut Bag, pass: Pass, count: u32) -> Result<(), NoMemory> {
+    for _ in 0..count {
+        bag.post(cell(alloc, pass)?);
+    }
+    Ok(())
+}
+
+/// A bag of both.
+pub(crate) fn bag(alloc: Global, first: Held, second: Held) -> Result<Bag, NoMemory> {
     let mut bag = Bag::new();
-    for _ in 0..pluses {
-        post(rt, &mut bag, plus(sent(rt, key)));
+    for held in [first, second] {
+        post(alloc, &mut bag, plus(held.key), held.pluses)?;
+        post(alloc, &mut bag, minus(held.key), held.minuses)?;
     }
-    if has_minus {
-        post(rt, &mut bag, minus(sent(rt, key)));
-    }
-    bag
-}
-
-/// A message or an antimessage comes to the component that it is sent to. The answer is the number of the entries taken back.
-pub(crate) fn come(
-    rt: &(impl Abort + AllocGlobal),
-    node: &mut Node,
-    signed: Signed,
-    out: &mut Bag,
-) -> u64 {
-    assert!(rt; signed.message.to == node.number());
-    let cell = cell(rt.alloc(), signed).expect(rt, "memory for a cell");
-    node.deliver(cell, out)
-}
-
-/// The same, which takes back so many entries.
-pub(crate) fn assert_comes(
-    rt: &(impl Abort + AllocGlobal),
-    node: &mut Node,
-    signed: Signed,
-    out: &mut Bag,
-    taken_back: u64,
-) {
-    let count = come(rt, node, signed, out);
-    assert!(rt; count == taken_back, "{count} taken back");
-}
-
-pub(crate) fn assert_processes(
-    rt: &(impl Abort + AllocGlobal),
-    node: &mut Node,
-    out: &mut Bag,
-    keys: &[Key],
-) {
-    for key in keys {
-        assert!(rt;
-            node.process(rt.alloc(), out) == Ok(*key),
-            "at {}",
-            key.tick
-        );
-    }
-}
-
-pub(crate) fn assert_same(rt: &impl Abort, first: Node, second: Node) {
-    assert!(rt; first == second);
-}
-
-pub(crate) fn assert_next(rt: &impl Abort, node: &Node, wanted: Bound) {
-    assert!(rt; node.next() == wanted);
-}
-
-/// Whether there was something to take back.
-pub(crate) fn assert_rolls_back(rt: &impl Abort, node: &mut Node, out: &mut Bag, wanted: bool) {
-    assert!(rt; node.roll_back(out) == wanted);
-}
-
-pub(crate) fn assert_empty(rt: &impl Abort, bag: &Bag) {
-    assert!(rt; bag.is_empty());
-}
-
-pub(crate) fn assert_bag(rt: &impl Abort, bag: &Bag, wanted: &Bag) {
-    assert!(rt; *bag == *wanted);
-}
-
-/// A bag that holds just what a node sends by its turn of this key, so many times, and its antimessage once or not.
-pub(crate) fn assert_holds(
-    rt: &(impl Abort + AllocGlobal),
-    held: &Bag,
-    key: Key,
-    pluses: u32,
-    has_minus: bool,
-) {
-    assert_bag(rt, held, &bag(rt, key, pluses, has_minus));
+    Ok(bag)
 }

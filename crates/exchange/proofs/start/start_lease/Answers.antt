@@ -1,6 +1,6 @@
 use Rattle.std.proofs.Common.{length, refl, sym, ap, subst, ◌∙◌}
 use Rattle.std.specs.Arc.{arc_value}
-use Rattle.compose.specs.Plans.{composition}
+use Rattle.plans.specs.Plans.{composition}
 use Rattle.task_seed.specs.Setups.{plan_of, system}
 use Rattle.task_seed.specs.Machines.{machine}
 use Rattle.virtual_time.specs.Machine.{Lawful}

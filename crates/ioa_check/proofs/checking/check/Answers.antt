@@ -40,6 +40,8 @@ invariant_of-result c =
     record {
       source = x;
       readable = c.tree.ensures.readable;
+      few = c.tree.ensures.few;
+      some = c.tree.ensures.some;
       faultless = c.least_law.ensures.none (source_faults x) kept;
       same = c.in_ok-resolved-in-None.ensures ∙ c.in_ok-meant.ensures.meant ∙ ap (λ t. source_meaning (view_source t)) c.tree.ensures.same;
     }

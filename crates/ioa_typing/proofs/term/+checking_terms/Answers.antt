@@ -1,7 +1,7 @@
 use Rattle.std.proofs.Common.{rules, arith, ◌≡◌, ◌+◌, ◌++◌, ◌∷◌, [], ℕ, List, Option, ap, sym, ◌∙◌, drop, map, refl}
 use Rattle.ioa_trees.specs.declared.tree.Term.{the_lemmas}
 use Rattle.ioa_trees.specs.declared.tree.Addend as addend
-use Rattle.ioa_trees.specs.Trees.{no_factor, more_factors, Called, Append, Index, Minus, Product, Sum, Compare, Not, And, Or, Times, pack_terms, pack_factors, pack_addends}
+use Rattle.ioa_trees.specs.Trees.{no_factor, more_factors, Append, Index, Product, Sum, Compare, And, Or, Times, pack_terms, pack_factors, pack_addends}
 use Rattle.ioa_trees.specs.Views.{view, view_factor, view_addend}
 use Rattle.ioa_rules.specs.Faults.{Fault, keep}
 use Rattle.ioa_rules.specs.Sizes.{size}
@@ -13,33 +13,6 @@ use Rattle.ioa_typing.proofs.Keeps.{drop_item, keep_both, keep_three, keep_parts
 use Rattle.ioa_typing.proofs.Factors.{factors_step, multiplied_more}
 use Rattle.ioa_typing.proofs.term.+checking_terms.Goals as goal
 
-pub check_term-returns-in_ok-found-in-Call-clause-faults : goal.check_term-returns-in_ok-found-in-Call-clause-faults
-check_term-returns-in_ok-found-in-Call-clause-faults t c =
-    let of = view c.in-Call.of.value in
-    let is : view c.args.term.now ≡ Called c.in-Call.call of = search (rules, the_lemmas) in
-    let s = names_tree c.args.names.now in
-    let at = c.args.walk.now.at in
-    let begun = c.check_term-in-Call.new.walk in
-    rw is (keep_both (least_tree c.args.walk.now.least) (least_tree begun.least) (least_tree c.end_call.new.walk.least) (faults s (at + 2) of) (wants is_seq (at + 2) (judged_tree c.in_ok-of-in-Call.of)) (wants is_seq (at + 2) (judge s of)) (search (rules, the_lemmas)) (ap (λ j. wants is_seq (at + 2) j) (search (rules, the_lemmas))) (search (rules, the_lemmas)))
-
-pub check_term-returns-in_ok-found-in-Minus-clause-faults : goal.check_term-returns-in_ok-found-in-Minus-clause-faults
-check_term-returns-in_ok-found-in-Minus-clause-faults t c =
-    let of = view c.in-Minus.of.value in
-    let is : view c.args.term.now ≡ Minus of = search (rules, the_lemmas) in
-    let s = names_tree c.args.names.now in
-    let at = c.args.walk.now.at in
-    let begun = c.check_term-in-Minus.new.walk in
-    rw is (keep_both (least_tree c.args.walk.now.least) (least_tree begun.least) (least_tree c.end_minus.new.walk.least) (faults s (at + 1) of) (wants is_whole (at + 1) (judged_tree c.in_ok-of-in-Minus.of)) (wants is_whole (at + 1) (judge s of)) (search (rules, the_lemmas)) (ap (λ j. wants is_whole (at + 1) j) (search (rules, the_lemmas))) (search (rules, the_lemmas)))
-
-pub check_term-returns-in_ok-found-in-Not-clause-faults : goal.check_term-returns-in_ok-found-in-Not-clause-faults
-check_term-returns-in_ok-found-in-Not-clause-faults t c =
-    let of = view c.in-Not.of.value in
-    let is : view c.args.term.now ≡ Not of = search (rules, the_lemmas) in
-    let s = names_tree c.args.names.now in
-    let at = c.args.walk.now.at in
-    let begun = c.check_term-in-Not.new.walk in
-    rw is (keep_both (least_tree c.args.walk.now.least) (least_tree begun.least) (least_tree c.end_not.new.walk.least) (faults s (at + 1) of) (wants is_truth (at + 1) (judged_tree c.in_ok-of-in-Not.of)) (wants is_truth (at + 1) (judge s of)) (search (rules, the_lemmas)) (ap (λ j. wants is_truth (at + 1) j) (search (rules, the_lemmas))) (search (rules, the_lemmas)))
-
 pub check_term-returns-in_ok-found-in-Append-clause-faults : goal.check_term-returns-in_ok-found-in-Append-clause-faults
 check_term-returns-in_ok-found-in-Append-clause-faults t c =
     let left = view c.in-Append.list.value in
@@ -47,16 +20,12 @@ check_term-returns-in_ok-found-in-Append-clause-faults t c =
     let is : view c.args.term.now ≡ Append left right = search (rules, the_lemmas) in
     let s = names_tree c.args.names.now in
     let at = c.args.walk.now.at in
-    let first = c.check_term-in-Append.new.walk in
-    let second = c.check_term-in-Append-2.new.walk in
+    let begun = c.check_term.new.walk in
     let j = judged_tree c.in_ok-list-in-Append.list in
-    let k = judged_tree c.in_ok-item-in-Append.item in
-    let place : first.at + 1 ≡ at + size left + 3 = search (rules, the_lemmas, arith) in
-    let first_meant : j ≡ judge s left = search (rules, the_lemmas) in
-    let second_meant : k ≡ judge s right = search (rules, the_lemmas) in
-    let rest : ℕ → Option Judged → Option Judged → List Fault = λ n i m. wants is_seq (at + 2) i ++ append_faults n i m in
-    let same = ap (λ n. rest n j k) place ∙ ap (λ i. rest (at + size left + 3) i k) first_meant ∙ ap (λ m. rest (at + size left + 3) (judge s left) m) second_meant in
-    rw is (keep_parts (least_tree c.args.walk.now.least) (least_tree first.least) (least_tree second.least) (least_tree c.end_append.new.walk.least) (faults s (at + 2) left) (faults s (first.at + 1) right) (faults s (at + size left + 3) right) (rest (first.at + 1) j k) (rest (at + size left + 3) (judge s left) (judge s right)) (search (rules, the_lemmas)) (ap (λ n. faults s n right) place) (search (rules, the_lemmas)) same (search (rules, the_lemmas)))
+    let place : begun.at + 1 ≡ at + size left + 3 = search (rules, the_lemmas, arith) in
+    let meant : j ≡ judge s left = search (rules, the_lemmas) in
+    let rest : ℕ → Option Judged → List Fault = λ n i. faults s n right ++ (wants is_seq (at + 2) i ++ append_faults n i (judge s right)) in
+    rw is (keep_both (least_tree c.args.walk.now.least) (least_tree begun.least) (least_tree c.check_item.new.walk.least) (faults s (at + 2) left) (rest (begun.at + 1) j) (rest (at + size left + 3) (judge s left)) (search (rules, the_lemmas)) (ap (λ n. rest n j) place ∙ ap (rest (at + size left + 3)) meant) (search (rules, the_lemmas)))
 
 pub check_term-returns-in_ok-found-in-Compare-clause-faults : goal.check_term-returns-in_ok-found-in-Compare-clause-faults
 check_term-returns-in_ok-found-in-Compare-clause-faults t c =
@@ -65,16 +34,12 @@ check_term-returns-in_ok-found-in-Compare-clause-faults t c =
     let is : view c.args.term.now ≡ Compare left c.in-Compare.relation right = search (rules, the_lemmas) in
     let s = names_tree c.args.names.now in
     let at = c.args.walk.now.at in
-    let first = c.check_term-in-Compare.new.walk in
-    let second = c.check_term-in-Compare-2.new.walk in
+    let begun = c.check_term-in-Compare.new.walk in
     let j = judged_tree c.in_ok-left-in-Compare.left in
-    let k = judged_tree c.in_ok-right-in-Compare.right in
-    let place : first.at + 1 ≡ at + size left + 1 = search (rules, the_lemmas, arith) in
-    let first_meant : j ≡ judge s left = search (rules, the_lemmas) in
-    let second_meant : k ≡ judge s right = search (rules, the_lemmas) in
-    let rest : ℕ → Option Judged → Option Judged → List Fault = λ n i m. compare_faults c.in-Compare.relation n i m in
-    let same = ap (λ n. rest n j k) place ∙ ap (λ i. rest (at + size left + 1) i k) first_meant ∙ ap (λ m. rest (at + size left + 1) (judge s left) m) second_meant in
-    rw is (keep_parts (least_tree c.args.walk.now.least) (least_tree first.least) (least_tree second.least) (least_tree c.end_compare.new.walk.least) (faults s at left) (faults s (first.at + 1) right) (faults s (at + size left + 1) right) (rest (first.at + 1) j k) (rest (at + size left + 1) (judge s left) (judge s right)) (search (rules, the_lemmas)) (ap (λ n. faults s n right) place) (search (rules, the_lemmas)) same (search (rules, the_lemmas)))
+    let place : begun.at + 1 ≡ at + size left + 1 = search (rules, the_lemmas, arith) in
+    let meant : j ≡ judge s left = search (rules, the_lemmas) in
+    let rest : ℕ → Option Judged → List Fault = λ n i. faults s n right ++ compare_faults c.in-Compare.relation n i (judge s right) in
+    rw is (keep_both (least_tree c.args.walk.now.least) (least_tree begun.least) (least_tree c.check_right.new.walk.least) (faults s at left) (rest (begun.at + 1) j) (rest (at + size left + 1) (judge s left)) (search (rules, the_lemmas)) (ap (λ n. rest n j) place ∙ ap (rest (at + size left + 1)) meant) (search (rules, the_lemmas)))
 
 pub check_term-returns-in_ok-found-in-Index-clause-faults : goal.check_term-returns-in_ok-found-in-Index-clause-faults
 check_term-returns-in_ok-found-in-Index-clause-faults t c =
@@ -90,49 +55,126 @@ check_term-returns-in_ok-found-in-Index-clause-faults t c =
     let same = ap (λ i. indexes_faults s at i begun.at indexes) meant ∙ ap (λ n. indexes_faults s at (judge s of) n indexes) place in
     rw is (keep_both (least_tree c.args.walk.now.least) (least_tree begun.least) (least_tree c.check_indexes.new.walk.least) (faults s at of) (indexes_faults s at j begun.at indexes) (indexes_faults s at (judge s of) (at + size of) indexes) (search (rules, the_lemmas)) same (search (rules, the_lemmas)))
 
-pub check_term-returns-in_ok-core-in-Product-clause-faults : goal.check_term-returns-in_ok-core-in-Product-clause-faults
-check_term-returns-in_ok-core-in-Product-clause-faults t c =
-    let first = view c.in-Product.first.value in
-    let factors = pack_factors (map view_factor c.in-Product.factors.items) in
-    let is : view c.args.term.now ≡ Product first factors = search (rules, the_lemmas) in
+pub check_term-returns-in_ok-found-in-Product-clause-faults : goal.check_term-returns-in_ok-found-in-Product-clause-faults
+check_term-returns-in_ok-found-in-Product-clause-faults t c =
+    let left = view c.in-Product.of.value in
+    let right = pack_factors (map view_factor c.in-Product.factors.items) in
+    let is : view c.args.term.now ≡ Product left right = search (rules, the_lemmas) in
     let s = names_tree c.args.names.now in
     let at = c.args.walk.now.at in
     let begun = c.check_term-in-Product.new.walk in
-    let noted = c.note_unless_whole.new.walk in
-    rw is (keep_parts (least_tree c.args.walk.now.least) (least_tree begun.least) (least_tree noted.least) (least_tree c.check_factors.new.walk.least) (faults s at first) (wants is_whole at (judged_tree c.in_ok-first-in-Product.first)) (wants is_whole at (judge s first)) (factors_faults s noted.at factors) (factors_faults s (at + size first) factors) (search (rules, the_lemmas)) (ap (λ j. wants is_whole at j) (search (rules, the_lemmas))) (search (rules, the_lemmas)) (ap (λ n. factors_faults s n factors) (search (rules, the_lemmas))) (search (rules, the_lemmas)))
+    let j = judged_tree c.in_ok-first-in-Product.first in
+    let place : begun.at ≡ at + size left = search (rules, the_lemmas, arith) in
+    let meant : j ≡ judge s left = search (rules, the_lemmas) in
+    let rest : ℕ → Option Judged → List Fault = λ n i. wants is_whole at i ++ factors_faults s n right in
+    rw is (keep_both (least_tree c.args.walk.now.least) (least_tree begun.least) (least_tree c.check_product.new.walk.least) (faults s at left) (rest (begun.at) j) (rest (at + size left) (judge s left)) (search (rules, the_lemmas)) (ap (λ n. rest n j) place ∙ ap (rest (at + size left)) meant) (search (rules, the_lemmas)))
 
-pub check_term-returns-in_ok-core-in-Sum-clause-faults : goal.check_term-returns-in_ok-core-in-Sum-clause-faults
-check_term-returns-in_ok-core-in-Sum-clause-faults t c =
-    let first = view c.in-Sum.first.value in
-    let addends = pack_addends (map view_addend c.in-Sum.addends.items) in
-    let is : view c.args.term.now ≡ Sum first addends = search (rules, the_lemmas) in
+pub check_term-returns-in_ok-found-in-Sum-clause-faults : goal.check_term-returns-in_ok-found-in-Sum-clause-faults
+check_term-returns-in_ok-found-in-Sum-clause-faults t c =
+    let left = view c.in-Sum.of.value in
+    let right = pack_addends (map view_addend c.in-Sum.addends.items) in
+    let is : view c.args.term.now ≡ Sum left right = search (rules, the_lemmas) in
     let s = names_tree c.args.names.now in
     let at = c.args.walk.now.at in
     let begun = c.check_term-in-Sum.new.walk in
-    let noted = c.note_unless_whole-in-Sum.new.walk in
-    rw is (keep_parts (least_tree c.args.walk.now.least) (least_tree begun.least) (least_tree noted.least) (least_tree c.check_addends.new.walk.least) (faults s at first) (wants is_whole at (judged_tree c.in_ok-first-in-Sum.first)) (wants is_whole at (judge s first)) (addends_faults s noted.at addends) (addends_faults s (at + size first) addends) (search (rules, the_lemmas)) (ap (λ j. wants is_whole at j) (search (rules, the_lemmas))) (search (rules, the_lemmas)) (ap (λ n. addends_faults s n addends) (search (rules, the_lemmas))) (search (rules, the_lemmas)))
+    let j = judged_tree c.in_ok-first-in-Sum.first in
+    let place : begun.at ≡ at + size left = search (rules, the_lemmas, arith) in
+    let meant : j ≡ judge s left = search (rules, the_lemmas) in
+    let rest : ℕ → Option Judged → List Fault = λ n i. wants is_whole at i ++ addends_faults s n right in
+    rw is (keep_both (least_tree c.args.walk.now.least) (least_tree begun.least) (least_tree c.check_sum.new.walk.least) (faults s at left) (rest (begun.at) j) (rest (at + size left) (judge s left)) (search (rules, the_lemmas)) (ap (λ n. rest n j) place ∙ ap (rest (at + size left)) meant) (search (rules, the_lemmas)))
 
-pub check_term-returns-in_ok-core-in-And-clause-faults : goal.check_term-returns-in_ok-core-in-And-clause-faults
-check_term-returns-in_ok-core-in-And-clause-faults t c =
-    let first = view c.in-And.first.value in
-    let others = pack_terms (map view c.in-And.others.items) in
-    let is : view c.args.term.now ≡ And first others = search (rules, the_lemmas) in
+pub check_term-returns-in_ok-found-in-And-clause-faults : goal.check_term-returns-in_ok-found-in-And-clause-faults
+check_term-returns-in_ok-found-in-And-clause-faults t c =
+    let left = view c.in-And.of.value in
+    let right = pack_terms (map view c.in-And.others.items) in
+    let is : view c.args.term.now ≡ And left right = search (rules, the_lemmas) in
     let s = names_tree c.args.names.now in
     let at = c.args.walk.now.at in
     let begun = c.check_term-in-And.new.walk in
-    let noted = c.note_unless_truth.new.walk in
-    rw is (keep_parts (least_tree c.args.walk.now.least) (least_tree begun.least) (least_tree noted.least) (least_tree c.check_truths.new.walk.least) (faults s at first) (wants is_truth at (judged_tree c.in_ok-first-in-And.first)) (wants is_truth at (judge s first)) (truths_faults s noted.at others) (truths_faults s (at + size first) others) (search (rules, the_lemmas)) (ap (λ j. wants is_truth at j) (search (rules, the_lemmas))) (search (rules, the_lemmas)) (ap (λ n. truths_faults s n others) (search (rules, the_lemmas))) (search (rules, the_lemmas)))
+    let j = judged_tree c.in_ok-first-in-And.first in
+    let place : begun.at ≡ at + size left = search (rules, the_lemmas, arith) in
+    let meant : j ≡ judge s left = search (rules, the_lemmas) in
+    let rest : ℕ → Option Judged → List Fault = λ n i. wants is_truth at i ++ truths_faults s n right in
+    rw is (keep_both (least_tree c.args.walk.now.least) (least_tree begun.least) (least_tree c.check_joined.new.walk.least) (faults s at left) (rest (begun.at) j) (rest (at + size left) (judge s left)) (search (rules, the_lemmas)) (ap (λ n. rest n j) place ∙ ap (rest (at + size left)) meant) (search (rules, the_lemmas)))
 
-pub check_term-returns-in_ok-core-in-Or-clause-faults : goal.check_term-returns-in_ok-core-in-Or-clause-faults
-check_term-returns-in_ok-core-in-Or-clause-faults t c =
-    let first = view c.in-Or.first.value in
-    let others = pack_terms (map view c.in-Or.others.items) in
-    let is : view c.args.term.now ≡ Or first others = search (rules, the_lemmas) in
+pub check_term-returns-in_ok-found-in-Or-clause-faults : goal.check_term-returns-in_ok-found-in-Or-clause-faults
+check_term-returns-in_ok-found-in-Or-clause-faults t c =
+    let left = view c.in-Or.of.value in
+    let right = pack_terms (map view c.in-Or.others.items) in
+    let is : view c.args.term.now ≡ Or left right = search (rules, the_lemmas) in
     let s = names_tree c.args.names.now in
     let at = c.args.walk.now.at in
     let begun = c.check_term-in-Or.new.walk in
-    let noted = c.note_unless_truth-in-Or.new.walk in
-    rw is (keep_parts (least_tree c.args.walk.now.least) (least_tree begun.least) (least_tree noted.least) (least_tree c.check_truths-in-Or.new.walk.least) (faults s at first) (wants is_truth at (judged_tree c.in_ok-first-in-Or.first)) (wants is_truth at (judge s first)) (truths_faults s noted.at others) (truths_faults s (at + size first) others) (search (rules, the_lemmas)) (ap (λ j. wants is_truth at j) (search (rules, the_lemmas))) (search (rules, the_lemmas)) (ap (λ n. truths_faults s n others) (search (rules, the_lemmas))) (search (rules, the_lemmas)))
+    let j = judged_tree c.in_ok-first-in-Or.first in
+    let place : begun.at ≡ at + size left = search (rules, the_lemmas, arith) in
+    let meant : j ≡ judge s left = search (rules, the_lemmas) in
+    let rest : ℕ → Option Judged → List Fault = λ n i. wants is_truth at i ++ truths_faults s n right in
+    rw is (keep_both (least_tree c.args.walk.now.least) (least_tree begun.least) (least_tree c.check_joined-in-Or.new.walk.least) (faults s at left) (rest (begun.at) j) (rest (at + size left) (judge s left)) (search (rules, the_lemmas)) (ap (λ n. rest n j) place ∙ ap (rest (at + size left)) meant) (search (rules, the_lemmas)))
+
+pub check_call-returns-clause-faults : goal.check_call-returns-clause-faults
+check_call-returns-clause-faults t c =
+    let of = view c.args.of.now in
+    let s = names_tree c.args.names.now in
+    let at = c.args.walk.now.at in
+    let begun = c.check_term.new.walk in
+    keep_both (least_tree c.args.walk.now.least) (least_tree begun.least) (least_tree c.end_call.new.walk.least) (faults s (at + 2) of) (wants is_seq (at + 2) (judged_tree c.in_ok-of.of)) (wants is_seq (at + 2) (judge s of)) (search rules) (ap (λ j. wants is_seq (at + 2) j) (search rules)) (search rules)
+
+pub check_minus-returns-clause-faults : goal.check_minus-returns-clause-faults
+check_minus-returns-clause-faults t c =
+    let of = view c.args.of.now in
+    let s = names_tree c.args.names.now in
+    let at = c.args.walk.now.at in
+    let begun = c.check_term.new.walk in
+    keep_both (least_tree c.args.walk.now.least) (least_tree begun.least) (least_tree c.end_minus.new.walk.least) (faults s (at + 1) of) (wants is_whole (at + 1) (judged_tree c.in_ok-of.of)) (wants is_whole (at + 1) (judge s of)) (search rules) (ap (λ j. wants is_whole (at + 1) j) (search rules)) (search rules)
+
+pub check_not-returns-clause-faults : goal.check_not-returns-clause-faults
+check_not-returns-clause-faults t c =
+    let of = view c.args.of.now in
+    let s = names_tree c.args.names.now in
+    let at = c.args.walk.now.at in
+    let begun = c.check_term.new.walk in
+    keep_both (least_tree c.args.walk.now.least) (least_tree begun.least) (least_tree c.end_not.new.walk.least) (faults s (at + 1) of) (wants is_truth (at + 1) (judged_tree c.in_ok-of.of)) (wants is_truth (at + 1) (judge s of)) (search rules) (ap (λ j. wants is_truth (at + 1) j) (search rules)) (search rules)
+
+pub check_item-returns-clause-faults : goal.check_item-returns-clause-faults
+check_item-returns-clause-faults t c =
+    let u = view c.args.item.now in
+    let s = names_tree c.args.names.now in
+    let at = c.args.walk.now.at in
+    let begun = c.check_term.new.walk in
+    let j = judged_tree c.args.list in
+    let rest : Option Judged → List Fault = λ k. wants is_seq c.args.place j ++ append_faults (at + 1) j k in
+    keep_both (least_tree c.args.walk.now.least) (least_tree begun.least) (least_tree c.end_append.new.walk.least) (faults s (at + 1) u) (rest (judged_tree c.in_ok-item.item)) (rest (judge s u)) (search rules) (ap rest (search rules)) (search rules)
+
+pub check_right-returns-clause-faults : goal.check_right-returns-clause-faults
+check_right-returns-clause-faults t c =
+    let u = view c.args.right.now in
+    let s = names_tree c.args.names.now in
+    let at = c.args.walk.now.at in
+    let begun = c.check_term.new.walk in
+    let j = judged_tree c.args.left in
+    let rest : Option Judged → List Fault = λ k. compare_faults c.args.relation (at + 1) j k in
+    keep_both (least_tree c.args.walk.now.least) (least_tree begun.least) (least_tree c.end_compare.new.walk.least) (faults s (at + 1) u) (rest (judged_tree c.in_ok-right.right)) (rest (judge s u)) (search rules) (ap rest (search rules)) (search rules)
+
+pub check_product-returns-clause-faults : goal.check_product-returns-clause-faults
+check_product-returns-clause-faults t c =
+    let others = pack_factors (map view_factor c.args.factors.now) in
+    let s = names_tree c.args.names.now in
+    let noted = c.note_unless_whole.new.walk in
+    keep_both (least_tree c.args.walk.now.least) (least_tree noted.least) (least_tree c.check_factors.new.walk.least) (wants is_whole c.args.place (judged_tree c.args.first)) (factors_faults s noted.at others) (factors_faults s c.args.walk.now.at others) (search rules) (ap (λ n. factors_faults s n others) (search rules)) (search rules)
+
+pub check_sum-returns-clause-faults : goal.check_sum-returns-clause-faults
+check_sum-returns-clause-faults t c =
+    let others = pack_addends (map view_addend c.args.addends.now) in
+    let s = names_tree c.args.names.now in
+    let noted = c.note_unless_whole.new.walk in
+    keep_both (least_tree c.args.walk.now.least) (least_tree noted.least) (least_tree c.check_addends.new.walk.least) (wants is_whole c.args.place (judged_tree c.args.first)) (addends_faults s noted.at others) (addends_faults s c.args.walk.now.at others) (search rules) (ap (λ n. addends_faults s n others) (search rules)) (search rules)
+
+pub check_joined-returns-clause-faults : goal.check_joined-returns-clause-faults
+check_joined-returns-clause-faults t c =
+    let others = pack_terms (map view c.args.others.now) in
+    let s = names_tree c.args.names.now in
+    let noted = c.note_unless_truth.new.walk in
+    keep_both (least_tree c.args.walk.now.least) (least_tree noted.least) (least_tree c.check_truths.new.walk.least) (wants is_truth c.args.place (judged_tree c.args.first)) (truths_faults s noted.at others) (truths_faults s c.args.walk.now.at others) (search rules) (ap (λ n. truths_faults s n others) (search rules)) (search rules)
 
 pub check_truths-loop-other-preserved : goal.check_truths-loop-other-preserved
 check_truths-loop-other-preserved t c =

@@ -1,7 +1,7 @@
 use Rattle.std.proofs.Common.{length, subst}
 use Rattle.virtual_time.specs.Machine.{Lawful, HasCount}
 use Rattle.virtual_time.specs.Reference.{IsReference, reference_below}
-use Rattle.compose.specs.Plans.{composition}
+use Rattle.plans.specs.Plans.{composition}
 use Rattle.task_seed.specs.Setups.{plan_of, system}
 use Rattle.rollback.specs.Held.{machine_of}
 use Rattle.service.proofs.Ringed.{two}

@@ -1,6 +1,6 @@
 use Rattle.std.specs.Prelude.{ℕ, List, All}
 use Rattle.std.proofs.Common.{subst}
-use Rattle.compose.specs.Ring.{ring_of_two}
+use Rattle.ring_source.specs.Ring.{ring_of_two}
 use Rattle.task_seed.specs.declared.table.Row.{Row}
 use Rattle.task_seed.specs.Faults.{HasFault}
 use Rattle.service.specs.First.{HasText, first_text}

@@ -1,6 +1,6 @@
 use Rattle.std.specs.Prelude.{ℕ, List, All}
 use Rattle.std.proofs.Common.{subst}
-use Rattle.compose.specs.Automata.{Instance}
+use Rattle.plans.specs.Automata.{Instance}
 use Rattle.task_seed.specs.declared.table.Row.{Row}
 use Rattle.task_seed.specs.Faults.{HasFault}
 use Rattle.service.proofs.first.ring_setup.Goals as goal

@@ -2,7 +2,7 @@ use Rattle.std.proofs.Common.{ℕ, List, All, subst}
 use Rattle.std.proofs.lemmas.List.{take_all}
 use Rattle.std.proofs.lemmas.List.Elements.{All-more}
 use Rattle.std.proofs.lemmas.Result.{err_from_is_err_and}
-use Rattle.compose.specs.Plans.{composition}
+use Rattle.plans.specs.Plans.{composition}
 use Rattle.task_seed.specs.declared.table.Row.{Row}
 use Rattle.task_seed.specs.Faults.{HasFault}
 use Rattle.task_seed.proofs.Judged.{first_at}

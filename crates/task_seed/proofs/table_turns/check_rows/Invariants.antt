@@ -1,5 +1,5 @@
 use Rattle.std.proofs.Common.{ℕ, All, take}
-use Rattle.compose.specs.Plans.{composition}
+use Rattle.plans.specs.Plans.{composition}
 use Rattle.task_seed.specs.Faults.{HasFault}
 use Rattle.task_seed.proofs.table_turns.check_rows.Given as goal
 

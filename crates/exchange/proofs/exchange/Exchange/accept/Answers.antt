@@ -10,7 +10,7 @@ use Rattle.virtual_time.specs.Records.{cut_of, turns_among}
 use Rattle.virtual_time.specs.Reference.{Falls}
 use Rattle.virtual_time.specs.Exchange.Leases.{IsFloor, Matches}
 use Rattle.virtual_time.specs.Exchange.Meetings.{Met}
-use Rattle.compose.specs.Plans.{composition}
+use Rattle.plans.specs.Plans.{composition}
 use Rattle.task_seed.specs.Setups.{system, plan_of}
 use Rattle.task_seed.specs.Machines.{machine}
 use Rattle.rollback.specs.Held.{Held, machine_of}

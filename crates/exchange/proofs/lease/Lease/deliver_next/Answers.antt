@@ -4,7 +4,7 @@ use Rattle.antimessage.specs.Bags.{is_to}
 use Rattle.antimessage.specs.Counts.{Each}
 use Rattle.event_keys.specs.declared.message.Signed.{Signed}
 use Rattle.virtual_time.specs.Machine.{Lawful, HasCount}
-use Rattle.compose.specs.Plans.{composition}
+use Rattle.plans.specs.Plans.{composition}
 use Rattle.task_seed.specs.Setups.{plan_of}
 use Rattle.rollback.specs.Flight.{item_of}
 use Rattle.rollback.specs.Held.{Held, machine_of, comes}

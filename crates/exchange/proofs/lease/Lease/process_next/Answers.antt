@@ -1,7 +1,7 @@
 use Rattle.std.proofs.Common.{◌≡◌, length, refl, sym, subst}
 use Rattle.event_keys.specs.Ranks.{rank}
 use Rattle.virtual_time.specs.Machine.{Lawful, HasCount}
-use Rattle.compose.specs.Plans.{composition}
+use Rattle.plans.specs.Plans.{composition}
 use Rattle.task_seed.specs.Setups.{plan_of}
 use Rattle.virtual_time.specs.Entries.{entry_key}
 use Rattle.virtual_time.specs.Records.{next_of}

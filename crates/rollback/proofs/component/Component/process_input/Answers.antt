@@ -3,8 +3,8 @@ use Rattle.std.specs.Prelude.{IfSome}
 use Rattle.std.specs.Arc.{arc_value}
 use Rattle.event_keys.specs.declared.message.Signed.{Signed}
 use Rattle.raw_events.specs.Around.{head, tail}
-use Rattle.compose.specs.Plans.{composition}
-use Rattle.compose.specs.Steps.{applied}
+use Rattle.plans.specs.Plans.{composition}
+use Rattle.plans.specs.Steps.{applied}
 use Rattle.task_seed.specs.Setups.{system, plan_of}
 use Rattle.task_seed.specs.Machines.{machine}
 use Rattle.virtual_time.specs.Records.{next_of}

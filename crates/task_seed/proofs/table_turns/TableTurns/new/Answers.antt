@@ -1,7 +1,7 @@
 use Rattle.std.proofs.Common.{ℕ, take, get_or, ap, ◌∙◌, arith}
 use Rattle.std.specs.List.{list_all}
 use Rattle.std.proofs.lemmas.List.Elements.{All-take}
-use Rattle.compose.specs.Plans.{composition}
+use Rattle.plans.specs.Plans.{composition}
 use Rattle.task_seed.specs.declared.table.Row.{Row}
 use Rattle.task_seed.specs.Faults.{HasFault}
 use Rattle.task_seed.specs.Gaps.{is_in_range}

@@ -1,5 +1,5 @@
 use Rattle.std.proofs.Common.{◌≡◌, ℕ, take, length, vec_len}
-use Rattle.compose.specs.Plans.{composition}
+use Rattle.plans.specs.Plans.{composition}
 use Rattle.task_seed.specs.Rows.{turns_at, turns_of}
 use Rattle.task_seed.proofs.table_turns.TableTurns.new.Given as goal
 

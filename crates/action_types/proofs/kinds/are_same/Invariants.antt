@@ -1,0 +1,14 @@
+use Rattle.std.proofs.Common.{◌≡◌, ◌≤◌, Some, drop, length, map}
+use Rattle.ioa_entries.specs.Views.{slot_tree}
+use Rattle.ioa_kinds.specs.Views.{option_tree}
+use Rattle.action_types.specs.Types.{same_kinds, slot_kind}
+use Rattle.action_types.specs.Standings.{stood}
+use Rattle.action_types.proofs.kinds.are_same.Given as goal
+
+abbrev pub invariant-loop-place : goal.invariant-loop-place
+invariant-loop-place l = record {
+  within : l.place ≤ length l.others;
+  left : same_kinds (map (slot_kind (map (λ k. option_tree (Some k)) l.a.formals.now)) (map (λ p. slot_tree (Some p)) (drop l.place l.slots)))
+      (map (slot_kind (map (λ k. option_tree (Some k)) l.b.formals.now)) (map (λ p. slot_tree (Some p)) (drop l.place l.others)))
+      ≡ same_kinds (stood l.a).kinds (stood l.b).kinds;
+}

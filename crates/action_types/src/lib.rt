@@ -1,0 +1,13 @@
+//! Whether all entries of an action in a composition have the same types, and the first component with which they don't.
+#![tactic(auto)]
+
+mod kinds;
+pub mod laws;
+mod search;
+mod seen;
+mod standing;
+
+pub use search::first_difference;
+
+#[cfg(test)]
+mod tests;

@@ -1,0 +1,4 @@
+pub mod Judged
+pub mod Refusals
+pub mod Simulated
+pub mod Went

@@ -1,0 +1,10 @@
+//! The engines of the program's subcommands, from what a file says to the text that goes out.
+#![tactic(auto)]
+
+pub mod checking;
+pub mod fault;
+pub mod simulating;
+
+pub use checking::check_trace;
+pub use fault::{CheckFault, SimulateFault};
+pub use simulating::simulate;

@@ -1,0 +1,5 @@
+pub mod Breaking
+pub mod Firsts
+pub mod Lists
+pub mod Lookups
+pub mod Members

@@ -1,0 +1,42 @@
+//! The search for the first component with which components aren't compatible.
+ghost use Rattle.std.specs.Prelude.{◌≡◌, map, IfOk};
+ghost use Rattle.plans.specs.Automata.{composed};
+ghost use Rattle.compatibility.specs.Rules.{Breaks, IsFirst};
+ghost use Rattle.compatibility.specs.Standings.{stood, IsFirstClash};
+
+use crate::laws::first_law;
+use crate::rule::Rule;
+use crate::seen::{is_clash, push};
+use crate::standing::{Standing, standings};
+use plans::{Automaton, Component};
+use std::alloc::Global;
+use terms::NoMemory;
+
+// The component of the first entry that breaks a rule with an earlier one.
+fn first_clash(alloc: Global, rule: Rule, standings: &[Standing]) -> Result<Option<usize>, NoMemory>
+    ensures { IfOk result (λ first. IsFirstClash rule (map stood standings.now) first) }
+{
+    let mut seen = Vec::new(alloc);
+    for standing in standings {
+        if is_clash(rule, seen.as_slice(), standing) {
+            return Ok(Some(standing.component));
+        }
+        push(alloc, &mut seen, *standing)?;
+    }
+    Ok(None)
+}
+
+/// The least number of a component such that the components up to it break a rule. Entries are compared with those of their own name
+/// alone, by their parameters.
+pub fn first_break(
+    alloc: Global,
+    rule: Rule,
+    automata: &[Automaton],
+    components: &[Component],
+) -> Result<Option<usize>, NoMemory>
+    ensures { IfOk result (λ first. IsFirst (Breaks rule (composed automata.now components.now)) first) }
+{
+    first_law();
+    let standings = standings(alloc, automata, components)?;
+    first_clash(alloc, rule, standings.as_slice())
+}

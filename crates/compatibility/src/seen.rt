@@ -1,0 +1,62 @@
+//! The entries so far, by their names.
+ghost use Rattle.std.specs.Prelude.{◌≡◌, ◌<◌, ◌++◌, ◌∷◌, [], ℕ, true, false, cond, length, map, nat_eq, OnOk};
+ghost use Rattle.compatibility.specs.Standings.{stood, seen_at, Has, Clash};
+
+use crate::rule::Rule;
+use crate::standing::{Standing, clash};
+use std::alloc::Global;
+use terms::NoMemory;
+
+// Makes a list for the name and each name below it.
+fn make_room(alloc: Global, seen: &mut Vec<Vec<Standing>>, name: u16) -> Result<(), NoMemory>
+    ensures same { OnOk result ((n : ℕ) → seen_at seen.new.items n ≡ seen_at seen.old.items n) }
+    ensures room { OnOk result (name < length seen.new.items) }
+{
+    while seen.len() <= name as usize {
+        seen.push(Vec::new(alloc))?;
+    }
+    Ok(())
+}
+
+/// Adds an entry to those of its name.
+pub(crate) fn push<'a>(
+    alloc: Global,
+    seen: &mut Vec<Vec<Standing<'a>>>,
+    standing: Standing<'a>,
+) -> Result<(), NoMemory>
+    ensures { OnOk result ((n : ℕ) → seen_at seen.new.items n ≡ seen_at seen.old.items n ++ cond (nat_eq (stood standing.entry).entry.name n) (stood standing.entry ∷ []) []) }
+{
+    let name = standing.entry.name;
+    make_room(alloc, seen, name)?;
+    match seen.get_mut(name as usize) {
+        Some(standings) => {
+            standings.push(standing)?;
+            Ok(())
+        }
+        None => Ok(()),
+    }
+}
+
+// Whether one of these entries and the given one break a rule.
+fn clash_with(rule: Rule, earlier: &[Standing], standing: &Standing) -> bool
+    ensures some { result ≡ true → Has (λ a. Clash rule a (stood standing.now)) (map stood earlier.now) }
+    ensures none { result ≡ false → Has (λ a. Clash rule a (stood standing.now)) (map stood earlier.now) → ⊥ }
+{
+    for other in earlier {
+        if clash(rule, other, standing) {
+            return true;
+        }
+    }
+    false
+}
+
+/// Whether one of the entries so far and the given one break a rule.
+pub(crate) fn is_clash(rule: Rule, seen: &[Vec<Standing>], standing: &Standing) -> bool
+    ensures some { result ≡ true → Has (λ a. Clash rule a (stood standing.now)) (seen_at seen.now (stood standing.now).entry.name) }
+    ensures none { result ≡ false → Has (λ a. Clash rule a (stood standing.now)) (seen_at seen.now (stood standing.now).entry.name) → ⊥ }
+{
+    match seen.get(standing.entry.name as usize) {
+        Some(earlier) => clash_with(rule, earlier.as_slice(), standing),
+        None => false,
+    }
+}

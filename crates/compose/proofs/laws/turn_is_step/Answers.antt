@@ -1,6 +1,0 @@
-use Rattle.compose.specs.Plans.{composition}
-use Rattle.compose.specs.TurnSteps.{turn_is_step as step_of_turn}
-use Rattle.compose.proofs.laws.turn_is_step.Goals as goal
-
-pub returns : goal.returns
-returns c i task choice state action is = step_of_turn (composition c.args.plan.now) c.args.plan.now.compatible c.args.plan.now.formed i task choice state action is

@@ -1,7 +1,0 @@
-use Rattle.std.proofs.Common.{◌∙◌}
-use Rattle.compose.specs.Plans.{composition}
-use Rattle.compose.specs.External.{open_somewhere}
-use Rattle.compose.proofs.plan.Plan.is_external.Goals as goal
-
-pub returns : goal.returns
-returns c = c.is_open_somewhere.ensures ∙ open_somewhere (composition c.args.self.now) c.args.action.now

@@ -1,7 +1,0 @@
-use Rattle.std.proofs.Common.{◌≡◌, map, take}
-use Rattle.terms.specs.TermTree.{term_tree}
-use Rattle.compose.specs.Steps.{start_value}
-use Rattle.compose.proofs.plan.step.start_values.Given as goal
-
-abbrev pub invariant-loop-term : goal.invariant-loop-term
-invariant-loop-term l = l.values.items ≡ map (start_value l.formals) (map term_tree (take l.term-index l.terms))

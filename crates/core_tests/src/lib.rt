@@ -1,0 +1,5 @@
+//! Tests of crates of the core, in a crate of their own, so that those aren't proved a second time with them.
+#![tactic(auto)]
+
+#[cfg(test)]
+mod tests;

@@ -1,0 +1,7 @@
+pub mod Converted
+pub mod Firsts
+pub mod Grown
+pub mod Marks
+pub mod Placed
+pub mod Rising
+pub mod Whole

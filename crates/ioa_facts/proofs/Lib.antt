@@ -1,0 +1,14 @@
+pub mod NoFaults
+pub mod SameHeads
+pub mod Apart
+pub mod Heads
+pub mod Entries
+pub mod Once
+pub mod Tally
+pub mod Partition
+pub mod Grown
+pub mod Within
+pub mod Slots
+pub mod Automata
+pub mod Filled
+pub mod Sizes

@@ -1,0 +1,3 @@
+mod Candidates
+mod Noted
+mod Pairs

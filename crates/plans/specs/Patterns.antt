@@ -1,0 +1,96 @@
+-- Where to look for the components that have an action as an input.
+use Rattle.std.specs.Prelude.{◌≡◌, ℕ, Bool as Truth, true, false, List, [], ◌∷◌, map, Option, None, Some, All, Contains, nat_eq}
+use Rattle.std.specs.declared.vec.Vec.{Vec}
+use Rattle.std.specs.Global.{Global}
+use Rattle.std.specs.Map.{lookup}
+use Rattle.terms.specs.Meaning.{slot}
+use Rattle.terms.specs.declared.scalar.Scalar.{Scalar}
+use Rattle.terms.specs.declared.scalar.Scalar.TheVariants as scalar
+use Rattle.plans.specs.declared.automaton.Kind.TheVariants.{Input}
+use Rattle.plans.specs.declared.automaton.Param.{Param}
+use Rattle.plans.specs.declared.automaton.Param.TheVariants.{Const, Member, Between, Whole}
+use Rattle.plans.specs.declared.index.Fixed.{Fixed}
+use Rattle.plans.specs.declared.index.Fixed.TheVariants as fixed
+use Rattle.plans.specs.declared.index.Pattern.{Pattern}
+use Rattle.plans.specs.contracts.index.PatternPartialEq.TheImpl as pattern_eq
+use Rattle.plans.specs.Automata.{Transition, Instance, component_at}
+use Rattle.plans.specs.Signatures.{same_kind}
+
+-- what an index keeps: masks under names, and numbers under patterns
+pub record Kept : Type 0 where
+  pub masks : List (ℕ × Vec (Vec Truth Global) Global)
+  pub numbers : List (Pattern × Vec ℕ Global)
+
+-- a value that a pattern asks for
+abbrev pub fixed_as : Scalar → Fixed
+fixed_as (scalar.Int z) = fixed.Int z
+fixed_as (scalar.Bool b) = fixed.Bool b
+fixed_as (scalar.Member n) = fixed.Member n
+
+-- which parameters an entry fixes: its mask
+abbrev pub fixes : Param → Truth
+fixes (Const n) = true
+fixes (Member members) = false
+fixes (Between low high) = false
+fixes Whole = false
+
+abbrev pub mask_of : List Param → List Truth
+mask_of params = map fixes params
+
+-- the values that an entry fixes, and free places
+abbrev pub asked : List Scalar → Param → Fixed
+asked formals (Const n) = fixed_as (slot formals n)
+asked formals (Member members) = fixed.Free
+asked formals (Between low high) = fixed.Free
+asked formals Whole = fixed.Free
+
+abbrev pub values_of : List Scalar → List Param → List Fixed
+values_of formals params = map (asked formals) params
+
+-- an action's arguments where a mask fixes them, and free places
+abbrev pub shown : Truth → Scalar → Fixed
+shown true value = fixed_as value
+shown false value = fixed.Free
+
+abbrev pub masked : List Truth → List Scalar → List Fixed
+masked [] args = []
+masked (flag ∷ mask) [] = []
+masked (flag ∷ mask) (value ∷ args) = shown flag value ∷ masked mask args
+
+-- the items of a vector, if there is one
+abbrev pub items_or_none : {X A : Type 0} → Option (Vec X A) → List X
+items_or_none None = []
+items_or_none (Some items) = items.items
+
+-- what stands in a table of lists under a key
+abbrev pub under : {K X A : Type 0} → (K → K → Truth) → List (K × Vec X A) → K → List X
+under eq table key = items_or_none (lookup (eq key) table)
+
+abbrev pub flags_of : {A : Type 0} → Vec Truth A → List Truth
+flags_of mask = mask.items
+
+-- the masks that stand under a name
+abbrev pub masks_in : {A B : Type 0} → List (ℕ × Vec (Vec Truth A) B) → ℕ → List (List Truth)
+masks_in masks name = map flags_of (under nat_eq masks name)
+
+-- the number stands under the pattern of this name and these values, wherever that lies in memory
+abbrev pub IsListed : {A : Type 0} → List (Pattern × Vec ℕ A) → ℕ → List Fixed → ℕ → Type 0
+IsListed numbers name values j = (pattern : Pattern) → pattern.name ≡ name → pattern.values.items ≡ values → Contains (under pattern_eq.ghosts.eq numbers pattern) j
+
+-- what stands in an index stands in a later one
+pub record Keeps (old new : Kept) : Type 0 where
+  pub masks : (name : ℕ) (mask : List Truth) → Contains (masks_in old.masks name) mask → Contains (masks_in new.masks name) mask
+  pub numbers : (name j : ℕ) (values : List Fixed) → IsListed old.numbers name values j → IsListed new.numbers name values j
+
+-- the index has an entry of component j: its mask under its name, and j under its pattern
+pub record IsNoted (index : Kept) (formals : List Scalar) (j : ℕ) (entry : Transition) : Type 0 where
+  pub mask : Contains (masks_in index.masks entry.name) (mask_of entry.params)
+  pub number : IsListed index.numbers entry.name (values_of formals entry.params) j
+
+-- the index has each input entry of component j
+abbrev pub HasInputs : Kept → ℕ → Instance → Type 0
+HasInputs index j component = All (λ entry. same_kind Input entry.kind ≡ true → IsNoted index component.formals j entry) component.entries
+
+-- the index has each input entry of each component
+abbrev pub IsIndexed : Kept → List Instance → Type 0
+IsIndexed index composition = (j : ℕ) → HasInputs index j (component_at composition j)

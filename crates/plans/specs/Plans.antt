@@ -1,0 +1,43 @@
+-- The composition that a plan stands for, and its texts.
+use Rattle.std.specs.Prelude.{◌≡◌, ℕ, List, [], ◌∷◌, map, slice_get, Option, None, Some, zero, suc, string_bytes, refl}
+use Rattle.terms.specs.ShapeTree.{ShapeTree, shape_tree}
+use Rattle.plans.specs.declared.automaton.Automaton.{Automaton}
+use Rattle.plans.specs.declared.automaton.Component.{Component}
+use Rattle.plans.specs.declared.automaton.ActionName.{ActionName}
+use Rattle.plans.specs.declared.plan.Plan.{Plan}
+use Rattle.plans.specs.Automata.{Instance, absent, component_at, composed, instance_of}
+
+-- the composition that a plan stands for
+abbrev pub composition : Plan → List Instance
+composition plan = composed plan.automata.items plan.components.items
+
+abbrev pub text_of : ActionName → List ℕ
+text_of name = string_bytes name.text
+
+-- the texts of the actions' names, in the order of their numbers, and of the members
+abbrev pub action_texts : Plan → List (List ℕ)
+action_texts plan = map text_of plan.actions.items
+
+-- the types of the parameters of the actions of a name
+abbrev pub types_of : ActionName → List ShapeTree
+types_of name = map shape_tree name.parameters.items
+
+abbrev pub action_types : Plan → List (List ShapeTree)
+action_types plan = map types_of plan.actions.items
+
+abbrev pub member_texts : Plan → List (List ℕ)
+member_texts plan = map string_bytes plan.members.items
+
+abbrev pub instance_in : List Automaton → Option Component → Instance
+instance_in automata None = absent
+instance_in automata (Some component) = instance_of automata component
+
+-- component i of a composition, from where the code has it
+pub component_found : (automata : List Automaton) (components : List Component) (i : ℕ) → component_at (composed automata components) i ≡ instance_in automata (slice_get components i)
+component_found automata [] i = refl
+component_found automata (component ∷ components) zero = refl
+component_found automata (component ∷ components) (suc i) = component_found automata components i
+
+abbrev pub automaton_in : List Automaton → Option Component → Option Automaton
+automaton_in automata None = None
+automaton_in automata (Some component) = slice_get automata component.automaton

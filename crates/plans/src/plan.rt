@@ -1,0 +1,32 @@
+//! A compatible composition.
+ghost use Rattle.std.specs.Prelude.{◌<◌, ◌^◌, vec_len};
+ghost use Rattle.plans.specs.Automata.{composed};
+ghost use Rattle.plans.specs.Compatible.{IsCompatible};
+ghost use Rattle.plans.specs.Patterns.{IsIndexed};
+ghost use Rattle.plans.specs.WellFormed.{IsWellFormed};
+
+mod choose;
+mod equal;
+mod find;
+mod names;
+mod parts;
+mod signature;
+mod step;
+
+use crate::automaton::{ActionName, Automaton, Component};
+use crate::index::Index;
+
+/// A composition of compatible automata. Components are numbered from 0; actions carry the numbers of their names, which
+/// are given in the order of the names' bytes; the members of all enumerations are numbered in the order of declaration.
+#[derive(Debug, Drop)]
+pub struct Plan {
+    automata: Vec<Automaton>,
+    components: Vec<Component>,
+    actions: Vec<ActionName>,
+    members: Vec<String>,
+    index: Index,
+    ghost few: { vec_len components < 2 ^ 16 },
+    ghost compatible: { IsCompatible (composed automata.items components.items) },
+    ghost formed: { IsWellFormed (composed automata.items components.items) },
+    ghost indexed: { ∥ IsIndexed index (composed automata.items components.items) ∥₁ },
+}

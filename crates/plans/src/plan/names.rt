@@ -1,0 +1,28 @@
+//! The texts of actions and members.
+ghost use Rattle.std.specs.Prelude.{◌≡◌, slice_get, option_copied};
+
+use crate::automaton::ActionName;
+use crate::plan::Plan;
+
+impl Plan {
+    ghost use Rattle.std.specs.Option.{option_map};
+    ghost use Rattle.plans.specs.Plans.{action_texts, action_types, member_texts, text_of, types_of};
+
+    /// The name of an action and the types of its parameters, by the name's number.
+    pub fn action_name(&self, name: u16) -> Option<&ActionName>
+        ensures text { option_map text_of (option_copied result) ≡ slice_get (action_texts self.now) name }
+        ensures types { option_map types_of (option_copied result) ≡ slice_get (action_types self.now) name }
+    {
+        self.actions.get(name as usize)
+    }
+
+    /// The text of a member of an enumeration, by its number.
+    pub fn member_name(&self, member: u16) -> Option<&str>
+        ensures { option_copied result ≡ slice_get (member_texts self.now) member }
+    {
+        match self.members.get(member as usize) {
+            Some(text) => Some(text.as_str()),
+            None => None,
+        }
+    }
+}

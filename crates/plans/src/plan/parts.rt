@@ -1,0 +1,41 @@
+//! A plan of its parts.
+ghost use Rattle.std.specs.Prelude.{◌≡◌, ◌<◌, ◌^◌, IfOk, map, vec_len, string_bytes};
+ghost use Rattle.plans.specs.Automata.{composed};
+ghost use Rattle.plans.specs.Compatible.{IsCompatible};
+ghost use Rattle.plans.specs.Plans.{composition, action_texts, action_types, member_texts, text_of, types_of};
+ghost use Rattle.plans.specs.WellFormed.{IsWellFormed};
+
+use crate::automaton::{ActionName, Automaton, Component};
+use crate::index::Index;
+use crate::plan::Plan;
+use std::alloc::Global;
+use terms::NoMemory;
+
+impl Plan {
+    /// A plan of compatible components: fewer than 65,536, each action of a component in one entry, and with tasks that are a
+    /// partition of what the component controls.
+    pub fn new(
+        alloc: Global,
+        automata: Vec<Automaton>,
+        components: Vec<Component>,
+        actions: Vec<ActionName>,
+        members: Vec<String>,
+    ) -> Result<Plan, NoMemory>
+        requires few { vec_len components < 2 ^ 16 }
+        requires compatible { IsCompatible (composed automata.items components.items) }
+        requires formed { IsWellFormed (composed automata.items components.items) }
+        ensures composition { IfOk result (λ plan. composition plan ≡ composed automata.items components.items) }
+        ensures actions { IfOk result (λ plan. action_texts plan ≡ map text_of actions.items) }
+        ensures types { IfOk result (λ plan. action_types plan ≡ map types_of actions.items) }
+        ensures members { IfOk result (λ plan. member_texts plan ≡ map string_bytes members.items) }
+    {
+        let index = Index::of(alloc, automata.as_slice(), components.as_slice())?;
+        Ok(Plan {
+            automata,
+            components,
+            actions,
+            members,
+            index,
+        })
+    }
+}

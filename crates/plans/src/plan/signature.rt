@@ -1,0 +1,172 @@
+//! The signatures of the components and of their composition.
+ghost use Rattle.std.specs.Prelude.{◌≡◌, ◌++◌, ◌∷◌, [], IfOk, OnOk, cond, length, int_le, int_lt, pos, ◌+ℤ◌, ◌&&◌, option_copied, find, filter, ℕ};
+ghost use Rattle.plans.specs.Automata.{transition_of};
+ghost use Rattle.plans.specs.Signatures.{is_member, fits_one, fits, has, kind_of, receives, receivers_of, is_external, is_open, takes_input, some_component};
+
+use crate::automaton::{Entry, Kind, Param};
+use crate::plan::Plan;
+use std::alloc::Global;
+use terms::evaluate::slot_of;
+use terms::{Action, Listed, NoMemory, Scalar};
+
+impl Plan {
+    ghost use Rattle.std.specs.Option.{option_map};
+    ghost use Rattle.plans.specs.Automata.{component_at};
+    ghost use Rattle.plans.specs.Steps.{entry_in};
+    ghost use Rattle.plans.specs.Plans.{composition};
+
+    pub(super) fn entry(&self, i: u16, action: &Action) -> Option<&Entry>
+        ensures { option_map transition_of (option_copied result) ≡ entry_in (component_at (composition self.now) i) action.now }
+    {
+        first_with(self.entries(i), self.formals(i), action)
+    }
+
+    /// The kind under which component `i` has an action in its own signature, or none where it doesn't have it.
+    pub fn kind(&self, i: u16, action: &Action) -> Option<Kind>
+        ensures { result ≡ kind_of (composition self.now) i action.now }
+    {
+        match self.entry(i, action) {
+            Some(entry) => Some(entry.kind),
+            None => None,
+        }
+    }
+
+    /// The components that take an action of `sender` as an input, each once and in order.
+    #[tactic(auto, using(crate::specs::Rows::filter_next))]
+    pub fn receivers(
+        &self,
+        alloc: Global,
+        action: &Action,
+        sender: u16,
+    ) -> Result<Vec<u16>, NoMemory>
+        ensures { IfOk result (λ receivers. receivers.items ≡ receivers_of (composition self.now) action.now sender) }
+    {
+        let candidates = self.candidates(alloc, action)?;
+        let mut receivers = Vec::new(alloc);
+        for j in &candidates {
+            let takes = *j != sender && takes_input(self.kind(*j, action));
+            push_if(&mut receivers, takes, *j)?;
+        }
+        Ok(receivers)
+    }
+
+    // Those that take the action are its receivers, whoever sends it.
+    fn candidates(&self, alloc: Global, action: &Action) -> Result<Vec<u16>, NoMemory>
+        ensures { IfOk result (λ found. (sender : ℕ) → filter (receives (composition self.now) sender action.now) found.items ≡ receivers_of (composition self.now) action.now sender) }
+    {
+        let found = self.index.candidates(alloc, action)?;
+        Ok(found)
+    }
+
+    /// Whether an action is an input or an output of the composition.
+    pub fn is_external(&self, action: &Action) -> bool
+        ensures { result ≡ is_external (composition self.now) action.now }
+    {
+        self.is_open_somewhere(action)
+    }
+
+    fn is_open_somewhere(&self, action: &Action) -> bool
+        ensures { result ≡ some_component (composition self.now) (λ j. is_open (kind_of (composition self.now) j action.now)) }
+    {
+        (0..self.components()).any(|j| is_open(self.kind(j, action)))
+    }
+}
+
+fn first_with<'a>(entries: &'a [Entry], formals: &[Scalar], action: &Action) -> Option<&'a Entry>
+    ensures { option_copied result ≡ find (λ entry. has formals.now action.now (transition_of entry)) entries.now }
+{
+    entries.iter().find(|entry| has(formals, action, entry))
+}
+
+fn push_if(numbers: &mut Vec<u16>, test: bool, number: u16) -> Result<(), NoMemory>
+    ensures { OnOk result (numbers.new.items ≡ numbers.old.items ++ cond test (number ∷ []) []) }
+{
+    if test {
+        numbers.push(number)?;
+    }
+    Ok(())
+}
+
+fn takes_input(kind: Option<Kind>) -> bool
+    ensures { result ≡ takes_input kind }
+{
+    match kind {
+        Some(Kind::Input) => true,
+        Some(Kind::Output) => false,
+        Some(Kind::Internal) => false,
+        None => false,
+    }
+}
+
+fn is_open(kind: Option<Kind>) -> bool
+    ensures { result ≡ is_open kind }
+{
+    match kind {
+        Some(Kind::Input) => true,
+        Some(Kind::Output) => true,
+        Some(Kind::Internal) => false,
+        None => false,
+    }
+}
+
+fn is_number_of(low: i64, count: u16, number: i64) -> bool
+    ensures { result ≡ (int_le low number && int_lt number (low +ℤ pos count)) }
+{
+    low <= number && number.abs_diff(low) < count as u64
+}
+
+fn is_member(listed: Listed, value: Scalar) -> bool
+    ensures { result ≡ is_member listed value }
+{
+    match (listed, value) {
+        (Listed::Bool, Scalar::Int(_)) => false,
+        (Listed::Bool, Scalar::Bool(_)) => true,
+        (Listed::Bool, Scalar::Member(_)) => false,
+        (Listed::Range { low, count }, Scalar::Int(number)) => is_number_of(low, count, number),
+        (Listed::Range { low: _, count: _ }, Scalar::Bool(_)) => false,
+        (Listed::Range { low: _, count: _ }, Scalar::Member(_)) => false,
+        (Listed::Enumeration { first: _, count: _ }, Scalar::Int(_)) => false,
+        (Listed::Enumeration { first: _, count: _ }, Scalar::Bool(_)) => false,
+        (Listed::Enumeration { first, count }, Scalar::Member(member)) => {
+            first <= member && (member as u32) < first as u32 + count as u32
+        }
+    }
+}
+
+fn fits_one(formals: &[Scalar], param: Param, value: Scalar) -> bool
+    ensures { result ≡ fits_one formals.now param value }
+{
+    match param {
+        Param::Const(n) => slot_of(formals, n) == value,
+        Param::Member(listed) => is_member(listed, value),
+        Param::Between(low, high) => match value {
+            Scalar::Int(number) => low <= number && number <= high,
+            Scalar::Bool(_) => false,
+            Scalar::Member(_) => false,
+        },
+        Param::Whole => match value {
+            Scalar::Int(_) => true,
+            Scalar::Bool(_) => false,
+            Scalar::Member(_) => false,
+        },
+    }
+}
+
+fn fits(formals: &[Scalar], params: &[Param], args: &[Scalar]) -> bool
+    ensures { result ≡ fits formals.now params.now args.now }
+{
+    match (params.split_first(), args.split_first()) {
+        (None, None) => true,
+        (Some((param, params)), Some((value, args))) => {
+            fits_one(formals, *param, *value) && fits(formals, params, args)
+        }
+        (None, Some(_)) => false,
+        (Some(_), None) => false,
+    }
+}
+
+fn has(formals: &[Scalar], action: &Action, entry: &Entry) -> bool
+    ensures { result ≡ has formals.now action.now (transition_of entry.now) }
+{
+    entry.name == action.name && fits(formals, entry.params.as_slice(), action.args.as_slice())
+}

@@ -1,0 +1,4 @@
+pub mod Standing
+pub mod Taking
+pub mod Verdicts
+pub mod Views

@@ -1,0 +1,39 @@
+-- A simulator as its callers see it, and turns as the theory has them.
+use Rattle.std.specs.Prelude.{◌≡◌, ℕ, ◌≤◌, Option, None, Some, List, [], ◌∷◌, map, reverse}
+use Rattle.terms.specs.Datum.{Datum}
+use Rattle.terms.specs.Named.{Named}
+use Rattle.event_keys.specs.declared.outcome.Turned.{Turned}
+use Rattle.event_keys.specs.Entries.{action_of}
+use Rattle.event_keys.specs.Ranks.{rank}
+use Rattle.virtual_time.specs.Machine.{Machine}
+use Rattle.virtual_time.specs.Executions.{add_action}
+use Rattle.virtual_time.specs.Reference.{Turn, IsNext, IsReference, after, reference_below}
+
+-- a setup, and the turns that were taken, the last one first
+pub record Ran (P : Type 0) : Type 0 where
+  pub setup : P
+  pub taken : List (Turn Named)
+
+-- a turn of the code as one of the theory
+abbrev pub turn_of : Turned → Turn Named
+turn_of turned = record { key = rank turned.key; outcome = action_of turned.outcome }
+
+-- turns in the order of their keys as the theory has them, the last one first
+abbrev pub turns_of : List Turned → List (Turn Named)
+turns_of turns = reverse (map turn_of turns)
+
+-- the actions of turns, idle turns left out
+abbrev pub actions_of : List Turned → List Named
+actions_of [] = []
+actions_of (turned ∷ turns) = add_action (action_of turned.outcome) (actions_of turns)
+
+-- one more turn is taken, the next one; or all turns that there are were taken
+abbrev pub IsStep : Machine (List Datum) Named → List (Turn Named) → Option Turned → List (Turn Named) → Type 0
+IsStep m old None new = IsReference m m.top old × (new ≡ old)
+IsStep m old (Some turned) new = IsNext m (after m old) (turn_of turned) × (new ≡ turn_of turned ∷ old)
+
+-- these turns are all that have keys below some bound
+pub record IsWhole (m : Machine (List Datum) Named) (taken : List (Turn Named)) : Type 0 where
+  pub bound : ℕ
+  pub within : bound ≤ m.top
+  pub is : taken ≡ reference_below m bound

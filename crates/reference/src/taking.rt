@@ -1,0 +1,142 @@
+//! Turns, and the components that take their actions.
+ghost use Rattle.std.specs.Prelude.{◌≡◌, ◌<◌, ◌∷◌, [], ℕ, true, Some, IfOk, IfSome, IsSome, OnOk, OnErr, length, option_map, slice_get};
+ghost use Rattle.event_keys.specs.Entries.{action_of};
+ghost use Rattle.undo_records.specs.States.{States};
+ghost use Rattle.plans.specs.Plans.{composition};
+ghost use Rattle.plans.specs.Receivers.{IsIn};
+ghost use Rattle.plans.specs.Steps.{applied};
+ghost use Rattle.task_seed.specs.Setups.{system, plan_of};
+ghost use Rattle.task_seed.specs.Turning.{key_of};
+ghost use Rattle.task_seed.specs.Machines.{machine, turn_outcome};
+ghost use Rattle.reference.specs.Taking.{Distinct, taking, joining};
+
+use event_keys::{Key, Outcome, Turned};
+use plans::Plan;
+use std::alloc::Global;
+use task_seed::laws::machine_is_lawful;
+use task_seed::{Setup, Turns};
+use terms::{Action, NoMemory};
+use undo_records::Store;
+
+// Marks the state, and changes it by an action.
+fn advance(
+    alloc: Global,
+    plan: &Plan,
+    i: u16,
+    action: &Action,
+    state: &mut Store,
+) -> Result<(), NoMemory>
+    ensures ok { OnOk result (state.new ≡ record { current = applied (composition plan.now) i action.now state.old.current; below = state.old.current ∷ state.old.below }) }
+    ensures err { OnErr result (state.new ≡ state.old) }
+{
+    state.mark(alloc)?;
+    if let Err(refused) = plan.apply(alloc, i, action, state) {
+        state.undo();
+        return Err(refused);
+    }
+    Ok(())
+}
+
+// An action is taken by some components. Each one's state is marked until all that follow have taken it, so a refusal
+// leaves the states as they were, and no state is copied.
+fn take_action(
+    alloc: Global,
+    plan: &Plan,
+    action: &Action,
+    takers: &[u16],
+    states: &mut [Store],
+) -> Result<(), NoMemory>
+    requires once { Distinct takers.now }
+    requires within { (j : ℕ) → IsIn j takers.now ≡ true → j < length states.old }
+    requires plain { (j : ℕ) (state : States) → IsIn j takers.now ≡ true → slice_get states.old j ≡ Some state → state.below ≡ [] }
+    ensures ok { OnOk result ((j : ℕ) → slice_get states.new j ≡ option_map (taking (composition plan.now) action.now takers.now j) (slice_get states.old j)) }
+    ensures many { length states.new ≡ length states.old }
+    ensures err { OnErr result (states.new ≡ states.old) }
+{
+    let Some((taker, others)) = takers.split_first() else {
+        return Ok(());
+    };
+    let place = usize::from(*taker);
+    advance(alloc, plan, *taker, action, &mut states[place])?;
+    match take_action(alloc, plan, action, others, states) {
+        Ok(()) => {
+            states[place].forget_first(1);
+            Ok(())
+        }
+        Err(refused) => {
+            states[place].undo();
+            Err(refused)
+        }
+    }
+}
+
+// What comes of turn `n` of component `i` in its state.
+fn outcome_at<T: Turns>(
+    alloc: Global,
+    setup: &Setup<T>,
+    i: u16,
+    n: u64,
+    state: &Store,
+) -> Result<Outcome, NoMemory>
+    requires { IsSome (key_of (system T.turn_of setup.now) i n) }
+    ensures { IfOk result (λ outcome. action_of outcome ≡ turn_outcome (system T.turn_of setup.now) i n state.now.current) }
+{
+    let Some(turn) = setup.turn_at(i, n) else {
+        return Ok(Outcome::Idle);
+    };
+    match setup
+        .plan()
+        .outcome(alloc, i, turn.task, turn.choice, state)?
+    {
+        None => Ok(Outcome::Idle),
+        Some(action) => Ok(Outcome::Did(action)),
+    }
+}
+
+// What came of component `i`'s turn is taken by it and by each receiver.
+fn take_outcome<T: Turns>(
+    alloc: Global,
+    setup: &Setup<T>,
+    i: u16,
+    outcome: &Outcome,
+    states: &mut [Store],
+) -> Result<(), NoMemory>
+    requires within { i < length (composition (plan_of setup.now)) }
+    requires many { length states.old ≡ length (composition (plan_of setup.now)) }
+    requires plain { (j : ℕ) (state : States) → slice_get states.old j ≡ Some state → state.below ≡ [] }
+    ensures ok { OnOk result ((j : ℕ) → slice_get states.new j ≡ option_map (joining (machine (system T.turn_of setup.now)) i (action_of outcome.now) j) (slice_get states.old j)) }
+    ensures many { length states.new ≡ length states.old }
+    ensures err { OnErr result (states.new ≡ states.old) }
+{
+    machine_is_lawful(setup);
+    let Outcome::Did(action) = outcome else {
+        return Ok(());
+    };
+    let plan = setup.plan();
+    let mut takers = plan.receivers(alloc, action, i)?;
+    takers.push(i)?;
+    take_action(alloc, plan, action, &takers, states)
+}
+
+/// Takes the turn of a key. A refusal leaves the states as they were.
+pub(crate) fn take_turn<T: Turns>(
+    alloc: Global,
+    setup: &Setup<T>,
+    key: Key,
+    states: &mut [Store],
+) -> Result<Turned, NoMemory>
+    requires there { Some key ≡ key_of (system T.turn_of setup.now) key.component key.number }
+    requires within { key.component < length (composition (plan_of setup.now)) }
+    requires many { length states.old ≡ length (composition (plan_of setup.now)) }
+    requires plain { (j : ℕ) (state : States) → slice_get states.old j ≡ Some state → state.below ≡ [] }
+    ensures key { IfOk result (λ turned. turned.key ≡ key) }
+    ensures outcome { IfOk result (λ turned. IfSome (slice_get states.old key.component) (λ state. action_of turned.outcome ≡ turn_outcome (system T.turn_of setup.now) key.component key.number state.current)) }
+    ensures states { IfOk result (λ turned. (j : ℕ) → slice_get states.new j ≡ option_map (joining (machine (system T.turn_of setup.now)) key.component (action_of turned.outcome) j) (slice_get states.old j)) }
+    ensures many { length states.new ≡ length states.old }
+    ensures err { OnErr result (states.new ≡ states.old) }
+{
+    let i = key.component;
+    let outcome = outcome_at(alloc, setup, i, key.number, &states[usize::from(i)])?;
+    take_outcome(alloc, setup, i, &outcome, states)?;
+    Ok(Turned { key, outcome })
+}

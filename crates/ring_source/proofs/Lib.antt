@@ -1,0 +1,4 @@
+pub mod Compatible
+pub mod Computed
+pub mod Faultless
+pub mod Proper

@@ -1,0 +1,3 @@
+pub mod Ring
+pub mod RingRuns
+pub mod Source

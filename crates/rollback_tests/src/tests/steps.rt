@@ -1,0 +1,220 @@
+//! Rows of steps of one component, each with its answer, and what runs them.
+
+use super::given::{Given, Held, NOTHING, Node, Pass, bag, cell, message, plus, start};
+use antimessage::Bag;
+use event_keys::{Bound, Key, Outcome, Turned};
+use raw_events::EventList;
+use rollback::{Copies, ProcessRefused, Trip};
+use std::alloc::{AllocGlobal, Global};
+use std::process::Abort;
+use terms::{Action, NoMemory};
+
+/// A component with what it posted, the copies of it, and the dropped turns.
+#[derive(Drop)]
+pub(crate) struct Bench {
+    pub(crate) node: Node,
+    pub(crate) out: Bag,
+    pub(crate) copies: Copies,
+    dropped: EventList<Turned>,
+}
+
+pub(crate) fn at_start(alloc: Global, given: Given, number: u16) -> Result<Bench, NoMemory> {
+    Ok(Bench {
+        node: start(alloc, given, number)?,
+        out: Bag::new(),
+        copies: Copies::new(),
+        dropped: EventList::new(),
+    })
+}
+
+/// Nothing is left to process.
+pub(crate) const ENDED: Result<Key, ProcessRefused> = Err(ProcessRefused::NothingPending);
+
+/// What is done with its answer, or what is seen.
+#[derive(Clone, Copy)]
+pub(crate) enum Step {
+    /// Does the next entry.
+    Process(Result<Key, ProcessRefused>),
+    /// Does the next entry with copies.
+    Copy(Result<Key, ProcessRefused>),
+    /// A message or antimessage comes; the answer is the number of the entries taken back.
+    Come(Pass, u64),
+    /// Takes the last entry back; the answer is whether there was one.
+    RollBack(bool),
+    /// Goes at most so many entries and comes back.
+    Go(u32, Trip),
+    /// Two messages of what was posted annihilate.
+    Meet(Pass),
+    /// Drops what is below the bound.
+    Drop(Bound),
+    /// The next dropped turn was idle.
+    Idled(Key),
+    /// The next dropped turn passed the token on.
+    Passed(Key),
+    /// There is no further dropped turn.
+    NoneDropped,
+    /// The key of the next entry.
+    Next(Bound),
+    /// The bound of the base.
+    Base(Bound),
+    /// What was posted.
+    Out(Held, Held),
+    /// What there is in each of the two bags of copies.
+    Copied(Held, Held),
+    /// Whether these messages were taken, with these in the tray.
+    Taken(Held, Held, bool),
+    /// Whether these messages stand, with these that have not left.
+    Standing(Held, Held, bool),
+}
+
+/// The bag of what was posted.
+pub(crate) const fn out(held: Held) -> Step {
+    Step::Out(held, NOTHING)
+}
+
+/// Nothing was posted.
+pub(crate) const EMPTY: Step = Step::Out(NOTHING, NOTHING);
+
+/// Whether the step's answer is the one that it says.
+pub(crate) fn does(alloc: Global, bench: &mut Bench, step: Step) -> Result<bool, NoMemory> {
+    match step {
+        Step::Process(wanted) => Ok(bench.node.process(alloc, &mut bench.out) == wanted),
+        Step::Copy(wanted) => Ok(does_copied(alloc, bench, wanted)),
+        Step::Come(pass, taken_back) => comes(alloc, bench, pass, taken_back),
+        Step::RollBack(wanted) => Ok(bench.node.roll_back(&mut bench.out) == wanted),
+        Step::Go(most, wanted) => Ok(goes(alloc, bench, most, wanted)),
+        Step::Meet(pass) => Ok(bench.out.meet(&message(alloc, pass)?)),
+        Step::Drop(bound) => Ok(drops(bench, bound)),
+        Step::Idled(key) => Ok(has_idled(&mut bench.dropped, key)),
+        Step::Passed(key) => has_passed(alloc, &mut bench.dropped, key),
+        Step::NoneDropped => Ok(bench.dropped.peek_next().is_none()),
+        Step::Next(bound) => Ok(bench.node.next() == bound),
+        Step::Base(bound) => Ok(bench.node.base() == bound),
+        Step::Out(first, second) => is_bag(alloc, &bench.out, first, second),
+        Step::Copied(first, second) => is_copied(alloc, &bench.copies, first, second),
+        Step::Taken(known, tray, wanted) => is_taken(alloc, &bench.node, known, tray, wanted),
+        Step::Standing(known, out, wanted) => is_standing(alloc, &bench.node, known, out, wanted),
+    }
+}
+
+fn does_copied(alloc: Global, bench: &mut Bench, wanted: Result<Key, ProcessRefused>) -> bool {
+    let done = bench
+        .node
+        .process_copied(alloc, &mut bench.out, &mut bench.copies);
+    done == wanted
+}
+
+fn comes(alloc: Global, bench: &mut Bench, pass: Pass, taken_back: u64) -> Result<bool, NoMemory> {
+    let cell = cell(alloc, pass)?;
+    if cell.value().message.to != bench.node.number() {
+        return Ok(false);
+    }
+    Ok(bench.node.deliver(cell, &mut bench.out) == taken_back)
+}
+
+fn goes(alloc: Global, bench: &mut Bench, most: u32, wanted: Trip) -> bool {
+    bench.node.is_in_order();
+    bench.node.there_and_back(alloc, most, &mut bench.out) == wanted
+}
+
+fn drops(bench: &mut Bench, bound: Bound) -> bool {
+    bench.dropped = bench.node.drop_below(bound);
+    true
+}
+
+fn has_idled(turns: &mut EventList<Turned>, key: Key) -> bool {
+    match turns.take_first() {
+        Some(cell) => cell.value().key == key && cell.value().outcome == Outcome::Idle,
+        None => false,
+    }
+}
+
+fn has_passed(alloc: Global, turns: &mut EventList<Turned>, key: Key) -> Result<bool, NoMemory> {
+    let action = message(alloc, plus(key))?.action;
+    Ok(match turns.take_first() {
+        Some(cell) => cell.value().key == key && did(&cell.value().outcome, &action),
+        None => false,
+    })
+}
+
+fn did(outcome: &Outcome, action: &Action) -> bool {
+    match outcome {
+        Outcome::Did(done) => *done == *action,
+        Outcome::Idle => false,
+    }
+}
+
+fn is_bag(alloc: Global, held: &Bag, first: Held, second: Held) -> Result<bool, NoMemory> {
+    Ok(*held == bag(alloc, first, second)?)
+}
+
+fn is_copied(alloc: Global, copies: &Copies, first: Held, second: Held) -> Result<bool, NoMemory> {
+    let of_sender = is_bag(alloc, &copies.of_sender, first, second)?;
+    let of_receiver = is_bag(alloc, &copies.of_receiver, first, second)?;
+    Ok(of_sender && of_receiver)
+}
+
+fn is_taken(
+    alloc: Global,
+    node: &Node,
+    known: Held,
+    tray: Held,
+    wanted: bool,
+) -> Result<bool, NoMemory> {
+    let known = bag(alloc, known, NOTHING)?;
+    let tray = bag(alloc, tray, NOTHING)?;
+    Ok(node.has_taken(&known, &tray) == wanted)
+}
+
+fn is_standing(
+    alloc: Global,
+    node: &Node,
+    known: Held,
+    out: Held,
+    wanted: bool,
+) -> Result<bool, NoMemory> {
+    let known = bag(alloc, known, NOTHING)?;
+    let out = bag(alloc, out, NOTHING)?;
+    Ok(node.has_standing(&known, &out) == wanted)
+}
+
+fn run(rt: &(impl Abort + AllocGlobal), bench: &mut Bench, steps: &[Step]) -> Result<(), NoMemory> {
+    for (k, step) in steps.iter().enumerate() {
+        assert!(rt; does(rt.alloc(), bench, *step)?, "at step {k}");
+    }
+    Ok(())
+}
+
+/// A component of the ring after these steps.
+pub(crate) fn ran(
+    rt: &(impl Abort + AllocGlobal),
+    number: u16,
+    steps: &[Step],
+) -> Result<Bench, NoMemory> {
+    let mut bench = at_start(rt.alloc(), Given::Ring, number)?;
+    run(rt, &mut bench, steps)?;
+    Ok(bench)
+}
+
+/// A component of the ring takes these steps.
+pub(crate) fn assert_runs(
+    rt: &(impl Abort + AllocGlobal),
+    number: u16,
+    steps: &[Step],
+) -> Result<(), NoMemory> {
+    let _bench = ran(rt, number, steps)?;
+    Ok(())
+}
+
+/// A component of the ring is the same after these steps and after those.
+pub(crate) fn assert_same(
+    rt: &(impl Abort + AllocGlobal),
+    number: u16,
+    steps: &[Step],
+    others: &[Step],
+) -> Result<(), NoMemory> {
+    let first = ran(rt, number, steps)?;
+    let second = ran(rt, number, others)?;
+    assert!(rt; first.node == second.node);
+    Ok(())
+}

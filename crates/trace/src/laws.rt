@@ -1,0 +1,28 @@
+//! That a trace file says one thing, and that what is written is read back.
+ghost use Rattle.std.specs.Prelude.{◌≡◌, ◌≢◌, ℕ, List};
+ghost use Rattle.std.specs.List.{AllByRecursion};
+ghost use Rattle.event_keys.specs.declared.outcome.Turned.{Turned};
+ghost use Rattle.terms.specs.Named.{Named};
+ghost use Rattle.plans.specs.declared.plan.Plan.{Plan};
+ghost use Rattle.task_seed.specs.Table.{lines_of};
+ghost use Rattle.trace.specs.declared.fault.TraceError.{TraceError};
+ghost use Rattle.trace.specs.declared.fault.TraceError.TheVariants.{NoMemory};
+ghost use Rattle.trace.specs.declared.lines.Lines.TheVariants.{All};
+ghost use Rattle.trace.specs.Lines.{text_of};
+ghost use Rattle.trace.specs.TraceFile.{Gives, IsTraceFault};
+ghost use Rattle.trace.specs.Written.{Line, line_text, IsLine};
+ghost use Rattle.trace.specs.WrittenTurns.{IsTurn, actions_done};
+
+/// A text is that of one line, lines give one list of actions, a file that gives actions has no fault, and a file has one
+/// fault at most, beside the want of memory.
+pub fn one_reading_law()
+    ensures line { (plan : Plan) (line other : Line) → IsLine plan line → IsLine plan other → line_text plan line ≡ line_text plan other → line ≡ other }
+    ensures actions { (plan : Plan) (texts : List (List ℕ)) (actions others : List Named) → Gives plan texts actions → Gives plan texts others → actions ≡ others }
+    ensures apart { (plan : Plan) (bytes : List ℕ) (actions : List Named) (error : TraceError) → Gives plan (lines_of bytes) actions → IsTraceFault plan bytes error → error ≡ NoMemory }
+    ensures fault { (plan : Plan) (bytes : List ℕ) (error other : TraceError) → error ≢ NoMemory → other ≢ NoMemory → IsTraceFault plan bytes error → IsTraceFault plan bytes other → error ≡ other }
+{}
+
+/// The text of turns, as [`write_turns`](crate::write_turns) writes all of them, is a trace that gives their actions.
+pub fn read_back_law()
+    ensures { (plan : Plan) (turns : List Turned) → AllByRecursion (IsTurn plan) turns → Gives plan (lines_of (text_of plan All turns)) (actions_done turns) }
+{}
