@@ -1,5 +1,6 @@
 pub mod Checked
 mod Joining
+mod Queued
 pub mod Runs
 mod Scheduled
 mod Stepping

@@ -1,3 +1,4 @@
+pub mod Queues
 pub mod Standing
 pub mod Taking
 pub mod Verdicts

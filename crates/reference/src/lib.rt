@@ -2,6 +2,7 @@
 #![tactic(auto)]
 
 pub mod checking;
+mod frontier;
 pub mod scheduling;
 pub mod simulator;
 mod taking;

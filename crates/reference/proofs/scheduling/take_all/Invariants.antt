@@ -1,15 +1,17 @@
 use Rattle.std.proofs.Common.{◌≡◌, ◌-◌, length}
+use Rattle.std.specs.BinaryHeap.{heap_items}
 use Rattle.task_seed.specs.Setups.{system}
 use Rattle.task_seed.specs.Machines.{machine, end_rank}
 use Rattle.virtual_time.specs.Reference.{reference_below}
+use Rattle.reference.specs.Standing.{taken_at, Stands}
 use Rattle.reference.specs.Views.{turns_of}
 use Rattle.reference.proofs.scheduling.take_all.Given as goal
 
 abbrev pub invariant-loop-turns : goal.invariant-loop-turns
 invariant-loop-turns g l = record {
-  setup : l.simulator.setup ≡ l.fn.simulator.setup;
-  taken : turns_of l.turns.items ≡ l.simulator.taken;
+  stands : Stands (system g.T.Turns.turn_of l.setup) (heap_items l.frontier.queue) l.frontier.states.items;
+  taken : turns_of l.turns.items ≡ taken_at (system g.T.Turns.turn_of l.setup) (heap_items l.frontier.queue);
 }
 
 abbrev pub decreases-loop-turns : goal.decreases-loop-turns
-decreases-loop-turns g l = length (reference_below (machine (system g.T.Turns.turn_of l.fn.simulator.setup)) end_rank) - length l.simulator.taken
+decreases-loop-turns g l = length (reference_below (machine (system g.T.Turns.turn_of l.setup)) end_rank) - length (taken_at (system g.T.Turns.turn_of l.setup) (heap_items l.frontier.queue))

@@ -5,7 +5,7 @@ use Rattle.undo_records.specs.States.{States}
 use Rattle.plans.specs.Plans.{composition}
 use Rattle.plans.specs.Steps.{start_of}
 use Rattle.reference.specs.Taking.{plain}
-use Rattle.reference.proofs.simulator.start_states.Goals as goal
+use Rattle.reference.proofs.frontier.start_states.Goals as goal
 
 pub loop-i-preserved : goal.loop-i-preserved
 loop-i-preserved c =

@@ -3,7 +3,7 @@ use Rattle.std.specs.List.{range_with_len}
 use Rattle.plans.specs.Plans.{composition}
 use Rattle.plans.specs.Steps.{start_of}
 use Rattle.reference.specs.Taking.{plain}
-use Rattle.reference.proofs.simulator.start_states.Given as goal
+use Rattle.reference.proofs.frontier.start_states.Given as goal
 
 abbrev pub invariant-loop-i : goal.invariant-loop-i
 invariant-loop-i l = l.states.items ≡ map (λ i. plain (start_of (composition l.plan) i)) (range_with_len 0 l.i)
