@@ -1,4 +1,3 @@
 pub mod Judged
 pub mod Refusals
 pub mod Simulated
-pub mod Went

@@ -1,9 +1,7 @@
 //! The engine of `check`.
-ghost use Rattle.std.specs.Prelude.{◌≡◌, ◌<◌, IfErr, IfOk, OnOk, OnErr};
-ghost use Rattle.trace.specs.Counts.{failures_of};
-ghost use Rattle.trace.specs.Puts.{written_of};
+ghost use Rattle.std.specs.Prelude.{◌≡◌, IfErr, IfOk};
+ghost use Rattle.trace.specs.Went.{IsStopped, IsWritten};
 ghost use Rattle.commands.specs.Judged.{IsJudged, IsUnjudged, verdict_text};
-ghost use Rattle.commands.specs.Went.{IsStopped, IsWritten};
 
 use crate::fault::CheckFault;
 use itoa::Buffer;
@@ -11,7 +9,7 @@ use plans::Plan;
 use reference::{Verdict, check_run};
 use std::alloc::{AllocError, Global};
 use std::io::Write;
-use trace::{Counted, WriteFault, read_trace};
+use trace::{Counted, read_trace, write_text};
 
 /// Reads actions, judges them by a composition, and writes the line of the verdict: `schedule`, `not enabled at K` or
 /// `not an action at K`, where K is the number of the first action at fault, counted from 0.
@@ -26,7 +24,6 @@ pub fn check_trace<W: Write>(
     trace: &[u8],
     out: &mut Counted<W>,
 ) -> Result<Verdict, CheckFault>
-    requires failures { failures_of out.old < u64.MAX }
     ensures judged { IfOk result (λ verdict. IsJudged plan.now trace.now verdict (IsWritten W.contents out.old out.new)) }
     ensures unjudged { IfErr result (IsUnjudged plan.now trace.now (out.new ≡ out.old) (IsStopped W.contents out.old out.new)) }
 {
@@ -66,16 +63,4 @@ fn verdict_text(alloc: Global, verdict: Verdict) -> Result<Vec<u8>, AllocError>
     }
     text.push(b'\n')?;
     Ok(text)
-}
-
-// Writes a text, up to the first write that fails.
-fn write_text<W: Write>(text: &[u8], out: &mut Counted<W>) -> Result<(), WriteFault>
-    requires failures { failures_of out.old < u64.MAX }
-    ensures ok { OnOk result (IsWritten W.contents out.old out.new text.now) }
-    ensures err { IfErr result (λ fault. IsStopped W.contents out.old out.new text.now (written_of fault)) }
-{
-    match out.write_piece(text) {
-        Ok(()) => Ok(()),
-        Err(written) => Err(WriteFault::WriteFailed(written as u64)),
-    }
 }

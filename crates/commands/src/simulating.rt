@@ -1,10 +1,10 @@
 //! The engine of `reference`.
-ghost use Rattle.std.specs.Prelude.{◌≡◌, ◌<◌, IfErr, OnOk};
-ghost use Rattle.std.specs.Arc.{arc_value};
-ghost use Rattle.trace.specs.Counts.{failures_of};
+ghost use Rattle.std.specs.Prelude.{◌≡◌, IfErr, OnOk};
+ghost use Rattle.task_seed.specs.Setups.{plan_of, system};
 ghost use Rattle.trace.specs.Lines.{text_of};
+ghost use Rattle.trace.specs.Puts.{Stops};
+ghost use Rattle.trace.specs.Went.{IsWritten};
 ghost use Rattle.commands.specs.Simulated.{IsSimulated, IsUnsimulated};
-ghost use Rattle.commands.specs.Went.{IsCutShort, IsWritten};
 
 use crate::fault::SimulateFault;
 use event_keys::Turned;
@@ -12,7 +12,6 @@ use plans::Plan;
 use reference::schedule;
 use std::alloc::Global;
 use std::io::Write;
-use std::sync::Arc;
 use task_seed::{Setup, Turns};
 use trace::{Counted, Lines, WriteFault, write_turns};
 
@@ -23,15 +22,14 @@ use trace::{Counted, Lines, WriteFault, write_turns};
 /// `NoMemory`; then nothing is written. `Write` where a write failed, with the number of the text's bytes that went out before.
 pub fn simulate<T: Turns, W: Write>(
     alloc: Global,
-    setup: Arc<Setup<T>>,
+    setup: &Setup<T>,
     lines: Lines,
     out: &mut Counted<W>,
 ) -> Result<(), SimulateFault>
-    requires failures { failures_of out.old < u64.MAX }
-    ensures simulated { OnOk result (IsSimulated T.turn_of (arc_value setup) lines (IsWritten W.contents out.old out.new)) }
-    ensures unsimulated { IfErr result (IsUnsimulated T.turn_of (arc_value setup) lines (out.new ≡ out.old) (IsCutShort W.contents out.old out.new)) }
+    ensures simulated { OnOk result (IsSimulated (plan_of setup.now) (system T.turn_of setup.now) lines (IsWritten W.contents out.old out.new)) }
+    ensures unsimulated { IfErr result (IsUnsimulated (plan_of setup.now) (system T.turn_of setup.now) lines (out.new ≡ out.old) (Stops W.contents out.old out.new 0)) }
 {
-    let turns = schedule(alloc, Arc::try_clone(&setup)?)?;
+    let turns = schedule(alloc, setup)?;
     match write_all(setup.plan(), turns.as_slice(), lines, out) {
         Ok(()) => Ok(()),
         Err(fault) => Err(SimulateFault::Write(fault)),
@@ -44,9 +42,8 @@ fn write_all<W: Write>(
     lines: Lines,
     out: &mut Counted<W>,
 ) -> Result<(), WriteFault>
-    requires failures { failures_of out.old < u64.MAX }
     ensures ok { OnOk result (IsWritten W.contents out.old out.new (text_of plan.now lines turns.now)) }
-    ensures err { IfErr result (IsCutShort W.contents out.old out.new (text_of plan.now lines turns.now)) }
+    ensures err { IfErr result (Stops W.contents out.old out.new 0 (text_of plan.now lines turns.now)) }
 {
     write_turns(plan, turns.iter(), lines, out)
 }

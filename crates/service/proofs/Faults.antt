@@ -9,8 +9,10 @@ use Rattle.service.specs.declared.fault.FirstFault.{FirstFault}
 use Rattle.service.specs.declared.fault.FirstFault.TheVariants.{NoMemory, Table, Turns, Meeting, Write}
 use Rattle.service.specs.Answers.{first_number, first_place, IsLeft, IsRunFault, IsTableFault}
 use Rattle.service.specs.First.{HasText}
-use Rattle.service.specs.Reports.{IsFirstReport, most_bytes, report_of}
+use Rattle.ring_source.specs.Ring.{ring_of_two}
+use Rattle.service.specs.Reports.{IsFirstReport, report_of}
 use Rattle.service.specs.Tables.{IsRefused}
+use Rattle.service.specs.Unread.{most_bytes}
 
 pub on_ok : {T E P Q : Type 0} → (P → Q) → (result : Result T E) → OnOk result P → OnOk result Q
 on_ok f (Ok x) h = f h
@@ -52,15 +54,15 @@ left_map kept P Q f (Write (WriteFailed written)) h = f written h
 
 module _ (has : List ℕ → Type 0) (lacks kept : Type 0) (wrote : List ℕ → Type 0) (cut : List ℕ → ℕ → Type 0) (table : List ℕ) (is : has table) (small : length table ≤ most_bytes) where
   -- the report of a fault is true of the table and of what is left
-  pub fault_reported : (fault : FirstFault) → (first_number fault ≢ 1 → first_number fault < 40 → IsRefused table (first_number fault) (first_place fault))
+  pub fault_reported : (fault : FirstFault) → (first_number fault ≢ 1 → first_number fault < 40 → IsRefused ring_of_two table (first_number fault) (first_place fault))
       → IsLeft kept (λ written. HasText table (λ text. cut text written)) fault → IsFirstReport has lacks kept wrote cut (report_of (first_number fault) (first_place fault))
   fault_reported NoMemory refused left = inl (inl (inl (inl refl)), left)
   fault_reported (Table NoTableMemory) refused left = inl (inl (inl (inl refl)), left)
-  fault_reported (Table (BadTable line)) refused left = (record { table = table; is = is; small = small; judged = refused (λ h. absurd (omega (arith, h))) (omega arith) }, left)
+  fault_reported (Table (BadTable line)) refused left = (record { bytes = table; is = is; small = small; judged = refused (λ h. absurd (omega (arith, h))) (omega arith) }, left)
   fault_reported (Turns NoTurnsMemory) refused left = inl (inl (inl (inl refl)), left)
-  fault_reported (Turns (GapOutOfRange line)) refused left = (record { table = table; is = is; small = small; judged = refused (λ h. absurd (omega (arith, h))) (omega arith) }, left)
-  fault_reported (Turns (TaskOutOfRange line)) refused left = (record { table = table; is = is; small = small; judged = refused (λ h. absurd (omega (arith, h))) (omega arith) }, left)
-  fault_reported (Turns (NoSuchComponent line)) refused left = (record { table = table; is = is; small = small; judged = refused (λ h. absurd (omega (arith, h))) (omega arith) }, left)
+  fault_reported (Turns (GapOutOfRange line)) refused left = (record { bytes = table; is = is; small = small; judged = refused (λ h. absurd (omega (arith, h))) (omega arith) }, left)
+  fault_reported (Turns (TaskOutOfRange line)) refused left = (record { bytes = table; is = is; small = small; judged = refused (λ h. absurd (omega (arith, h))) (omega arith) }, left)
+  fault_reported (Turns (NoSuchComponent line)) refused left = (record { bytes = table; is = is; small = small; judged = refused (λ h. absurd (omega (arith, h))) (omega arith) }, left)
   fault_reported (Meeting OtherSetup) refused left = inl (inr (inl refl), left)
   fault_reported (Meeting Stranger) refused left = inl (inr (inr refl), left)
-  fault_reported (Write (WriteFailed written)) refused left = inr (record { number_is = refl; written = written; stopped = record { table = table; is = is; small = small; judged = left } })
+  fault_reported (Write (WriteFailed written)) refused left = inr (record { number_is = refl; written = written; stopped = record { bytes = table; is = is; small = small; judged = left } })

@@ -1,5 +1,5 @@
 -- Pieces of a text, written one after another.
-use Rattle.std.proofs.Common.{◌≡◌, inl, inr, ℕ, ◌+◌, ◌<◌, ◌≤◌, List, ◌++◌, length, take, append_assoc, arith, length-append, subst, sym, ◌∙◌}
+use Rattle.std.proofs.Common.{◌≡◌, inl, inr, ℕ, ◌+◌, ◌<◌, ◌≤◌, List, ◌++◌, length, take, append_assoc, arith, length-append, ap, subst, sym, ◌∙◌}
 use Rattle.std.specs.Prelude.{Option, Result, Ok, Err, OnOk, OnErr, IfErr, ◌⊎◌}
 use Rattle.std.specs.Io.KnownBytes.{Appends}
 use Rattle.std.proofs.KnownBytes.{Appends-trans}
@@ -7,13 +7,10 @@ use Rattle.std.proofs.lemmas.List.{take-append-le}
 use lib.Seq.{take-append-add}
 use Rattle.trace.specs.declared.counted.Counted.{Counted}
 use Rattle.trace.specs.declared.fault.WriteFault.{WriteFault}
-use Rattle.trace.specs.Counts.{writer_of, failures_of}
+use Rattle.trace.specs.Counts.{writer_of, one_more}
 use Rattle.trace.specs.Puts.{written_of}
-use Rattle.service.specs.Written.{HasFailed, IsCut, IsSaid, IsStopped, IsWritten}
-
-failed_later : {W : Type 0} (a b c : Counted W) → failures_of b ≡ failures_of a → HasFailed b c → HasFailed a c
-failed_later a b c same (inl rose) = inl (omega arith)
-failed_later a b c same (inr full) = inr (omega arith)
+use Rattle.trace.specs.Went.{IsStopped, IsWritten}
+use Rattle.service.specs.Written.{IsCut, IsSaid}
 
 module _ {W : Type 0} {known : W → Option (List ℕ)} where
   -- one piece, and then another
@@ -37,7 +34,7 @@ module _ {W : Type 0} {known : W → Option (List ℕ)} where
             record {
               short = simp length-append (omega arith);
               bytes = subst (Appends old new) (sym (take-append-add s t q.written)) joined;
-              failed = failed_later a b c p.failures q.stopped.failed;
+              failures = q.stopped.failures ∙ ap one_more p.failures;
             };
       }
 
@@ -52,7 +49,7 @@ module _ {W : Type 0} {known : W → Option (List ℕ)} where
             record {
               short = simp length-append (omega arith);
               bytes = subst (Appends (known (writer_of a)) (known (writer_of b))) (sym (take-append-le p.written s t low)) p.stopped.bytes;
-              failed = p.stopped.failed;
+              failures = p.stopped.failures;
             };
       }
 

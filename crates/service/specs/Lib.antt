@@ -1,11 +1,16 @@
 pub mod Answers
+pub mod Checks
+pub mod Compositions
 pub mod First
 pub mod Gathered
+pub mod Parts
 pub mod PrintRefusals
 pub mod Printing
 pub mod Reading
 pub mod Reports
+pub mod Simulations
 pub mod Tables
 pub mod Told
+pub mod Unread
 pub mod Whole
 pub mod Written

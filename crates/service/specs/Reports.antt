@@ -1,12 +1,16 @@
 -- Statuses, lines and when each report is given.
-use Rattle.std.specs.Prelude.{◌≡◌, ◌⊎◌, ◌<◌, ◌≤◌, ◌==◌, ◌||◌, nat_le, ℕ, if◌then◌else◌, Option, None, Some, List, [], ◌++◌, length, codes, decimal}
+use Rattle.std.specs.Prelude.{◌≡◌, ◌⊎◌, ◌==◌, ◌||◌, ◌&&◌, nat_le, ℕ, Bool, if◌then◌else◌, Option, None, Some, List, [], ◌++◌, codes, decimal}
 use Rattle.clap.specs.declared.error.ErrorKind.TheVariants.{DisplayHelp}
 use Rattle.command_line.specs.declared.Asked.{Asked}
 use Rattle.command_line.specs.declared.Asked.TheVariants as asked
 use Rattle.command_line.specs.Words.{AskNothing, HasFault, IsAsked, IsWrong}
 use Rattle.service.specs.declared.report.Report.{Report}
 use Rattle.service.specs.declared.report.Report.TheVariants.{Done, No, Refused, Fault, Misused}
+use Rattle.ring_source.specs.Ring.{ring_of_two}
+use Rattle.service.specs.Checks.{IsCheckReport}
+use Rattle.service.specs.Unread.{HasSmall, IsFileFault, IsUnread}
 use Rattle.service.specs.Printing.{IsPrinted, IsRefusedSource}
+use Rattle.service.specs.Simulations.{IsSimulateReport}
 use Rattle.service.specs.Tables.{IsAccepted, IsRefused}
 use Rattle.service.specs.First.{HasText}
 use Rattle.service.specs.Written.{SomeText}
@@ -27,38 +31,19 @@ line_of (Refused number (Some place)) = codes "refused " ++ decimal number ++ co
 line_of (Fault number) = codes "fault " ++ decimal number ++ codes "\n"
 line_of Misused = []
 
--- the report of a refusal with this number and place: want of memory, 1, and numbers from 40 on are faults of a run
+-- want of memory, 1, what befalls a run, 40 to 49, and what befalls writers and files, from 60 on, are faults
+abbrev pub is_fault : ℕ → Bool
+is_fault number = number == 1 || (nat_le 40 number && nat_le number 49 || nat_le 60 number)
+
+-- the report of a refusal with this number and place
 abbrev pub report_of : ℕ → Option ℕ → Report
-report_of number place = if (number == 1) || nat_le 40 number then Fault number else Refused number place
-
--- the most bytes that a table may have
-abbrev pub most_bytes : ℕ
-most_bytes = 16777216
-
-pub record IsTooLarge (has : List ℕ → Type 0) : Type 0 where
-  pub all : List ℕ
-  pub is : has all
-  pub longer : most_bytes < length all
-
--- a file isn't read for want of memory (1), or where it can't be read (63)
-abbrev pub IsUnread : Type 0 → ℕ → Type 0
-IsUnread lacks number = (number ≡ 1) ⊎ ((number ≡ 63) × lacks)
-
--- a table isn't read either where it is too large (64)
-abbrev pub IsFileFault : (List ℕ → Type 0) → Type 0 → ℕ → Type 0
-IsFileFault has lacks number = IsUnread lacks number ⊎ ((number ≡ 64) × IsTooLarge has)
-
-pub record IsTableWith (has : List ℕ → Type 0) (Judged : List ℕ → Type 0) : Type 0 where
-  pub table : List ℕ
-  pub is : has table
-  pub small : length table ≤ most_bytes
-  pub judged : Judged table
+report_of number place = if is_fault number then Fault number else Refused number place
 
 -- a write failed (60), and the table's text is cut after so many bytes
 pub record IsWriteFault (has : List ℕ → Type 0) (cut : List ℕ → ℕ → Type 0) (number : ℕ) : Type 0 where
   pub number_is : number ≡ 60
   pub written : ℕ
-  pub stopped : IsTableWith has (λ table. HasText table (λ text. cut text written))
+  pub stopped : HasSmall has (λ table. HasText table (λ text. cut text written))
 
 -- a lease was refused (40 or 41)
 abbrev pub IsMeetFault : ℕ → Type 0
@@ -71,9 +56,9 @@ IsFault has lacks kept cut number = ((IsFileFault has lacks number ⊎ IsMeetFau
 -- The report on a table file that has these bytes, or can't be read, where the output was kept, a text was written to it, or a write failed
 -- after so many bytes of a text.
 abbrev pub IsFirstReport : (List ℕ → Type 0) → Type 0 → Type 0 → (List ℕ → Type 0) → (List ℕ → ℕ → Type 0) → Report → Type 0
-IsFirstReport has lacks kept wrote cut Done = IsTableWith has (λ table. IsAccepted table × HasText table wrote)
+IsFirstReport has lacks kept wrote cut Done = HasSmall has (λ table. IsAccepted ring_of_two table × HasText table wrote)
 IsFirstReport has lacks kept wrote cut No = ⊥
-IsFirstReport has lacks kept wrote cut (Refused number place) = IsTableWith has (λ table. IsRefused table number place) × kept
+IsFirstReport has lacks kept wrote cut (Refused number place) = HasSmall has (λ table. IsRefused ring_of_two table number place) × kept
 IsFirstReport has lacks kept wrote cut (Fault number) = IsFault has lacks kept cut number
 IsFirstReport has lacks kept wrote cut Misused = ⊥
 
@@ -96,20 +81,12 @@ IsPrintReport has lacks kept wrote cut (Refused number place) = IsSourceWith has
 IsPrintReport has lacks kept wrote cut (Fault number) = (IsUnread lacks number × kept) ⊎ IsPrintCut has cut number
 IsPrintReport has lacks kept wrote cut Misused = ⊥
 
--- A report on what was simulated or judged. Which one is given when isn't said here.
-abbrev pub IsServed : Report → Type 0
-IsServed Done = Unit {0}
-IsServed No = Unit {0}
-IsServed (Refused number place) = Unit {0}
-IsServed (Fault number) = Unit {0}
-IsServed Misused = ⊥
-
 -- the report on what is asked for
 abbrev pub IsReportOn : Asked → (List ℕ → List ℕ → Type 0) → (List ℕ → Type 0) → Type 0 → (List ℕ → Type 0) → (List ℕ → ℕ → Type 0) → Report → Type 0
 IsReportOn (asked.Print source) has lacks = IsPrintReport (has source.now) (lacks source.now)
 IsReportOn (asked.First table) has lacks = IsFirstReport (has table.now) (lacks table.now)
-IsReportOn (asked.Reference source options) has lacks = λ kept wrote cut report. IsServed report
-IsReportOn (asked.Check source trace) has lacks = λ kept wrote cut report. IsServed report
+IsReportOn (asked.Reference source options) has lacks = IsSimulateReport has lacks source.now options
+IsReportOn (asked.Check source trace) has lacks = IsCheckReport has lacks source.now trace.now
 
 -- the words ask for something, and this is the report on it
 pub record IsReportOnAsked (words : List (List ℕ)) (has : List ℕ → List ℕ → Type 0) (lacks : List ℕ → Type 0) (kept : Type 0) (wrote : List ℕ → Type 0) (cut : List ℕ → ℕ → Type 0) (report : Report) : Type 0 where

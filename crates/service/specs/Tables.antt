@@ -1,15 +1,23 @@
--- When a table of the ring is accepted, and when it is refused.
+-- When a table is accepted for a composition, and when it is refused.
 use Rattle.std.specs.Prelude.{◌≡◌, ◌⊎◌, ℕ, Option, Some, List, map, All}
-use Rattle.ring_source.specs.Ring.{ring_of_two}
+use Rattle.plans.specs.Automata.{Instance}
 use Rattle.task_seed.specs.declared.table.Row.{Row}
 use Rattle.task_seed.specs.Table.{lines_of, spelled, IsFirstBadLine}
 use Rattle.task_seed.specs.Faults.{HasFault, IsFirstFault}
 
+-- each line of the file is the spelling of one of these rows
+abbrev pub Spells : List ℕ → List Row → Type 0
+Spells table rows = lines_of table ≡ map spelled rows
+
+-- no row has a fault
+abbrev pub AreSound : List Instance → List Row → Type 0
+AreSound composition rows = All (λ row. (number : ℕ) → HasFault composition row number → ⊥) rows
+
 -- each line of the file is the spelling of a row, and no row has a fault
-pub record IsAccepted (table : List ℕ) : Type 0 where
+pub record IsAccepted (composition : List Instance) (table : List ℕ) : Type 0 where
   pub rows : List Row
-  pub spelling : lines_of table ≡ map spelled rows
-  pub sound : All (λ row. (number : ℕ) → HasFault ring_of_two row number → ⊥) rows
+  pub spelling : Spells table rows
+  pub sound : AreSound composition rows
 
 -- a line is no row
 pub record IsBadTable (table : List ℕ) (number : ℕ) (place : Option ℕ) : Type 0 where
@@ -19,11 +27,11 @@ pub record IsBadTable (table : List ℕ) (number : ℕ) (place : Option ℕ) : T
   pub first : IsFirstBadLine table line
 
 -- all lines are rows, and one has a fault
-pub record HasBadRow (table : List ℕ) (number : ℕ) (place : Option ℕ) : Type 0 where
+pub record HasBadRow (composition : List Instance) (table : List ℕ) (number : ℕ) (place : Option ℕ) : Type 0 where
   pub rows : List Row
-  pub spelling : lines_of table ≡ map spelled rows
-  pub first : IsFirstFault ring_of_two rows number place
+  pub spelling : Spells table rows
+  pub first : IsFirstFault composition rows number place
 
 -- the file is refused with this number at this line
-abbrev pub IsRefused : List ℕ → ℕ → Option ℕ → Type 0
-IsRefused table number place = IsBadTable table number place ⊎ HasBadRow table number place
+abbrev pub IsRefused : List Instance → List ℕ → ℕ → Option ℕ → Type 0
+IsRefused composition table number place = IsBadTable table number place ⊎ HasBadRow composition table number place

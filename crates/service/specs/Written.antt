@@ -1,23 +1,7 @@
--- What writing a text does to a counted writer, whose count of failures may be full.
-use Rattle.std.specs.Prelude.{◌≡◌, ◌⊎◌, ℕ, ◌+◌, ◌-◌, ◌^◌, ◌<◌, List, length, take, Option}
-use Rattle.std.specs.Io.KnownBytes.{Appends}
+-- What was said of a text, on a writer that may fail.
+use Rattle.std.specs.Prelude.{◌⊎◌, ℕ, ◌<◌, List, length, Option}
 use Rattle.trace.specs.declared.counted.Counted.{Counted}
-use Rattle.trace.specs.Counts.{writer_of, failures_of}
-
--- one more write failed, or the count of failures was full before, and can't rise
-abbrev pub HasFailed : {W : Type 0} → Counted W → Counted W → Type 0
-HasFailed old new = (failures_of new ≡ failures_of old + 1) ⊎ (failures_of old ≡ 2 ^ 64 - 1)
-
--- the text went out, and no write failed
-pub record IsWritten {W : Type 0} (known : W → Option (List ℕ)) (old new : Counted W) (text : List ℕ) : Type 0 where
-  pub bytes : Appends (known (writer_of old)) (known (writer_of new)) text
-  pub failures : failures_of new ≡ failures_of old
-
--- a write failed when just so many bytes of the text, and not all, had gone out
-pub record IsStopped {W : Type 0} (known : W → Option (List ℕ)) (old new : Counted W) (text : List ℕ) (written : ℕ) : Type 0 where
-  pub short : written < length text
-  pub bytes : Appends (known (writer_of old)) (known (writer_of new)) (take written text)
-  pub failed : HasFailed old new
+use Rattle.trace.specs.Went.{IsStopped, IsWritten}
 
 -- a write failed before the text's end
 pub record IsCut {W : Type 0} (known : W → Option (List ℕ)) (old new : Counted W) (text : List ℕ) : Type 0 where

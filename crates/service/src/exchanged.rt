@@ -18,7 +18,7 @@ ghost use Rattle.trace.specs.declared.lines.Lines.TheVariants.{All};
 ghost use Rattle.service.specs.First.{text_of_first};
 ghost use Rattle.service.specs.Gathered.{IsGathered, IsMet, idle_before};
 ghost use Rattle.service.specs.Answers.{IsLeft, IsRunFault, first_number};
-ghost use Rattle.service.specs.Written.{IsStopped, IsWritten};
+ghost use Rattle.trace.specs.Went.{IsStopped, IsWritten};
 
 use crate::fault::FirstFault;
 use event_keys::{Key, Turned};
@@ -124,9 +124,6 @@ pub(crate) fn write_first<T: Turns, W: Write>(
     if !has_turns(turns) {
         return Ok(());
     }
-    if out.failures() == u64::MAX {
-        return Err(FirstFault::Write(WriteFault::WriteFailed(0)));
-    }
     match write_chunk(setup.plan(), turns, out) {
         Ok(()) => Ok(()),
         Err(fault) => Err(FirstFault::Write(fault)),
@@ -138,7 +135,6 @@ fn write_chunk<W: Write>(
     turns: &EventList<Turned>,
     out: &mut Counted<W>,
 ) -> Result<(), WriteFault>
-    requires failures { failures_of out.old < u64.MAX }
     requires front { turns.now.before ≡ [] }
     ensures ok { OnOk result (Appends (W.contents (writer_of out.old)) (W.contents (writer_of out.new)) (text_of plan.now All turns.now.after)) }
     ensures ok_failures { OnOk result (failures_of out.new ≡ failures_of out.old) }

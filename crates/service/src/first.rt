@@ -9,7 +9,7 @@ ghost use Rattle.task_seed.specs.Setups.{plan_of, system};
 ghost use Rattle.service.specs.Answers.{first_number, first_place, IsLeft, IsTableFault};
 ghost use Rattle.service.specs.First.{HasText, first_text, ring_with, text_of_first};
 ghost use Rattle.service.specs.Tables.{IsAccepted, IsRefused};
-ghost use Rattle.service.specs.Written.{IsStopped, IsWritten};
+ghost use Rattle.trace.specs.Went.{IsStopped, IsWritten};
 
 use crate::exchanged::{first_turns, write_first};
 use crate::fault::FirstFault;
@@ -33,9 +33,9 @@ pub fn first_run<W: Write>(
     table: &[u8],
     out: &mut Counted<W>,
 ) -> Result<(), FirstFault>
-    ensures accepted { OnOk result (IsAccepted table.now) }
+    ensures accepted { OnOk result (IsAccepted ring_of_two table.now) }
     ensures written { OnOk result (HasText table.now (IsWritten W.contents out.old out.new)) }
-    ensures refused { IfErr result (λ fault. first_number fault ≢ 1 → first_number fault < 40 → IsRefused table.now (first_number fault) (first_place fault)) }
+    ensures refused { IfErr result (λ fault. first_number fault ≢ 1 → first_number fault < 40 → IsRefused ring_of_two table.now (first_number fault) (first_place fault)) }
     ensures left { IfErr result (IsLeft (out.new ≡ out.old) (λ written. HasText table.now (λ text. IsStopped W.contents out.old out.new text written))) }
 {
     let rows = match read_table(alloc, table) {

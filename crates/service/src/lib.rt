@@ -8,7 +8,7 @@ pub mod first;
 pub mod printing;
 pub mod report;
 pub mod serve;
-mod simulation;
+pub mod simulation;
 mod writing;
 
 pub use files::{FileFault, Files};

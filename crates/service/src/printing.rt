@@ -1,14 +1,13 @@
 //! The engine of `print`: a source in its layout.
 ghost use Rattle.std.specs.Prelude.{◌≡◌, IfErr, OnOk};
 ghost use Rattle.service.specs.Printing.{IsPrinted, IsUnprinted};
-ghost use Rattle.service.specs.Written.{IsStopped, IsWritten};
+ghost use Rattle.trace.specs.Went.{IsStopped, IsWritten};
 
 use crate::fault::PrintFault;
-use crate::writing::write_text;
 use ioa_front::{print, read};
 use std::alloc::Global;
 use std::io::Write;
-use trace::Counted;
+use trace::{Counted, write_text};
 
 /// Reads a source and writes the layout of the tree that it spells.
 ///

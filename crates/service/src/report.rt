@@ -1,7 +1,8 @@
 //! What the program answers, and how it says so.
 ghost use Rattle.std.specs.Prelude.{◌≡◌, ◌⊎◌, OnErr, OnOk, Some};
-ghost use Rattle.service.specs.Reports.{status_of, line_of, report_of};
-ghost use Rattle.service.specs.Written.{IsCut, IsSaid, IsWritten};
+ghost use Rattle.service.specs.Reports.{is_fault, line_of, report_of, status_of};
+ghost use Rattle.trace.specs.Went.{IsWritten};
+ghost use Rattle.service.specs.Written.{IsCut, IsSaid};
 
 use crate::writing::{write_line, write_number};
 use std::io::Write;
@@ -67,14 +68,21 @@ fn write_refused<E: Write>(number: u64, place: u64, err: &mut Counted<E>) -> Res
     write_line(b" at ", place, err)
 }
 
-/// The report of a refusal: want of memory and what befalls a run, from 40 on, are faults.
+/// The report of a refusal. Want of memory (1), what befalls a run (40 to 49), and what befalls writers and files (from 60 on) are
+/// faults.
 pub fn report_of<R: Refusal>(refusal: &R) -> Report
     ensures { result ≡ report_of (R.number_of refusal.now) (R.place_of refusal.now) }
 {
     let number = refusal.number();
-    if number == 1 || number >= 40 {
+    if is_fault(number) {
         Report::Fault(number)
     } else {
         Report::Refused(number, refusal.place())
     }
+}
+
+fn is_fault(number: u8) -> bool
+    ensures { result ≡ is_fault number }
+{
+    number == 1 || (number >= 40 && number <= 49) || number >= 60
 }

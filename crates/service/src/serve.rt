@@ -4,22 +4,23 @@ ghost use Rattle.clap.specs.declared.error.ErrorKind.TheVariants.{DisplayHelp};
 ghost use Rattle.command_line.specs.Words.{HasFault, IsRefused};
 ghost use Rattle.service.specs.declared.report.Report.{Report};
 ghost use Rattle.service.specs.Reading.{IsReadOf};
-ghost use Rattle.service.specs.Reports.{status_of, IsReport, IsReportOn, IsFirstReport, IsPrintReport, IsFileFault, IsUnread, IsUnserved, most_bytes};
+ghost use Rattle.service.specs.Reports.{status_of, IsReport, IsReportOn, IsFirstReport, IsPrintReport, IsUnserved};
 ghost use Rattle.service.specs.Told.{IsTold, IsWarned};
-ghost use Rattle.service.specs.Written.{IsStopped, IsWritten};
+ghost use Rattle.service.specs.Unread.{IsFileFault, IsUnread, most_bytes};
+ghost use Rattle.trace.specs.Went.{IsStopped, IsWritten};
 
 use crate::files::{FileFault, Files};
 use crate::first::first_run;
 use crate::printing::print_source;
 use crate::report::{Report, report_of};
 use crate::simulation::{check_file, simulate_file};
-use crate::writing::{say, write_text};
+use crate::writing::say;
 use clap::error::Error;
 use command_line::{Asked, Refused, read_words};
 use std::alloc::{AllocError, Global};
 use std::io::Write;
 use terms::Refusal;
-use trace::Counted;
+use trace::{Counted, write_text};
 
 /// The most bytes that a table or a file of actions may have.
 pub const MOST_BYTES: u64 = 16_777_216;

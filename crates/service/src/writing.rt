@@ -1,28 +1,11 @@
 //! Texts, each written up to the first write that fails.
-ghost use Rattle.std.specs.Prelude.{◌++◌, IfErr, OnErr, OnOk, codes, decimal};
-ghost use Rattle.trace.specs.Puts.{written_of};
-ghost use Rattle.service.specs.Written.{IsCut, IsSaid, IsStopped, IsWritten};
+ghost use Rattle.std.specs.Prelude.{◌++◌, OnErr, OnOk, codes, decimal};
+ghost use Rattle.trace.specs.Went.{IsWritten};
+ghost use Rattle.service.specs.Written.{IsCut, IsSaid};
 
 use itoa::Buffer;
 use std::io::Write;
-use trace::{Counted, WriteFault};
-
-/// Writes a text, up to the first write that fails.
-pub(crate) fn write_text<W: Write>(text: &[u8], out: &mut Counted<W>) -> Result<(), WriteFault>
-    ensures ok { OnOk result (IsWritten W.contents out.old out.new text.now) }
-    ensures err { IfErr result (λ fault. IsStopped W.contents out.old out.new text.now (written_of fault)) }
-{
-    if text.is_empty() {
-        return Ok(());
-    }
-    if out.failures() == u64::MAX {
-        return Err(WriteFault::WriteFailed(0));
-    }
-    match out.write_piece(text) {
-        Ok(()) => Ok(()),
-        Err(written) => Err(WriteFault::WriteFailed(written as u64)),
-    }
-}
+use trace::{Counted, WriteFault, write_text};
 
 /// Writes a text, and passes over a write that fails.
 pub(crate) fn say<W: Write>(text: &[u8], out: &mut Counted<W>)

@@ -10,6 +10,10 @@ use Rattle.compose.specs.Faults as compose
 use Rattle.sources.specs.declared.fault.SourceError.{SourceError}
 use Rattle.sources.specs.declared.fault.SourceError.TheVariants as fault
 
+-- one byte more than a source may have
+abbrev pub front_bytes : ℕ
+front_bytes = 65537
+
 -- The bytes, at most 65,536, spell this tree of the grammar.
 pub record IsRead (source : List ℕ) (tree : PlainSource) : Type 0 where
   pub size : length source ≤ most_bytes

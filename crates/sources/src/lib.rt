@@ -2,6 +2,7 @@
 #![tactic(auto)]
 
 pub mod fault;
+pub mod laws;
 pub mod source;
 
 pub use fault::SourceError;

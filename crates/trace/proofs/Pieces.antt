@@ -6,6 +6,7 @@ use Rattle.std.proofs.lemmas.List.{take_all}
 use Rattle.std.specs.Prelude.{Option, if◌then◌else◌, ◌==◌, ◌&&◌, nat_lt}
 use Rattle.std.specs.Io.KnownBytes.{Appends}
 use Rattle.std.proofs.KnownBytes.{Appends-trans}
+use Rattle.trace.specs.Counts.{failures_after}
 
 -- the next bytes of the text follow the first ones
 pub next_bytes : (old middle new : Option (List ℕ)) (text rest : List ℕ) (written taken : ℕ) → rest ≡ drop written text → Appends old middle (take written text) → Appends middle new (take taken rest) → Appends old new (take (written + taken) text)
@@ -18,5 +19,5 @@ pub rest_is : (text : List ℕ) (written : ℕ) → take (length text - written)
 rest_is text written = take_all (length text - written) (drop written text) (simp length-drop (omega arith))
 
 -- a write that took a byte is no failure
-pub same_failures : (old new taken : ℕ) (piece : List ℕ) → (taken ≡ 0 → ⊥) → new ≡ old + (if taken == 0 && nat_lt 0 (length piece) then 1 else 0) → new ≡ old
+pub same_failures : (old new taken : ℕ) (piece : List ℕ) → (taken ≡ 0 → ⊥) → new ≡ failures_after old (taken == 0 && nat_lt 0 (length piece)) → new ≡ old
 same_failures old new taken piece some h = grind (arith, nat_tests, some, h)

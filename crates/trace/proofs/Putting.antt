@@ -14,7 +14,7 @@ use Rattle.trace.specs.Lines.{text_of, shown_text, turns_at}
 use lib.Seq.{take-append-add}
 use Rattle.trace.specs.declared.counted.Counted.{Counted}
 use Rattle.trace.specs.declared.fault.WriteFault.{WriteFault}
-use Rattle.trace.specs.Counts.{writer_of}
+use Rattle.trace.specs.Counts.{writer_of, failures_of, one_more}
 use Rattle.trace.specs.Puts.{Puts, Stops}
 use Rattle.trace.specs.Given.{stops}
 
@@ -47,7 +47,7 @@ module _ {W : Type 0} {known : W → Option (List ℕ)} where
         part = length s + q.part;
         short = simp length-append (omega arith);
         bytes = subst (Appends old new) (sym (take-append-add s t q.part)) joined;
-        failures = omega arith;
+        failures = q.failures ∙ ap one_more p.failures;
         count = omega arith;
       }
 

@@ -4,7 +4,7 @@ use Rattle.std.specs.Io.KnownBytes.{Appends}
 use Rattle.trace.specs.declared.counted.Counted.{Counted}
 use Rattle.trace.specs.declared.fault.WriteFault.{WriteFault}
 use Rattle.trace.specs.declared.fault.WriteFault.TheVariants.{WriteFailed}
-use Rattle.trace.specs.Counts.{writer_of, failures_of}
+use Rattle.trace.specs.Counts.{writer_of, failures_of, one_more}
 
 -- a number of bytes as it is answered: up to the greatest of 64 bits
 abbrev pub capped : ℕ → ℕ
@@ -25,5 +25,5 @@ pub record Stops {W : Type 0} (known : W → Option (List ℕ)) (old new : Count
   pub part : ℕ
   pub short : part < length text
   pub bytes : Appends (known (writer_of old)) (known (writer_of new)) (take part text)
-  pub failures : failures_of new ≡ failures_of old + 1
+  pub failures : failures_of new ≡ one_more (failures_of old)
   pub count : written_of fault ≡ capped (before + part)

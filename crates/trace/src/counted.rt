@@ -2,7 +2,7 @@
 
 use std::io::{self, Write};
 
-/// A writer, and how many of its writes failed: those that gave an error or took 0 bytes of a nonempty piece.
+/// A writer, and how many of its writes failed, up to the greatest `u64`: those that gave an error or took 0 bytes of a nonempty piece.
 #[derive(Debug, Drop)]
 pub struct Counted<W> {
     writer: W,
@@ -10,10 +10,10 @@ pub struct Counted<W> {
 }
 
 impl<W: Write> Counted<W> {
-    ghost use Rattle.std.specs.Prelude.{◌≡◌, ◌+◌, ◌<◌, take, length, OnOk, OnErr, IfErr};
+    ghost use Rattle.std.specs.Prelude.{◌≡◌, ◌<◌, take, length, OnOk, OnErr, IfErr};
     ghost use Rattle.std.specs.Io.KnownBytes.{Keeps, Appends, WriteAppends};
     ghost use Rattle.std.specs.Io.{WritesAtMost};
-    ghost use Rattle.trace.specs.Counts.{writer_of, failures_of, failures_at};
+    ghost use Rattle.trace.specs.Counts.{writer_of, failures_of, failures_after, is_failure, one_more};
 
     /// A writer of which no write has failed yet.
     pub fn new(writer: W) -> Counted<W>
@@ -37,10 +37,9 @@ impl<W: Write> Counted<W> {
     /// counted: it gives an error, which is the writer's own, or takes 0 bytes of a nonempty piece. At an error no byte goes
     /// out.
     pub fn write(&mut self, piece: &[u8]) -> io::Result<usize>
-        requires { failures_of self.old < u64.MAX }
         ensures bound { WritesAtMost result piece.now }
         ensures bytes { WriteAppends (W.contents (writer_of self.old)) (W.contents (writer_of self.new)) result piece.now }
-        ensures failures { failures_of self.new ≡ failures_of self.old + failures_at result piece.now }
+        ensures failures { failures_of self.new ≡ failures_after (failures_of self.old) (is_failure result piece.now) }
     {
         let Counted { writer, failures } = self;
         let taken = writer.write(piece);
@@ -49,7 +48,7 @@ impl<W: Write> Counted<W> {
             Err(_) => true,
         };
         if has_failed {
-            *failures += 1;
+            *failures = failures.saturating_add(1);
         }
         taken
     }
@@ -57,12 +56,11 @@ impl<W: Write> Counted<W> {
     /// Writes a whole piece, by as many writes as it takes, up to the first that fails. An error is the number of the bytes
     /// that went out before it, from the front; then one more failure is counted.
     pub fn write_piece(&mut self, piece: &[u8]) -> Result<(), usize>
-        requires { failures_of self.old < u64.MAX }
         ensures ok { OnOk result (Appends (W.contents (writer_of self.old)) (W.contents (writer_of self.new)) piece.now) }
         ensures ok_failures { OnOk result (failures_of self.new ≡ failures_of self.old) }
         ensures err { IfErr result (λ written. Appends (W.contents (writer_of self.old)) (W.contents (writer_of self.new)) (take written piece.now)) }
         ensures err_short { IfErr result (λ written. written < length piece.now) }
-        ensures err_failures { OnErr result (failures_of self.new ≡ failures_of self.old + 1) }
+        ensures err_failures { OnErr result (failures_of self.new ≡ one_more (failures_of self.old)) }
     {
         let mut written = 0;
         while written < piece.len() {

@@ -8,6 +8,7 @@ pub mod laws;
 mod line_fault;
 pub mod lines;
 pub mod reading;
+pub mod texts;
 mod words;
 mod written;
 
@@ -15,3 +16,4 @@ pub use counted::Counted;
 pub use fault::{TraceError, WriteFault};
 pub use lines::{Lines, write_turns};
 pub use reading::read_trace;
+pub use texts::write_text;

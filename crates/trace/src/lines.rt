@@ -1,10 +1,10 @@
 //! Lines of turns.
-ghost use Rattle.std.specs.Prelude.{◌≡◌, ◌+◌, ◌<◌, List, IfOk, OnOk, IfErr, OnErr};
+ghost use Rattle.std.specs.Prelude.{◌≡◌, List, IfOk, OnOk, IfErr, OnErr};
 ghost use Rattle.std.specs.Borrow.{Bor};
 ghost use Rattle.std.specs.Iterator.{IsFinite, Drains, Yields};
 ghost use Rattle.std.specs.Io.KnownBytes.{Appends};
 ghost use Rattle.event_keys.specs.declared.outcome.Turned.{Turned};
-ghost use Rattle.trace.specs.Counts.{writer_of, failures_of};
+ghost use Rattle.trace.specs.Counts.{writer_of, failures_of, one_more};
 ghost use Rattle.trace.specs.Lines.{did_external, is_shown, key_text, line_of, shown_text, text_of, turns_at};
 ghost use Rattle.trace.specs.Puts.{Puts, Stops};
 
@@ -29,7 +29,7 @@ pub enum Lines {
 /// `send(true,-3)`. A name that the plan doesn't have is no text. It takes no memory, and its time grows with the text and
 /// with what `Plan::is_external` costs for each turn.
 ///
-/// The iterator may be any that ends, and fewer writes than the greatest `u64` may have failed before. An error comes only
+/// The iterator may be any that ends. An error comes only
 /// where a write fails: [`WriteFault::WriteFailed`] has the number of the text's bytes, from the front, that had gone out,
 /// one more failure is counted, and no more turns are taken.
 #[tactic(auto, using(crate::proofs::Putting::turns))]
@@ -39,13 +39,12 @@ pub fn write_turns<'a, W: Write, I: Iterator<Item = &'a Turned> + Drop>(
     lines: Lines,
     out: &mut Counted<W>,
 ) -> Result<(), WriteFault>
-    requires failures { failures_of out.old < u64.MAX }
     requires can { I.can_next turns }
     requires ends { IsFinite (I.remaining turns) }
     ensures ok { OnOk result ((given : List (Bor Turned)) × Drains I.next_gives turns given × Appends (W.contents (writer_of out.old)) (W.contents (writer_of out.new)) (text_of plan.now lines (turns_at given))) }
     ensures ok_failures { OnOk result (failures_of out.new ≡ failures_of out.old) }
     ensures err { IfErr result (λ fault. (given : List (Bor Turned)) × (rest : I) × Yields I.next_gives turns given rest × Stops W.contents out.old out.new 0 (text_of plan.now lines (turns_at given)) fault) }
-    ensures err_failures { OnErr result (failures_of out.new ≡ failures_of out.old + 1) }
+    ensures err_failures { OnErr result (failures_of out.new ≡ one_more (failures_of out.old)) }
 {
     let mut written = 0;
     for turned in turns {
@@ -61,7 +60,6 @@ fn put_shown<W: Write>(
     turned: &Turned,
     before: u64,
 ) -> Result<u64, WriteFault>
-    requires { failures_of out.old < u64.MAX }
     ensures ok { IfOk result (λ after. Puts W.contents out.old out.new before after (shown_text plan.now lines turned.now)) }
     ensures err { IfErr result (λ fault. Stops W.contents out.old out.new before (shown_text plan.now lines turned.now) fault) }
 {
@@ -97,7 +95,6 @@ fn put_line<W: Write>(
     turned: &Turned,
     before: u64,
 ) -> Result<u64, WriteFault>
-    requires { failures_of out.old < u64.MAX }
     ensures ok { IfOk result (λ after. Puts W.contents out.old out.new before after (line_of plan.now turned.now)) }
     ensures err { IfErr result (λ fault. Stops W.contents out.old out.new before (line_of plan.now turned.now) fault) }
 {
@@ -108,7 +105,6 @@ fn put_line<W: Write>(
 
 #[tactic(auto, using(crate::proofs::Putting::steps))]
 fn put_key<W: Write>(out: &mut Counted<W>, key: Key, before: u64) -> Result<u64, WriteFault>
-    requires { failures_of out.old < u64.MAX }
     ensures ok { IfOk result (λ after. Puts W.contents out.old out.new before after (key_text key)) }
     ensures err { IfErr result (λ fault. Stops W.contents out.old out.new before (key_text key) fault) }
 {

@@ -1,7 +1,6 @@
 //! Numbers, names and arguments, each written by pieces. Every call is given how many bytes of the whole text went out
 //! before, and answers how many went out with its own.
-ghost use Rattle.std.specs.Prelude.{◌≡◌, ◌+◌, ◌<◌, ◌++◌, IfOk, IfErr};
-ghost use Rattle.trace.specs.Counts.{failures_of};
+ghost use Rattle.std.specs.Prelude.{◌≡◌, ◌++◌, IfOk, IfErr};
 ghost use Rattle.trace.specs.Puts.{Puts, Stops};
 ghost use Rattle.trace.specs.Lines.{name_at, argument_text, other_text, others_text, bracketed_text, arguments_text, action_text, outcome_text, number_text};
 ghost use Rattle.plans.specs.Plans.{action_texts, member_texts};
@@ -19,7 +18,6 @@ pub(crate) fn put<W: Write>(
     piece: &str,
     before: u64,
 ) -> Result<u64, WriteFault>
-    requires { failures_of out.old < u64.MAX }
     ensures ok { IfOk result (λ after. Puts W.contents out.old out.new before after piece.now) }
     ensures err { IfErr result (λ fault. Stops W.contents out.old out.new before piece.now fault) }
 {
@@ -35,7 +33,6 @@ pub(crate) fn put_number<W: Write>(
     number: u64,
     before: u64,
 ) -> Result<u64, WriteFault>
-    requires { failures_of out.old < u64.MAX }
     ensures ok { IfOk result (λ after. Puts W.contents out.old out.new before after (number_text number)) }
     ensures err { IfErr result (λ fault. Stops W.contents out.old out.new before (number_text number) fault) }
 {
@@ -67,7 +64,6 @@ fn put_argument<W: Write>(
     argument: Scalar,
     before: u64,
 ) -> Result<u64, WriteFault>
-    requires { failures_of out.old < u64.MAX }
     ensures ok { IfOk result (λ after. Puts W.contents out.old out.new before after (argument_text plan.now argument)) }
     ensures err { IfErr result (λ fault. Stops W.contents out.old out.new before (argument_text plan.now argument) fault) }
 {
@@ -86,7 +82,6 @@ fn put_other<W: Write>(
     argument: Scalar,
     before: u64,
 ) -> Result<u64, WriteFault>
-    requires { failures_of out.old < u64.MAX }
     ensures ok { IfOk result (λ after. Puts W.contents out.old out.new before after (other_text plan.now argument)) }
     ensures err { IfErr result (λ fault. Stops W.contents out.old out.new before (other_text plan.now argument) fault) }
 {
@@ -101,7 +96,6 @@ fn put_others<W: Write>(
     arguments: &[Scalar],
     before: u64,
 ) -> Result<u64, WriteFault>
-    requires { failures_of out.old < u64.MAX }
     ensures ok { IfOk result (λ after. Puts W.contents out.old out.new before after (others_text plan.now arguments.now)) }
     ensures err { IfErr result (λ fault. Stops W.contents out.old out.new before (others_text plan.now arguments.now) fault) }
 {
@@ -120,7 +114,6 @@ fn put_bracketed<W: Write>(
     others: &[Scalar],
     before: u64,
 ) -> Result<u64, WriteFault>
-    requires { failures_of out.old < u64.MAX }
     ensures ok { IfOk result (λ after. Puts W.contents out.old out.new before after (bracketed_text plan.now first others.now)) }
     ensures err { IfErr result (λ fault. Stops W.contents out.old out.new before (bracketed_text plan.now first others.now) fault) }
 {
@@ -137,7 +130,6 @@ fn put_arguments<W: Write>(
     arguments: &[Scalar],
     before: u64,
 ) -> Result<u64, WriteFault>
-    requires { failures_of out.old < u64.MAX }
     ensures ok { IfOk result (λ after. Puts W.contents out.old out.new before after (arguments_text plan.now arguments.now)) }
     ensures err { IfErr result (λ fault. Stops W.contents out.old out.new before (arguments_text plan.now arguments.now) fault) }
 {
@@ -154,7 +146,6 @@ fn put_action<W: Write>(
     action: &Action,
     before: u64,
 ) -> Result<u64, WriteFault>
-    requires { failures_of out.old < u64.MAX }
     ensures ok { IfOk result (λ after. Puts W.contents out.old out.new before after (action_text plan.now action.now)) }
     ensures err { IfErr result (λ fault. Stops W.contents out.old out.new before (action_text plan.now action.now) fault) }
 {
@@ -168,7 +159,6 @@ pub(crate) fn put_outcome<W: Write>(
     outcome: &Outcome,
     before: u64,
 ) -> Result<u64, WriteFault>
-    requires { failures_of out.old < u64.MAX }
     ensures ok { IfOk result (λ after. Puts W.contents out.old out.new before after (outcome_text plan.now outcome.now)) }
     ensures err { IfErr result (λ fault. Stops W.contents out.old out.new before (outcome_text plan.now outcome.now) fault) }
 {

@@ -4,7 +4,7 @@ use Rattle.ring_source.specs.Ring.{ring_of_two}
 use Rattle.task_seed.specs.declared.table.Row.{Row}
 use Rattle.task_seed.specs.Faults.{HasFault}
 use Rattle.service.specs.First.{HasText, first_text}
-use Rattle.service.specs.Written.{IsStopped, IsWritten}
+use Rattle.trace.specs.Went.{IsStopped, IsWritten}
 use Rattle.service.proofs.Faults.{left_map, on_ok, if_err}
 use Rattle.service.proofs.first.first_run.Goals as goal
 

@@ -2,7 +2,7 @@ use Rattle.std.proofs.Common.{refl}
 use Rattle.std.specs.Arc.{arc_value}
 use Rattle.task_seed.specs.Setups.{system}
 use Rattle.service.specs.First.{text_of_first}
-use Rattle.service.specs.Written.{IsStopped}
+use Rattle.trace.specs.Went.{IsStopped}
 use Rattle.service.proofs.Faults.{left_by_run, number_by_run}
 use Rattle.service.proofs.first.run.Goals as goal
 

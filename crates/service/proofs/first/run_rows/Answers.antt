@@ -3,7 +3,7 @@ use Rattle.std.specs.Arc.{arc_value}
 use Rattle.task_seed.specs.Given.{table_turn}
 use Rattle.task_seed.specs.Setups.{system}
 use Rattle.service.specs.First.{first_text, text_of_first}
-use Rattle.service.specs.Written.{IsStopped, IsWritten}
+use Rattle.trace.specs.Went.{IsStopped, IsWritten}
 use Rattle.service.proofs.Faults.{left_by_table, left_map, on_ok, if_err}
 use Rattle.service.proofs.first.run_rows.Goals as goal
 

@@ -3,7 +3,7 @@ use Rattle.ioa_trees.specs.Spelling.{spell}
 use Rattle.ioa_trees.specs.Views.{view_source}
 use Rattle.ioa_tokens.specs.Layout.{layout}
 use Rattle.trace.specs.Puts.{written_of}
-use Rattle.service.specs.Written.{IsStopped}
+use Rattle.trace.specs.Went.{IsStopped}
 use Rattle.service.proofs.printing.print_source.Goals as goal
 
 pub returns-clause-unprinted : goal.returns-clause-unprinted

@@ -1,5 +1,5 @@
 use Rattle.std.proofs.Common.{◌≡◌, ℕ, List, inl, inr, map, string_bytes}
-use Rattle.service.specs.Written.{IsStopped, IsWritten}
+use Rattle.trace.specs.Went.{IsStopped, IsWritten}
 use Rattle.service.proofs.Told.{asked_not_warned}
 use Rattle.service.proofs.serve.answer.Goals as goal
 

@@ -1,7 +1,7 @@
 use Rattle.std.proofs.Common.{◌≡◌, ℕ, List, sym, subst}
 use Rattle.service.specs.Printing.{IsPrinted, IsUnprinted}
 use Rattle.service.specs.Reports.{IsPrintReport}
-use Rattle.service.specs.Written.{IsStopped, IsWritten}
+use Rattle.trace.specs.Went.{IsStopped, IsWritten}
 use Rattle.service.proofs.Printings.{print_reported, print_fault_reported}
 use Rattle.service.proofs.serve.print_file.Goals as goal
 

@@ -1,0 +1,43 @@
+-- Reports of refusals, by their numbers.
+use Rattle.std.proofs.Common.{◌≡◌, ◌≢◌, ◌≤◌, ◌⊎◌, inl, inr, ℕ, List, take, refl, subst, sym, arith, false}
+use Rattle.std.specs.Prelude.{Option, if◌then◌else◌}
+use Rattle.std.proofs.lemmas.Bool.Decides.{nat_tests}
+use Rattle.plans.specs.declared.plan.Plan.{Plan}
+use Rattle.sources.specs.declared.fault.SourceError.{SourceError}
+use Rattle.sources.specs.Composed.{IsComposed, IsRefused}
+use Rattle.sources.specs.Refusals.{source_number, source_place}
+use Rattle.service.specs.declared.report.Report.{Report}
+use Rattle.service.specs.declared.report.Report.TheVariants.{Refused, Fault}
+use Rattle.service.specs.Compositions.{HasBadSource, HasNoPlan, HasPlan}
+use Rattle.service.specs.Reading.{IsReadOf}
+use Rattle.service.specs.Reports.{is_fault, report_of}
+
+-- what a file says is no fault
+pub calm : (n : ℕ) → 2 ≤ n → n ≤ 39 → is_fault n ≡ false
+calm n low high = grind (arith, nat_tests, low, high)
+
+pub refused_by : (P : Report → Type 0) (n : ℕ) (place : Option ℕ) → 2 ≤ n → n ≤ 39 → P (Refused n place) → P (report_of n place)
+refused_by P n place low high p = subst (λ b. P (if b then Fault n else Refused n place)) (sym (calm n low high)) p
+
+pub fault_by : (P : Report → Type 0) (n : ℕ) (place : Option ℕ) → n ≡ 1 → P (Fault 1) → P (report_of n place)
+fault_by P n place one p = subst (λ k. P (report_of k place)) (sym one) p
+
+module _ (has : List ℕ → Type 0) (read : List ℕ) (is : IsReadOf has 65537 read) where
+  pub plan_found : (plan : Plan) → ((source : List ℕ) (p : Plan) → IsComposed (take 65537 source) p → IsComposed source p) → IsComposed read plan → HasPlan has plan
+  plan_found plan front composed = record { source = is.all; is = is.is; composed = front is.all plan (subst (λ source. IsComposed source plan) is.front composed) }
+
+  pub no_plan : (lacks : Type 0) (e : SourceError) → (source_number e ≡ 1) ⊎ ((2 ≤ source_number e) × (source_number e ≤ 25))
+      → ((source : List ℕ) (f : SourceError) → IsRefused (take 65537 source) f → IsRefused source f) → IsRefused read e → HasNoPlan has lacks (report_of (source_number e) (source_place e))
+  no_plan lacks e (inl one) front refused = fault_by (HasNoPlan has lacks) (source_number e) (source_place e) one (inl refl)
+  no_plan lacks e (inr numbered) front refused =
+      let low = numbered.0 in
+      let high = numbered.1 in
+      refused_by (HasNoPlan has lacks) (source_number e) (source_place e) low (omega (arith, high)) (record {
+        source = is.all;
+        is = is.is;
+        error = e;
+        refused = front is.all e (subst (λ source. IsRefused source e) is.front refused);
+        judged = λ one. omega (arith, one, low);
+        number_is = refl;
+        place_is = refl;
+      })
