@@ -24,9 +24,9 @@ pub struct Plan {
     components: Vec<Component>,
     actions: Vec<ActionName>,
     members: Vec<String>,
-    index: Index,
+    index: Box<Index>,
     ghost few: { vec_len components < 2 ^ 16 },
     ghost compatible: { IsCompatible (composed automata.items components.items) },
     ghost formed: { IsWellFormed (composed automata.items components.items) },
-    ghost indexed: { ∥ IsIndexed index (composed automata.items components.items) ∥₁ },
+    ghost indexed: { ∥ IsIndexed index.value (composed automata.items components.items) ∥₁ },
 }

@@ -29,7 +29,8 @@ impl Plan {
         ensures types { IfOk result (λ plan. action_types plan ≡ map types_of actions.items) }
         ensures members { IfOk result (λ plan. member_texts plan ≡ map string_bytes members.items) }
     {
-        let index = Index::of(alloc, automata.as_slice(), components.as_slice())?;
+        let found = Index::of(alloc, automata.as_slice(), components.as_slice())?;
+        let index = Box::new(alloc, found)?;
         Ok(Plan {
             automata,
             components,
