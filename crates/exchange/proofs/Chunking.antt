@@ -26,6 +26,11 @@ use Rattle.exchange.specs.Shared.{Shared, IsShared, stub_or_start, turns_of, exc
 use Rattle.exchange.specs.Chunks.{base_of, first_below, first_from}
 use Rattle.exchange.proofs.Committing.{end_is}
 
+-- the list turned round, and round again from its end
+pub onto_back : {X : Type 0} (before after : List X) → onto (onto before after) [] ≡ onto after before
+onto_back [] after = refl
+onto_back (x ∷ before) after = onto_back before (x ∷ after)
+
 falls_rest : (T : List (Turn Named)) (acc : List (Turn Named)) → Falls (onto T acc) → Falls acc
 falls_rest [] acc f = f
 falls_rest (t ∷ T) acc f = (falls_rest T (t ∷ acc) f).1

@@ -5,7 +5,6 @@ mod Committing
 mod Starting
 mod Chunking
 mod Knowing
-mod TakenIn
 mod Lowest
 mod Receiving
 pub mod Accepting

@@ -1,5 +1,5 @@
 -- The turns that a chunk gives.
-use Rattle.std.specs.Prelude.{◌≡◌, ℕ, ◌++◌, Bool, false, not, if◌then◌else◌, nat_lt, List, [], ◌∷◌, length}
+use Rattle.std.specs.Prelude.{◌≡◌, ℕ, ◌++◌, Bool, false, if◌then◌else◌, nat_lt, List, [], ◌∷◌, length}
 use Rattle.terms.specs.Datum.{Datum}
 use Rattle.terms.specs.Named.{Named}
 use Rattle.event_keys.specs.declared.key.Bound.{Bound}
@@ -16,11 +16,6 @@ base_of stub = stub.base
 abbrev pub is_first_below : ℕ → List Turned → Bool
 is_first_below b [] = false
 is_first_below b (t ∷ ts) = nat_lt (rank t.key) b
-
--- there is a last turn, and it is not below a bound
-abbrev pub is_last_from : ℕ → List Turned → Bool
-is_last_from b [] = false
-is_last_from b (t ∷ ts) = not (nat_lt (rank t.key) b)
 
 -- the first turns, as long as they are below a bound
 abbrev pub first_below : ℕ → List Turned → List Turned

@@ -13,14 +13,14 @@ use Rattle.antimessage.specs.Counts.{Each}
 use Rattle.antimessage.specs.Order.{IsInOrder}
 use Rattle.virtual_time.specs.Bags.{times}
 use Rattle.virtual_time.specs.Machine.{Machine}
-use Rattle.virtual_time.specs.Reference.{Turn, point}
+use Rattle.virtual_time.specs.Reference.{point}
 use Rattle.virtual_time.specs.Exchange.Stubs.{Stub as StubSeen, Exchange as ExchangeSeen, IsSound, start_stub}
-use Rattle.rollback.specs.Dropped.{turn_of}
 use Rattle.rollback.specs.Flight.{in_flight}
-use Rattle.rollback.specs.Kept.{onto}
 use Rattle.task_seed.specs.Turning.{System, key_of}
 use Rattle.task_seed.specs.Machines.{machine, turn_rank}
 use Rattle.exchange.specs.declared.stub.Stub.{Stub}
+-- turns as the theory sees them, the last one first
+pub use Rattle.turn_lists.specs.Turns.{turns_of}
 
 -- a setup, a stub for each component, the committed bound, the turns taken in and not given in a chunk, the first one first,
 -- and how many were given
@@ -47,10 +47,6 @@ stub_of m j s =
 abbrev pub stub_or_start : Machine (List Datum) Named → ℕ → Option Stub → StubSeen Named
 stub_or_start m j None = start_stub m j
 stub_or_start m j (Some s) = stub_of m j s
-
--- turns as the theory sees them, the last one first
-abbrev pub turns_of : List Turned → List (Turn Named)
-turns_of held = onto (map turn_of held) []
 
 abbrev pub exchange_of : {P : Type 0} → Machine (List Datum) Named → Shared P → ExchangeSeen Named
 exchange_of m e = record { stub = λ j. stub_or_start m j (slice_get e.stubs j); bound = rank_of_bound e.bound; held = turns_of e.held; given = e.given }

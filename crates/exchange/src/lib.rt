@@ -7,7 +7,6 @@ pub mod judging;
 pub mod laws;
 pub mod lease;
 mod meeting;
-mod merging;
 mod same;
 mod start;
 pub mod stub;

@@ -16,7 +16,6 @@ ghost use Rattle.exchange.specs.Moving.{IsSent, IsArrived, IsHandedOver, IsForgo
 use crate::exchange::Exchange;
 use crate::judging::MeetRefused;
 use crate::lease::Lease;
-use crate::merging::merge;
 use crate::stub::{Stub, earlier};
 use antimessage::Bag;
 use antimessage::laws::order_law;
@@ -26,6 +25,7 @@ use rollback::{Component, Copies};
 use task_seed::laws::{equal_setup_law, machine_is_lawful};
 use task_seed::{Setup, Turns};
 use terms::{Action, State};
+use turn_lists::merge;
 use virtual_time::exchanges::{exchange_is_sound, meeting_law};
 use virtual_time::merging::merging_law;
 

@@ -1,1 +1,1 @@
-pub mod Lesser
+pub mod Passed

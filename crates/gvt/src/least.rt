@@ -10,7 +10,7 @@ use event_keys::laws::bound_rank_law;
 
 /// The least of the bounds that an iterator gives up to its end, or `Bound::End` where it gives none. Its time grows with
 /// their number, and it takes no memory.
-#[tactic(auto, using(crate::proofs::Lesser::least_so_far))]
+#[tactic(auto, using(crate::proofs::Passed::least_so_far))]
 pub fn least_bound<I: Iterator<Item = Bound> + Drop>(bounds: I) -> Bound
     requires can { I.can_next bounds }
     requires ends { IsFinite (I.remaining bounds) }
@@ -23,7 +23,8 @@ pub fn least_bound<I: Iterator<Item = Bound> + Drop>(bounds: I) -> Bound
     least
 }
 
-fn lesser(first: Bound, second: Bound) -> Bound
+/// The lesser of two bounds.
+pub fn lesser(first: Bound, second: Bound) -> Bound
     ensures either { (result ≡ first) ⊎ (result ≡ second) }
     ensures first { rank_of_bound result ≤ rank_of_bound first }
     ensures second { rank_of_bound result ≤ rank_of_bound second }

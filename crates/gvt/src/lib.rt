@@ -3,7 +3,7 @@
 
 pub mod least;
 
-pub use least::least_bound;
+pub use least::{least_bound, lesser};
 
 #[cfg(test)]
 mod tests;

@@ -149,7 +149,7 @@ none_less n o t (inl x) (inr p) = p
 none_less n o t (inr p) y = p
 
 module _ (s : System) (j : ℕ) where
-  times_are : (sign : Sign) (m : Message) → (m.to == j) ≡ true → Fits (plus m) → (xs : List Signed) → Each Fits xs → times (machine s) (in_flight sign j xs) (rank m.key) m.action ≡ count (signed_as sign m) xs
+  pub times_are : (sign : Sign) (m : Message) → (m.to == j) ≡ true → Fits (plus m) → (xs : List Signed) → Each Fits xs → times (machine s) (in_flight sign j xs) (rank m.key) m.action ≡ count (signed_as sign m) xs
   times_are sign m e f xs g = times_count s sign j m (go_as sign j m e) f xs g ∙ count_agrees (signed_as sign m) xs
 
   -- of the message of key k and action a as many are in flight in the first list as in the second without those in the third

@@ -15,3 +15,5 @@ mod Levels
 mod Flights
 mod Taken
 mod Standing
+mod Lowest
+mod Leaving

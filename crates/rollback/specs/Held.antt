@@ -62,6 +62,11 @@ is_turning None = false
 is_turning (Some (Own k o)) = true
 is_turning (Some (Input x)) = false
 
+-- the key of the last done entry, if there is one
+abbrev pub last_key : {A : Type 0} → List (Entry A) → Option ℕ
+last_key [] = None
+last_key (e ∷ es) = Some (entry_key e)
+
 -- the last done entry, the list of it alone
 abbrev pub last_of : {A : Type 0} → List (Entry A) → List (Entry A)
 last_of [] = []

@@ -1,5 +1,5 @@
 //! One component: what it has done, what waits, and its state.
-ghost use Rattle.std.specs.Prelude.{◌≡◌, ◌<◌, ◌+◌, ◌∷◌, ◌↔◌, [], None, Some, IfSome, true, length, IfOk, OnOk, OnErr, IsErrOf, IsTrue, IsSomeAnd};
+ghost use Rattle.std.specs.Prelude.{◌≡◌, ◌<◌, ◌+◌, ◌∷◌, ◌↔◌, [], None, Some, IfSome, true, length, IfOk, OnOk, OnErr, IsErrOf, IsTrue, IsSomeAnd, option_map};
 ghost use Rattle.std.specs.Arc.{arc_value};
 ghost use Rattle.event_keys.specs.declared.key.Bound.TheVariants.{At};
 ghost use Rattle.event_keys.specs.declared.message.Sign.TheVariants.{Plus, Minus};
@@ -14,14 +14,14 @@ ghost use Rattle.rollback.specs.declared.refused.ProcessRefused.TheVariants.{NoM
 ghost use Rattle.task_seed.specs.Machines.{end_rank};
 ghost use Rattle.task_seed.specs.Setups.{system};
 ghost use Rattle.task_seed.specs.Turning.{key_of};
-ghost use Rattle.rollback.specs.Held.{machine_of, processed, sent_next, next_key, last_of, is_receiving, is_turning, start_record};
+ghost use Rattle.rollback.specs.Held.{machine_of, processed, sent_next, next_key, last_key, last_of, is_receiving, is_turning, start_record};
 ghost use Rattle.rollback.specs.Kept.{IsSmall};
 ghost use Rattle.rollback.specs.Post.{IsPosted};
 ghost use Rattle.rollback.specs.Stepped.{next_entry, HasNextKey, stepped, IsNextSent, IsNextTurn};
 
 use crate::done::Done;
 use crate::growth::{outcome_at, post_all, take_input, take_turn};
-use crate::keys::{fits, is_below};
+use crate::keys::{fits, is_below, key_of};
 use crate::refused::ProcessRefused;
 use antimessage::Bag;
 use event_keys::{Bound, Key, Signed, Turned};
@@ -145,6 +145,16 @@ impl<T: Turns> Component<T> {
         match self.coming {
             None => Bound::End,
             Some(key) => Bound::At(key),
+        }
+    }
+
+    /// The key of the last done entry, where anything is done since the base.
+    pub fn last(&self) -> Option<Key>
+        ensures { option_map rank result ≡ last_key self.now.history.done }
+    {
+        match self.done.peek_last() {
+            None => None,
+            Some(done) => Some(key_of(done)),
         }
     }
 

@@ -21,7 +21,7 @@ use Rattle.exchange.specs.Moving.{IsPassedOn}
 use Rattle.exchange.specs.Shared.{Shared, IsShared, stub_or_start, exchange_of, turns_of}
 use Rattle.exchange.proofs.Accepting.{accepted}
 use Rattle.exchange.proofs.Receiving.{To}
-use Rattle.exchange.proofs.TakenIn.{onto_back}
+use Rattle.exchange.proofs.Chunking.{onto_back}
 use Rattle.exchange.proofs.exchange.Exchange.accept.Goals as goal
 
 pub merge-requires-clause-falls : goal.merge-requires-clause-falls

@@ -1,0 +1,15 @@
+mod Putting
+mod Indexing
+mod Reaching
+mod Timing
+mod Ranges
+mod Moved
+mod Few
+mod Committing
+mod Starting
+mod Answering
+mod ThereAndBack
+mod RingTurned
+mod EachWay
+mod Comparing
+mod Keeping

@@ -1,0 +1,12 @@
+pub mod Refusals
+pub mod Simulation
+pub mod Steps
+pub mod Keeping
+pub mod Stepping
+pub mod Times
+pub mod Dropping
+pub mod MachineLaws
+pub mod Theory
+pub mod ThereAndBack
+pub mod Same
+pub mod SameLaws

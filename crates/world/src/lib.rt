@@ -1,0 +1,16 @@
+//! The core on one thread: worlds, driven by steps.
+#![tactic(auto)]
+
+mod commit;
+pub mod equality;
+pub mod examples;
+mod flight;
+mod known;
+pub mod laws;
+mod same;
+pub mod step;
+pub mod world;
+
+pub use step::{Reply, Step, StepRefused};
+pub use virtual_time::rolling_back::inverse_law;
+pub use world::World;
