@@ -44,7 +44,7 @@ trace_rule = record (new_rule (codes "trace")) { long = Some (codes "trace"); ac
 abbrev pub whole : ValueParser
 whole = Unsigned 0 18446744073709551615
 
--- a subcommand that simulates
+-- a subcommand that simulates or drives
 abbrev pub simulating : App → App
 simulating app =
     with_rule (with_rule (with_rule (with_rule (with_rule (with_rule app (number_rule (codes "seed") (codes "1") whole)) (number_rule (codes "stream") (codes "0") whole))
@@ -56,8 +56,13 @@ reference_app = simulating (of_file (codes "reference") (codes "F"))
 abbrev pub check_app : App
 check_app = with_rule (of_file (codes "check") (codes "F")) (file_rule (codes "TRACE"))
 
+abbrev pub drive_app : App
+drive_app = simulating (with_rule (of_file (codes "drive") (codes "F")) (file_rule (codes "STEPS")))
+
 abbrev pub warp : App
-warp = with_subcommand (with_subcommand (with_subcommand (with_subcommand bare print_app.top) first_app.top) reference_app.top) check_app.top
+warp =
+    with_subcommand (with_subcommand (with_subcommand (with_subcommand (with_subcommand bare print_app.top) first_app.top) reference_app.top) check_app.top)
+    drive_app.top
 
 -- the number that stands for an option, within a range
 pub record IsNumber (rows : List Row) (option : Text) (least most n : ℕ) : Type 0 where
@@ -88,6 +93,14 @@ pub record Simulates (entered : Option (Text × List Row)) (subcommand source : 
   pub given : first_of (codes "F") rows ≡ Some source
   pub chosen : HasOptions rows options
 
+-- what was entered is this subcommand, with these two files and these options
+pub record Drives (entered : Option (Text × List Row)) (subcommand source steps : Text) (options : Options) : Type 0 where
+  pub rows : List Row
+  pub is : entered ≡ Some (subcommand, rows)
+  pub source_given : first_of (codes "F") rows ≡ Some source
+  pub steps_given : first_of (codes "STEPS") rows ≡ Some steps
+  pub chosen : HasOptions rows options
+
 -- what was entered is this subcommand, with these two files
 pub record NamesBoth (entered : Option (Text × List Row)) (subcommand first second first_file second_file : Text) : Type 0 where
   pub rows : List Row
@@ -106,6 +119,7 @@ IsNamed entered (asked.Print source) = Names entered (codes "print") (codes "F")
 IsNamed entered (asked.First table) = Names entered (codes "first") (codes "TABLE") table.now
 IsNamed entered (asked.Reference source options) = Simulates entered (codes "reference") source.now options
 IsNamed entered (asked.Check source trace) = NamesBoth entered (codes "check") (codes "F") (codes "TRACE") source.now trace.now
+IsNamed entered (asked.Drive source steps options) = Drives entered (codes "drive") source.now steps.now options
 
 -- `clap` finds this fault in the words
 abbrev pub HasFault : List Text → ErrorKind → Type 0

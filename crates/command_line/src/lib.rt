@@ -5,7 +5,7 @@ ghost use Rattle.std.specs.Prelude.{◌≡◌, ℕ, false, IfOk, MatchOption, Ma
 ghost use Rattle.clap.specs.Words.{app_of, first_of, found_of, kind_of, rows_of, rule_of, subcommand_rows_of};
 ghost use Rattle.command_line.specs.declared.Asked.{Asked as AskedValue};
 ghost use Rattle.command_line.specs.declared.Options.{Options as OptionsValue};
-ghost use Rattle.command_line.specs.Words.{warp, file_rule, number_rule, table_rule, trace_rule, simulating, print_app, first_app, reference_app, check_app, HasOptions, IsAsked, IsFlag, IsNamed, IsNumber, IsRefused, IsTold};
+ghost use Rattle.command_line.specs.Words.{warp, file_rule, number_rule, table_rule, trace_rule, simulating, print_app, first_app, reference_app, check_app, drive_app, HasOptions, IsAsked, IsFlag, IsNamed, IsNumber, IsRefused, IsTold};
 ghost use Rattle.command_line.specs.declared.Refused.TheVariants.{NoMemory};
 
 use clap::builder::ValueParser;
@@ -37,9 +37,15 @@ pub enum Asked<'a> {
         source: &'a str,
         trace: &'a str,
     },
+    /// The composition of the source in the first file is driven by the steps in the second.
+    Drive {
+        source: &'a str,
+        steps: &'a str,
+        options: Options<'a>,
+    },
 }
 
-/// How a composition is simulated.
+/// The turns with which a composition is simulated or driven, and what is written of them.
 #[derive(Clone, Copy, Debug, PartialEq, Eq)]
 pub struct Options<'a> {
     /// The seed of the turns; with a table, seed, stream and gap aren't used.
@@ -106,7 +112,8 @@ fn described<'a>(alloc: Global) -> Result<Command<'a>, AllocError>
         .subcommand(print(alloc)?)?
         .subcommand(first(alloc)?)?
         .subcommand(reference(alloc)?)?
-        .subcommand(check(alloc)?)
+        .subcommand(check(alloc)?)?
+        .subcommand(drive(alloc)?)
 }
 
 fn print<'a>(alloc: Global) -> Result<Command<'a>, AllocError>
@@ -146,7 +153,17 @@ fn check<'a>(alloc: Global) -> Result<Command<'a>, AllocError>
         .arg(file(alloc, "TRACE", "The file of the actions, one a line"))
 }
 
-// The options of what simulates.
+fn drive<'a>(alloc: Global) -> Result<Command<'a>, AllocError>
+    ensures { IfOk result (λ c. app_of c ≡ drive_app) }
+{
+    let command = Command::new(alloc, "drive")
+        .about("Drive a composition by steps, and write the turns that are committed after all")
+        .arg(file(alloc, "F", "The file of the source"))?
+        .arg(file(alloc, "STEPS", "The file of the steps, one a line"))?;
+    with_options(alloc, command)
+}
+
+// The options of what simulates or drives.
 fn with_options<'a>(alloc: Global, command: Command<'a>) -> Result<Command<'a>, AllocError>
     ensures { IfOk result (λ c. app_of c ≡ simulating (app_of command.entry)) }
 {
@@ -240,6 +257,16 @@ fn asked_by<'a>(matches: &ArgMatches<'a>) -> Option<Asked<'a>>
         let source = file_of(found, "F")?;
         let trace = file_of(found, "TRACE")?;
         return Some(Asked::Check { source, trace });
+    }
+    if name == "drive" {
+        let source = file_of(found, "F")?;
+        let steps = file_of(found, "STEPS")?;
+        let options = options_of(found)?;
+        return Some(Asked::Drive {
+            source,
+            steps,
+            options,
+        });
     }
     None
 }

@@ -1,6 +1,6 @@
 //! What is asked for, by hand.
 
-use crate::{Asked, Refused, read_words};
+use crate::{Asked, Options, Refused, read_words};
 use std::alloc::Global;
 use std::test::Fail;
 
@@ -21,14 +21,44 @@ fn status_of(read: &Result<Asked, Refused>) -> Option<i32> {
     }
 }
 
+// The options where none is entered.
+const PLAIN: Options<'static> = Options {
+    seed: 1,
+    stream: 0,
+    gap: 8,
+    ticks: 1_000,
+    table: None,
+    trace: false,
+};
+
 #[test]
 fn a_subcommand_and_its_file(rt: HostRuntime) -> Result<(), Fail> {
     let alloc = rt.alloc();
-    let rows: [(&[&str], Asked); 4] = [
+    let rows: [(&[&str], Asked); 6] = [
         (&["print", "ring.ioa"], Asked::Print { source: "ring.ioa" }),
         (&["print", "--", "-x"], Asked::Print { source: "-x" }),
         (&["first", "a.table"], Asked::First { table: "a.table" }),
         (&["first", ""], Asked::First { table: "" }),
+        (
+            &["drive", "ring.ioa", "ring.steps"],
+            Asked::Drive {
+                source: "ring.ioa",
+                steps: "ring.steps",
+                options: PLAIN,
+            },
+        ),
+        (
+            &["drive", "--table=a", "ring.ioa", "--trace", "ring.steps"],
+            Asked::Drive {
+                source: "ring.ioa",
+                steps: "ring.steps",
+                options: Options {
+                    table: Some("a"),
+                    trace: true,
+                    ..PLAIN
+                },
+            },
+        ),
     ];
     for (said, wanted) in rows {
         let words = words(alloc, said)?;
@@ -43,7 +73,7 @@ fn a_subcommand_and_its_file(rt: HostRuntime) -> Result<(), Fail> {
 #[test]
 fn other_words_are_refused(rt: HostRuntime) -> Result<(), Fail> {
     let alloc = rt.alloc();
-    let rows: [&[&str]; 11] = [
+    let rows: [&[&str]; 13] = [
         &[],
         &["print"],
         &["first"],
@@ -55,6 +85,8 @@ fn other_words_are_refused(rt: HostRuntime) -> Result<(), Fail> {
         &["print", "--seed", "1", "a"],
         &["print", "a", "first", "b"],
         &["--", "print", "a"],
+        &["drive", "a"],
+        &["drive", "a", "b", "--gap", "0"],
     ];
     for said in rows {
         let words = words(alloc, said)?;

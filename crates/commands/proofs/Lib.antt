@@ -1,1 +1,3 @@
 mod Both
+mod Beginnings
+mod Driven

@@ -1,3 +1,4 @@
+pub mod Driven
 pub mod Judged
 pub mod Refusals
 pub mod Simulated

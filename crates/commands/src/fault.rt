@@ -1,8 +1,9 @@
 //! Why an engine ends before all is written.
 ghost use Rattle.std.specs.Prelude.{◌≡◌};
+ghost use Rattle.commands.specs.declared.fault.DriveFault.TheVariants.{NoMemory as Undriven};
 ghost use Rattle.commands.specs.declared.fault.SimulateFault.TheVariants.{NoMemory as OutOfMemory};
 
-use std::alloc::AllocError;
+use std::alloc::{AllocError, AllocFailed};
 use terms::{NoMemory, Refusal};
 use thiserror::Error;
 use trace::{TraceError, WriteFault};
@@ -22,6 +23,16 @@ pub enum CheckFault {
 /// Why turns aren't written to their end.
 #[derive(Clone, Copy, Debug, PartialEq, Eq, Error)]
 pub enum SimulateFault {
+    #[error("out of memory")]
+    NoMemory,
+    #[error("{0}")]
+    Write(WriteFault),
+}
+
+/// Why steps aren't done, or the turns that they commit aren't written to their end.
+#[derive(Clone, Copy, Debug, PartialEq, Eq, Error)]
+pub enum DriveFault {
+    /// There is none for the world or for what is answered; a step that lacks memory is refused.
     #[error("out of memory")]
     NoMemory,
     #[error("{0}")]
@@ -85,5 +96,49 @@ impl From<NoMemory> for SimulateFault {
 
     fn from(_refused: NoMemory) -> SimulateFault {
         SimulateFault::NoMemory
+    }
+}
+
+impl Refusal for DriveFault {
+    ghost use Rattle.std.specs.Prelude.{None};
+    ghost use Rattle.commands.specs.Refusals.{drive_number};
+
+    ghost number_of = { drive_number };
+
+    ghost place_of = { λ _. None };
+
+    fn number(&self) -> u8 {
+        match self {
+            DriveFault::NoMemory => 1,
+            DriveFault::Write(fault) => fault.number(),
+        }
+    }
+
+    fn place(&self) -> Option<usize> {
+        None
+    }
+}
+
+impl From<AllocError> for DriveFault {
+    ghost from_gives = { λ _ e. e ≡ Undriven };
+
+    fn from(_refused: AllocError) -> DriveFault {
+        DriveFault::NoMemory
+    }
+}
+
+impl<T: Drop> From<AllocFailed<T>> for DriveFault {
+    ghost from_gives = { λ _ e. e ≡ Undriven };
+
+    fn from(_refused: AllocFailed<T>) -> DriveFault {
+        DriveFault::NoMemory
+    }
+}
+
+impl From<NoMemory> for DriveFault {
+    ghost from_gives = { λ _ e. e ≡ Undriven };
+
+    fn from(_refused: NoMemory) -> DriveFault {
+        DriveFault::NoMemory
     }
 }

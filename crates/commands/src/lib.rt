@@ -2,9 +2,11 @@
 #![tactic(auto)]
 
 pub mod checking;
+pub mod driving;
 pub mod fault;
 pub mod simulating;
 
 pub use checking::check_trace;
-pub use fault::{CheckFault, SimulateFault};
+pub use driving::{RefusedStep, drive};
+pub use fault::{CheckFault, DriveFault, SimulateFault};
 pub use simulating::simulate;

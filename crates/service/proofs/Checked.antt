@@ -1,6 +1,5 @@
 -- Reports on judged actions, put together.
-use Rattle.std.proofs.Common.{◌≡◌, ◌≢◌, ◌≤◌, ◌⊎◌, inl, inr, ℕ, List, length, refl, arith}
-use Rattle.std.specs.Prelude.{Option, None}
+use Rattle.std.proofs.Common.{◌≤◌, inl, inr, ℕ, List, length, refl, arith}
 use Rattle.plans.specs.declared.plan.Plan.{Plan}
 use Rattle.reference.specs.declared.checking.Verdict.{Verdict}
 use Rattle.reference.specs.declared.checking.Verdict.TheVariants.{Schedule, NotEnabled, NotAnAction}
@@ -11,7 +10,7 @@ use Rattle.commands.specs.declared.fault.CheckFault.TheVariants as fault
 use Rattle.commands.specs.Judged.{IsJudged, IsUnjudged}
 use Rattle.commands.specs.Refusals.{check_number, check_place}
 use Rattle.service.specs.declared.report.Report.{Report}
-use Rattle.service.specs.declared.report.Report.TheVariants.{Done, No, Refused, Fault, Misused}
+use Rattle.service.specs.declared.report.Report.TheVariants.{Done, No, Driven, Refused, Fault, Misused}
 use Rattle.service.specs.Checks.{HasBoth, IsCheckReport, IsNo, IsVerdictOn, IsYes, verdict_report}
 use Rattle.service.specs.Compositions.{HasNoPlan, HasPlan}
 use Rattle.service.specs.Reports.{report_of}
@@ -22,6 +21,7 @@ module _ (has : List ℕ → List ℕ → Type 0) (lacks : List ℕ → Type 0) 
   pub unchecked_whole : (report : Report) → kept → HasNoPlan (has source) (lacks source) report → IsCheckReport has lacks source trace kept wrote cut report
   unchecked_whole Done k h = absurd h
   unchecked_whole No k h = absurd h
+  unchecked_whole (Driven refused) k h = absurd h
   unchecked_whole (Refused n p) k h = (inl h, k)
   unchecked_whole (Fault n) k h = inl (inl h, k)
   unchecked_whole Misused k h = absurd h

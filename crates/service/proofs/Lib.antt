@@ -1,6 +1,7 @@
 pub mod Ahead
 pub mod Checked
 pub mod Chunked
+pub mod DriveReports
 pub mod Faults
 pub mod Floors
 pub mod Pieces

@@ -1,6 +1,6 @@
 -- Pieces of a text, written one after another.
-use Rattle.std.proofs.Common.{◌≡◌, inl, inr, ℕ, ◌+◌, ◌<◌, ◌≤◌, List, ◌++◌, length, take, append_assoc, arith, length-append, ap, subst, sym, ◌∙◌}
-use Rattle.std.specs.Prelude.{Option, Result, Ok, Err, OnOk, OnErr, IfErr, ◌⊎◌}
+use Rattle.std.proofs.Common.{◌≡◌, inl, inr, ℕ, ◌+◌, ◌≤◌, List, ◌++◌, length, take, append_assoc, arith, length-append, ap, subst, sym, ◌∙◌}
+use Rattle.std.specs.Prelude.{Option, Result, Ok, Err, OnOk, OnErr, IfErr, ◌∷◌, flat_map}
 use Rattle.std.specs.Io.KnownBytes.{Appends}
 use Rattle.std.proofs.KnownBytes.{Appends-trans}
 use Rattle.std.proofs.lemmas.List.{take-append-le}
@@ -10,7 +10,7 @@ use Rattle.trace.specs.declared.fault.WriteFault.{WriteFault}
 use Rattle.trace.specs.Counts.{writer_of, one_more}
 use Rattle.trace.specs.Puts.{written_of}
 use Rattle.trace.specs.Went.{IsStopped, IsWritten}
-use Rattle.service.specs.Written.{IsCut, IsSaid}
+use Rattle.service.specs.Written.{IsCut, IsSaid, IsWrittenFront}
 
 module _ {W : Type 0} {known : W → Option (List ℕ)} where
   -- one piece, and then another
@@ -74,6 +74,24 @@ module _ {W : Type 0} (known : W → Option (List ℕ)) (old new : Counted W) (t
   pub said_by : (r : Result T WriteFault) → OnOk r (IsWritten known old new text) → OnErr r (IsCut known old new text) → IsSaid known old new text
   said_by (Ok x) written cut = inl written
   said_by (Err e) written cut = inr cut
+
+-- what is left begins with the line of the first item that is left
+line_next : {X : Type 0} (line : X → List ℕ) (text front : List ℕ) (left later : List X) (x : X) → left ≡ x ∷ later → text ≡ front ++ flat_map line left → text ≡ front ++ (line x ++ flat_map line later)
+line_next {X} line text front left later x split whole = subst (λ (l : List X). text ≡ front ++ flat_map line l) split whole
+
+-- lines, one for each item of a list
+module _ {W : Type 0} {known : W → Option (List ℕ)} {X : Type 0} (line : X → List ℕ) where
+  -- one line more went out
+  pub line_written : {a b c : Counted W} {text : List ℕ} (left later : List X) (x : X) → left ≡ x ∷ later → IsWrittenFront known a b text (flat_map line left) → IsWritten known b c (line x) → IsWrittenFront known a c text (flat_map line later)
+  line_written {a} {b} {c} {text} left later x split before went = record {
+    front = before.front ++ line x;
+    went = then_written before.went went;
+    whole = line_next line text before.front left later x split before.whole ∙ sym (append_assoc before.front (line x) (flat_map line later));
+  }
+
+  -- a write failed in a line
+  pub line_cut : {a b c : Counted W} {text : List ℕ} (left later : List X) (x : X) → left ≡ x ∷ later → IsWrittenFront known a b text (flat_map line left) → IsCut known b c (line x) → IsCut known a c text
+  line_cut {a} {b} {c} {text} left later x split before cut = subst (λ (l : List ℕ). IsCut known a c l) (sym (line_next line text before.front left later x split before.whole)) (then_cut before.went (cut_before (flat_map line later) cut))
 
 -- five pieces, in two groups
 pub grouped : (a b c d e : List ℕ) → (a ++ b) ++ ((c ++ d) ++ e) ≡ (((a ++ b) ++ c) ++ d) ++ e

@@ -1,8 +1,9 @@
 -- Reports on parts of a simulation, put together.
-use Rattle.std.proofs.Common.{◌≡◌, ◌≤◌, ◌<◌, ◌⊎◌, ◌∙◌, inl, inr, ℕ, List, refl, ap, subst, sym, arith, length}
+use Rattle.std.proofs.Common.{◌≡◌, ◌≤◌, ◌<◌, ◌⊎◌, ◌∙◌, inl, inr, ℕ, List, refl, ap, subst, sym, length}
 use Rattle.std.specs.Prelude.{Option, None, Some, Ok, Err, option_map, slice_get}
 use Rattle.std.proofs.lemmas.Bool.{cases_lt}
 use Rattle.plans.specs.declared.plan.Plan.{Plan}
+use Rattle.plans.specs.Automata.{Instance}
 use Rattle.plans.specs.Plans.{composition}
 use Rattle.task_seed.specs.Turning.{System}
 use Rattle.task_seed.specs.declared.table.Row.{Row}
@@ -17,7 +18,7 @@ use Rattle.task_seed.specs.Rows.{turns_of}
 use Rattle.task_seed.specs.Table.{IsFirstBadLine}
 use Rattle.command_line.specs.declared.Options.{Options}
 use Rattle.service.specs.declared.report.Report.{Report}
-use Rattle.service.specs.declared.report.Report.TheVariants.{Done, No, Refused, Fault, Misused}
+use Rattle.service.specs.declared.report.Report.TheVariants.{Done, No, Driven, Refused, Fault, Misused}
 use Rattle.service.specs.Compositions.{HasNoPlan, HasPlan}
 use Rattle.service.specs.Parts.{IsMemory, IsRunReport}
 use Rattle.service.specs.Reports.{report_of}
@@ -29,12 +30,31 @@ use Rattle.service.specs.Unread.{HasSmall, IsFileFault, most_bytes}
 pub no_error : {T E : Type 0} (x : T) (e : E) → Ok x ≡ Err e → ⊥
 no_error x e same = cc
 
+-- the turns of a seed are those that are asked for
+pub seeds_are : (options : Options) (gap : ℕ) → (options.gap ≤ 65535 → gap ≡ options.gap) → (65535 < options.gap → 65535 < gap) → (turns : SeedTurns)
+    → ((i n : ℕ) → seed_turn turns i n ≡ drawn_turn options.seed options.stream gap i n) → ((gap < 1) ⊎ (65535 < gap) → ⊥) → seed_turn turns ≡ drawn_turn options.seed options.stream options.gap
+seeds_are options gap same large turns drawn within = (λ k i n. drawn i n k) ∙ ap (drawn_turn options.seed options.stream) (fits (cases_lt 65535 options.gap)) where
+  fits : (65535 < options.gap) ⊎ (options.gap ≤ 65535) → gap ≡ options.gap
+  fits (inl wide) = absurd (within (inr (large wide)))
+  fits (inr narrow) = same narrow
+
+-- the turns of rows are those of the table
+pub rows_are : (parts : List Instance) (ticks : ℕ) (table : List ℕ) (given : List Row) → Spells table given → (seen : List Row) → seen ≡ given → (turns : TableTurns) → ((i n : ℕ) → table_turn turns i n ≡ slice_get (turns_of seen i) n)
+    → AreSound parts seen → (s : System) → s ≡ system_with parts (table_turn turns) ticks → IsTabled parts ticks s table
+rows_are parts ticks table given spells seen same turns are sound s is = record {
+  rows = given;
+  spelling = spells;
+  sound = subst (AreSound parts) same sound;
+  is = is ∙ ap (λ t. system_with parts t ticks) ((λ k i n. are i n k) ∙ ap (λ (l : List Row). λ i n. slice_get (turns_of l i) n) same);
+}
+
 -- the same with other words for the turns that are given
 pub given_otherwise : (Given Other : System → Type 0) (Bad BadOther : ℕ → Option ℕ → Type 0) (Lacks LacksOther : ℕ → Type 0) (plan : Plan) (options : Options) (kept : Type 0) (wrote : List ℕ → Type 0) (cut : List ℕ → ℕ → Type 0)
     → ((s : System) → Given s → Other s) → ((n : ℕ) (p : Option ℕ) → Bad n p → BadOther n p) → ((n : ℕ) → Lacks n → LacksOther n)
     → (report : Report) → IsRunReport Given Bad Lacks plan options kept wrote cut report → IsRunReport Other BadOther LacksOther plan options kept wrote cut report
 given_otherwise Given Other Bad BadOther Lacks LacksOther plan options kept wrote cut f g h Done r = record { system = r.system; turns = f r.system r.turns; simulated = r.simulated }
 given_otherwise Given Other Bad BadOther Lacks LacksOther plan options kept wrote cut f g h No r = absurd r
+given_otherwise Given Other Bad BadOther Lacks LacksOther plan options kept wrote cut f g h (Driven refused) r = absurd r
 given_otherwise Given Other Bad BadOther Lacks LacksOther plan options kept wrote cut f g h (Refused n p) (inl bad, k) = (inl (g n p bad), k)
 given_otherwise Given Other Bad BadOther Lacks LacksOther plan options kept wrote cut f g h (Refused n p) (inr bad, k) = (inr bad, k)
 given_otherwise Given Other Bad BadOther Lacks LacksOther plan options kept wrote cut f g h (Fault n) (inl lacking) = inl (h n lacking.0, lacking.1)
@@ -47,6 +67,7 @@ module _ (has : List ℕ → List ℕ → Type 0) (lacks : List ℕ → Type 0) 
   pub unsimulated_whole : (report : Report) → kept → HasNoPlan (has source) (lacks source) report → IsSimulateReport has lacks source options kept wrote cut report
   unsimulated_whole Done k h = absurd h
   unsimulated_whole No k h = absurd h
+  unsimulated_whole (Driven refused) k h = absurd h
   unsimulated_whole (Refused n p) k h = (inl h, k)
   unsimulated_whole (Fault n) k h = inl (inl h, k)
   unsimulated_whole Misused k h = absurd h
@@ -64,6 +85,7 @@ module _ (has : List ℕ → List ℕ → Type 0) (lacks : List ℕ → Type 0) 
       go : (report : Report) → IsRunReport (λ s. s ≡ seeded (composition plan) options) (λ n p. ⊥) IsMemory plan options kept wrote cut report → IsSimulateReport has lacks source options kept wrote cut report
       go Done r = record { plan = plan; meant = meant; system = r.system; turns = turns r.system r.turns; simulated = r.simulated }
       go No r = absurd r
+      go (Driven refused) r = absurd r
       go (Refused n p) (inl bad, k) = absurd bad
       go (Refused n p) (inr bad, k) = (inr (inr bad), k)
       go (Fault n) (inl lacking) = inl (inl (inl lacking.0), lacking.1)
@@ -83,6 +105,7 @@ module _ (has : List ℕ → List ℕ → Type 0) (lacks : List ℕ → Type 0) 
           → IsSimulateReport has lacks source options kept wrote cut report
       go Done r = record { plan = plan; meant = meant; system = r.system; turns = turns r.system r.turns; simulated = r.simulated }
       go No r = absurd r
+      go (Driven refused) r = absurd r
       go (Refused n p) (inl bad, k) = (inr (inl (record { plan = plan; meant = meant; holds = record { name = name; asked = asked; refused = bad } })), k)
       go (Refused n p) (inr bad, k) = (inr (inr bad), k)
       go (Fault n) (inl lacking) = inl (inr (record { plan = plan; meant = meant; holds = record { name = name; asked = asked; unread = lacking.0 } }), lacking.1)
@@ -108,21 +131,10 @@ module _ (plan : Plan) (options : Options) (kept : Type 0) (wrote : List ℕ →
       → ((i n : ℕ) → seed_turn turns i n ≡ drawn_turn options.seed options.stream gap i n) → ((gap < 1) ⊎ (65535 < gap) → ⊥) → (report : Report)
       → IsRunReport (λ s. s ≡ system_with (composition plan) (seed_turn turns) options.ticks) (λ n p. ⊥) IsMemory plan options kept wrote cut report
       → IsRunReport (λ s. s ≡ seeded (composition plan) options) (λ n p. ⊥) IsMemory plan options kept wrote cut report
-  seeds_given gap same large turns drawn within = given_otherwise _ _ _ _ _ _ plan options kept wrote cut (λ s is. is ∙ ap (λ t. system_with (composition plan) t options.ticks) all) (λ n p bad. bad) (λ n one. one) where
-    fits : (65535 < options.gap) ⊎ (options.gap ≤ 65535) → gap ≡ options.gap
-    fits (inl wide) = absurd (within (inr (large wide)))
-    fits (inr narrow) = same narrow
-
-    all : seed_turn turns ≡ drawn_turn options.seed options.stream options.gap
-    all = (λ k i n. drawn i n k) ∙ ap (drawn_turn options.seed options.stream) (fits (cases_lt 65535 options.gap))
+  seeds_given gap same large turns drawn within = given_otherwise _ _ _ _ _ _ plan options kept wrote cut (λ s is. is ∙ ap (λ t. system_with (composition plan) t options.ticks) (seeds_are options gap same large turns drawn within)) (λ n p bad. bad) (λ n one. one)
 
   -- the turns of rows
   pub rows_given : (table : List ℕ) (given : List Row) → Spells table given → (seen : List Row) → seen ≡ given → (turns : TableTurns) → ((i n : ℕ) → table_turn turns i n ≡ slice_get (turns_of seen i) n) → AreSound (composition plan) seen → (report : Report)
       → IsRunReport (λ s. s ≡ system_with (composition plan) (table_turn turns) options.ticks) (λ n p. ⊥) IsMemory plan options kept wrote cut report
       → IsRunReport (λ s. IsTabled (composition plan) options.ticks s table) (λ n p. IsRefused (composition plan) table n p) IsMemory plan options kept wrote cut report
-  rows_given table given spells seen same turns are sound = given_otherwise _ _ _ _ _ _ plan options kept wrote cut (λ s is. record {
-    rows = given;
-    spelling = spells;
-    sound = subst (AreSound (composition plan)) same sound;
-    is = is ∙ ap (λ t. system_with (composition plan) t options.ticks) ((λ k i n. are i n k) ∙ ap (λ (l : List Row). λ i n. slice_get (turns_of l i) n) same);
-  }) (λ n p bad. absurd bad) (λ n one. one)
+  rows_given table given spells seen same turns are sound = given_otherwise _ _ _ _ _ _ plan options kept wrote cut (rows_are (composition plan) options.ticks table given spells seen same turns are sound) (λ n p bad. absurd bad) (λ n one. one)

@@ -5,9 +5,10 @@ use Rattle.command_line.specs.declared.Asked.{Asked}
 use Rattle.command_line.specs.declared.Asked.TheVariants as asked
 use Rattle.trace.specs.declared.counted.Counted.{Counted}
 use Rattle.service.specs.declared.report.Report.{Report}
-use Rattle.service.specs.declared.report.Report.TheVariants.{Done, No, Refused, Fault, Misused}
+use Rattle.service.specs.declared.report.Report.TheVariants.{Done, No, Driven, Refused, Fault, Misused}
 use Rattle.service.specs.Reports.{IsReportOn, line_of}
 use Rattle.service.specs.Told.{IsTold, IsWarned}
+use Rattle.service.proofs.DriveReports.{drive_not_misused}
 use Rattle.service.specs.Written.{IsSaid}
 
 module _ {E : Type 0} (known : E → Option (List ℕ)) where
@@ -16,18 +17,21 @@ module _ {E : Type 0} (known : E → Option (List ℕ)) where
       → IsReportOn what has lacks kept wrote cut report → IsWarned known old old report
   asked_not_warned has lacks kept wrote cut old what Done on = refl
   asked_not_warned has lacks kept wrote cut old what No on = refl
+  asked_not_warned has lacks kept wrote cut old what (Driven refused) on = refl
   asked_not_warned has lacks kept wrote cut old what (Refused number place) on = refl
   asked_not_warned has lacks kept wrote cut old what (Fault number) on = refl
   asked_not_warned has lacks kept wrote cut old (asked.Print source) Misused on = absurd on
   asked_not_warned has lacks kept wrote cut old (asked.First table) Misused on = absurd on
   asked_not_warned has lacks kept wrote cut old (asked.Reference source options) Misused on = absurd on
   asked_not_warned has lacks kept wrote cut old (asked.Check source trace) Misused on = absurd on
+  asked_not_warned has lacks kept wrote cut old (asked.Drive source steps options) Misused on = absurd (drive_not_misused has lacks source.now steps.now options kept wrote cut on)
 
   -- what is said before the line, and the line, are what is said in all
   pub told : (old between new : Counted E) (report : Report) → IsWarned known old between report → IsSaid known between new (line_of report)
       → ((report ≡ Done) ⊎ ((report ≡ No) ⊎ (report ≡ Misused)) → new ≡ between) → IsTold known old new report
   told old between new Done warned said quiet = quiet (inl refl) ∙ warned
   told old between new No warned said quiet = quiet (inr (inl refl)) ∙ warned
+  told old between new (Driven refused) warned said quiet = subst (λ (c : Counted E). IsSaid known c new (line_of (Driven refused))) warned said
   told old between new (Refused number place) warned said quiet = subst (λ (c : Counted E). IsSaid known c new (line_of (Refused number place))) warned said
   told old between new (Fault number) warned said quiet = subst (λ (c : Counted E). IsSaid known c new (line_of (Fault number))) warned said
   told old between new Misused warned said quiet = record { text = warned.text; some = warned.some; became = subst (λ (c : Counted E). IsSaid known old c warned.text) (sym (quiet (inr (inr refl)))) warned.became }

@@ -8,7 +8,7 @@ use Rattle.trace.specs.Refusals.{trace_number, trace_place}
 use Rattle.trace.specs.TraceFile.{IsTraceFault}
 use Rattle.commands.specs.Judged.{IsJudged}
 use Rattle.service.specs.declared.report.Report.{Report}
-use Rattle.service.specs.declared.report.Report.TheVariants.{Done, No, Refused, Fault, Misused}
+use Rattle.service.specs.declared.report.Report.TheVariants.{Done, No, Driven, Refused, Fault, Misused}
 use Rattle.service.specs.Compositions.{HasBadSource, HasPlan}
 use Rattle.service.specs.Unread.{HasSmall, IsFileFault, IsUnread}
 
@@ -33,9 +33,9 @@ pub record IsVerdictOn (IsOne : Verdict → Type 0) (Became : List ℕ → Type 
   pub judged : IsJudged plan bytes verdict Became
 
 -- a line has a fault, with this number and place
-pub record HasBadLine (number : ℕ) (place : Option ℕ) (plan : Plan) (bytes : List ℕ) : Type 0 where
+pub record HasBadLine (IsFaulty : Plan → List ℕ → TraceError → Type 0) (number : ℕ) (place : Option ℕ) (plan : Plan) (bytes : List ℕ) : Type 0 where
   pub error : TraceError
-  pub refused : IsTraceFault plan bytes error
+  pub refused : IsFaulty plan bytes error
   pub judged : trace_number error ≢ 1
   pub number_is : number ≡ trace_number error
   pub place_is : place ≡ trace_place error
@@ -67,6 +67,7 @@ pub record IsCheckCut (has : List ℕ → List ℕ → Type 0) (source trace : L
 abbrev pub IsCheckReport : (List ℕ → List ℕ → Type 0) → (List ℕ → Type 0) → List ℕ → List ℕ → Type 0 → (List ℕ → Type 0) → (List ℕ → ℕ → Type 0) → Report → Type 0
 IsCheckReport has lacks source trace kept wrote cut Done = HasBoth has source trace (IsVerdictOn IsYes wrote)
 IsCheckReport has lacks source trace kept wrote cut No = HasBoth has source trace (IsVerdictOn IsNo wrote)
-IsCheckReport has lacks source trace kept wrote cut (Refused number place) = (HasBadSource (has source) number place ⊎ HasBoth has source trace (HasBadLine number place)) × kept
+IsCheckReport has lacks source trace kept wrote cut (Driven refused) = ⊥
+IsCheckReport has lacks source trace kept wrote cut (Refused number place) = (HasBadSource (has source) number place ⊎ HasBoth has source trace (HasBadLine IsTraceFault number place)) × kept
 IsCheckReport has lacks source trace kept wrote cut (Fault number) = ((IsUnread (lacks source) number ⊎ LacksTrace has lacks source trace number) × kept) ⊎ IsCheckCut has source trace cut number
 IsCheckReport has lacks source trace kept wrote cut Misused = ⊥

@@ -5,7 +5,7 @@ use Rattle.task_seed.specs.Turning.{System}
 use Rattle.command_line.specs.declared.Options.{Options}
 use Rattle.commands.specs.Simulated.{IsSimulated}
 use Rattle.service.specs.declared.report.Report.{Report}
-use Rattle.service.specs.declared.report.Report.TheVariants.{Done, No, Refused, Fault, Misused}
+use Rattle.service.specs.declared.report.Report.TheVariants.{Done, No, Driven, Refused, Fault, Misused}
 use Rattle.service.specs.Simulations.{IsBadOption, lines_for}
 
 -- what the plan does with turns of which this holds became this
@@ -24,6 +24,7 @@ pub record IsRunCut (Given : System → Type 0) (plan : Plan) (options : Options
 abbrev pub IsRunReport : (System → Type 0) → (ℕ → Option ℕ → Type 0) → (ℕ → Type 0) → Plan → Options → Type 0 → (List ℕ → Type 0) → (List ℕ → ℕ → Type 0) → Report → Type 0
 IsRunReport Given Bad Lacks plan options kept wrote cut Done = Runs Given plan options wrote
 IsRunReport Given Bad Lacks plan options kept wrote cut No = ⊥
+IsRunReport Given Bad Lacks plan options kept wrote cut (Driven refused) = ⊥
 IsRunReport Given Bad Lacks plan options kept wrote cut (Refused number place) = (Bad number place ⊎ IsBadOption options number place) × kept
 IsRunReport Given Bad Lacks plan options kept wrote cut (Fault number) = (Lacks number × kept) ⊎ IsRunCut Given plan options cut number
 IsRunReport Given Bad Lacks plan options kept wrote cut Misused = ⊥

@@ -1,13 +1,15 @@
 -- Statuses, lines and when each report is given.
-use Rattle.std.specs.Prelude.{◌≡◌, ◌⊎◌, ◌==◌, ◌||◌, ◌&&◌, nat_le, ℕ, Bool, if◌then◌else◌, Option, None, Some, List, [], ◌++◌, codes, decimal}
+use Rattle.std.specs.Prelude.{◌≡◌, ◌⊎◌, ◌==◌, ◌||◌, ◌&&◌, nat_le, ℕ, Bool, if◌then◌else◌, Option, None, Some, List, [], ◌++◌, codes, decimal, flat_map}
 use Rattle.clap.specs.declared.error.ErrorKind.TheVariants.{DisplayHelp}
 use Rattle.command_line.specs.declared.Asked.{Asked}
 use Rattle.command_line.specs.declared.Asked.TheVariants as asked
 use Rattle.command_line.specs.Words.{AskNothing, HasFault, IsAsked, IsWrong}
 use Rattle.service.specs.declared.report.Report.{Report}
-use Rattle.service.specs.declared.report.Report.TheVariants.{Done, No, Refused, Fault, Misused}
+use Rattle.service.specs.declared.report.Report.TheVariants.{Done, No, Driven, Refused, Fault, Misused}
 use Rattle.ring_source.specs.Ring.{ring_of_two}
+use Rattle.commands.specs.declared.driving.RefusedStep.{RefusedStep}
 use Rattle.service.specs.Checks.{IsCheckReport}
+use Rattle.service.specs.Drives.{IsDriveReport}
 use Rattle.service.specs.Unread.{HasSmall, IsFileFault, IsUnread}
 use Rattle.service.specs.Printing.{IsPrinted, IsRefusedSource}
 use Rattle.service.specs.Simulations.{IsSimulateReport}
@@ -18,14 +20,20 @@ use Rattle.service.specs.Written.{SomeText}
 abbrev pub status_of : Report → ℕ
 status_of Done = 0
 status_of No = 4
+status_of (Driven refused) = 0
 status_of (Refused number place) = 1
 status_of (Fault number) = 3
 status_of Misused = 2
 
--- the line on standard error, with its line feed; nothing where all is done, and nothing after what was said of wrong words
+-- the line of a refused step
+abbrev pub refused_line : RefusedStep → List ℕ
+refused_line refused = codes "step " ++ decimal refused.step ++ codes " refused " ++ decimal refused.number ++ codes "\n"
+
+-- the line on standard error, with its line feed; a line for each refused step; nothing where all is done, and nothing after what was said of wrong words
 abbrev pub line_of : Report → List ℕ
 line_of Done = []
 line_of No = []
+line_of (Driven refused) = flat_map refused_line refused.items
 line_of (Refused number None) = codes "refused " ++ decimal number ++ codes "\n"
 line_of (Refused number (Some place)) = codes "refused " ++ decimal number ++ codes " at " ++ decimal place ++ codes "\n"
 line_of (Fault number) = codes "fault " ++ decimal number ++ codes "\n"
@@ -58,6 +66,7 @@ IsFault has lacks kept cut number = ((IsFileFault has lacks number ⊎ IsMeetFau
 abbrev pub IsFirstReport : (List ℕ → Type 0) → Type 0 → Type 0 → (List ℕ → Type 0) → (List ℕ → ℕ → Type 0) → Report → Type 0
 IsFirstReport has lacks kept wrote cut Done = HasSmall has (λ table. IsAccepted ring_of_two table × HasText table wrote)
 IsFirstReport has lacks kept wrote cut No = ⊥
+IsFirstReport has lacks kept wrote cut (Driven refused) = ⊥
 IsFirstReport has lacks kept wrote cut (Refused number place) = HasSmall has (λ table. IsRefused ring_of_two table number place) × kept
 IsFirstReport has lacks kept wrote cut (Fault number) = IsFault has lacks kept cut number
 IsFirstReport has lacks kept wrote cut Misused = ⊥
@@ -77,6 +86,7 @@ pub record IsPrintCut (has : List ℕ → Type 0) (cut : List ℕ → ℕ → Ty
 abbrev pub IsPrintReport : (List ℕ → Type 0) → Type 0 → Type 0 → (List ℕ → Type 0) → (List ℕ → ℕ → Type 0) → Report → Type 0
 IsPrintReport has lacks kept wrote cut Done = IsSourceWith has (λ source. IsPrinted source wrote)
 IsPrintReport has lacks kept wrote cut No = ⊥
+IsPrintReport has lacks kept wrote cut (Driven refused) = ⊥
 IsPrintReport has lacks kept wrote cut (Refused number place) = IsSourceWith has (λ source. IsRefusedSource source number place) × kept
 IsPrintReport has lacks kept wrote cut (Fault number) = (IsUnread lacks number × kept) ⊎ IsPrintCut has cut number
 IsPrintReport has lacks kept wrote cut Misused = ⊥
@@ -87,6 +97,7 @@ IsReportOn (asked.Print source) has lacks = IsPrintReport (has source.now) (lack
 IsReportOn (asked.First table) has lacks = IsFirstReport (has table.now) (lacks table.now)
 IsReportOn (asked.Reference source options) has lacks = IsSimulateReport has lacks source.now options
 IsReportOn (asked.Check source trace) has lacks = IsCheckReport has lacks source.now trace.now
+IsReportOn (asked.Drive source steps options) has lacks = IsDriveReport has lacks source.now steps.now options
 
 -- the words ask for something, and this is the report on it
 pub record IsReportOnAsked (words : List (List ℕ)) (has : List ℕ → List ℕ → Type 0) (lacks : List ℕ → Type 0) (kept : Type 0) (wrote : List ℕ → Type 0) (cut : List ℕ → ℕ → Type 0) (report : Report) : Type 0 where
@@ -109,6 +120,7 @@ pub record IsHelpCut (words : List (List ℕ)) (cut : List ℕ → ℕ → Type 
 abbrev pub IsUnserved : List (List ℕ) → Type 0 → (List ℕ → Type 0) → (List ℕ → ℕ → Type 0) → Report → Type 0
 IsUnserved words kept wrote cut Done = IsHelped words wrote
 IsUnserved words kept wrote cut No = ⊥
+IsUnserved words kept wrote cut (Driven refused) = ⊥
 IsUnserved words kept wrote cut (Refused number place) = ⊥
 IsUnserved words kept wrote cut (Fault number) = ((number ≡ 1) × kept) ⊎ IsHelpCut words cut number
 IsUnserved words kept wrote cut Misused = (IsWrong words ⊎ AskNothing words) × kept

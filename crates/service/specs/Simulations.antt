@@ -13,7 +13,7 @@ use Rattle.trace.specs.declared.lines.Lines.TheVariants.{All, Trace}
 use Rattle.command_line.specs.declared.Options.{Options}
 use Rattle.commands.specs.Simulated.{IsSimulated}
 use Rattle.service.specs.declared.report.Report.{Report}
-use Rattle.service.specs.declared.report.Report.TheVariants.{Done, No, Refused, Fault, Misused}
+use Rattle.service.specs.declared.report.Report.TheVariants.{Done, No, Driven, Refused, Fault, Misused}
 use Rattle.service.specs.Compositions.{HasBadSource, HasPlan}
 use Rattle.service.specs.Unread.{HasSmall, IsFileFault, IsUnread}
 use Rattle.service.specs.Tables.{AreSound, IsRefused, Spells}
@@ -92,6 +92,7 @@ pub record IsSimulateCut (has : List ℕ → List ℕ → Type 0) (source : List
 abbrev pub IsSimulateReport : (List ℕ → List ℕ → Type 0) → (List ℕ → Type 0) → List ℕ → Options → Type 0 → (List ℕ → Type 0) → (List ℕ → ℕ → Type 0) → Report → Type 0
 IsSimulateReport has lacks source options kept wrote cut Done = Simulates has source options wrote
 IsSimulateReport has lacks source options kept wrote cut No = ⊥
+IsSimulateReport has lacks source options kept wrote cut (Driven refused) = ⊥
 IsSimulateReport has lacks source options kept wrote cut (Refused number place) = (HasBadSource (has source) number place ⊎ (Means (has source) (λ c. HasBadTable has c options number place) ⊎ IsBadOption options number place)) × kept
 IsSimulateReport has lacks source options kept wrote cut (Fault number) = ((IsUnread (lacks source) number ⊎ Means (has source) (λ c. LacksTable has lacks options number)) × kept) ⊎ IsSimulateCut has source options cut number
 IsSimulateReport has lacks source options kept wrote cut Misused = ⊥

@@ -1,5 +1,5 @@
 -- What was said of a text, on a writer that may fail.
-use Rattle.std.specs.Prelude.{◌⊎◌, ℕ, ◌<◌, List, length, Option}
+use Rattle.std.specs.Prelude.{◌≡◌, ◌⊎◌, ◌++◌, ℕ, ◌<◌, List, length, Option}
 use Rattle.trace.specs.declared.counted.Counted.{Counted}
 use Rattle.trace.specs.Went.{IsStopped, IsWritten}
 
@@ -17,3 +17,9 @@ pub record SomeText (Became : List ℕ → Type 0) : Type 0 where
   pub text : List ℕ
   pub some : 0 < length text
   pub became : Became text
+
+-- a first part of a text went out, and this is left
+pub record IsWrittenFront {W : Type 0} (known : W → Option (List ℕ)) (old new : Counted W) (text rest : List ℕ) : Type 0 where
+  pub front : List ℕ
+  pub went : IsWritten known old new front
+  pub whole : text ≡ front ++ rest

@@ -1,6 +1,7 @@
 //! What the program `warp` answers to its words, over files and writers of any kind.
 #![tactic(auto)]
 
+pub mod driving;
 mod exchanged;
 pub mod fault;
 pub mod files;

@@ -9,6 +9,7 @@ ghost use Rattle.service.specs.Told.{IsTold, IsWarned};
 ghost use Rattle.service.specs.Unread.{IsFileFault, IsUnread, most_bytes};
 ghost use Rattle.trace.specs.Went.{IsStopped, IsWritten};
 
+use crate::driving::drive_file;
 use crate::files::{FileFault, Files};
 use crate::first::first_run;
 use crate::printing::print_source;
@@ -22,7 +23,7 @@ use std::io::Write;
 use terms::Refusal;
 use trace::{Counted, write_text};
 
-/// The most bytes that a table or a file of actions may have.
+/// The most bytes that a table, a file of actions or a file of steps may have.
 pub const MOST_BYTES: u64 = 16_777_216;
 
 /// One byte more than a source may have: a longer file is refused for its size.
@@ -74,6 +75,11 @@ fn do_asked<F: Files, W: Write>(
         Asked::First { table } => judge(alloc, table, files, out),
         Asked::Reference { source, options } => simulate_file(alloc, source, options, files, out),
         Asked::Check { source, trace } => check_file(alloc, source, trace, files, out),
+        Asked::Drive {
+            source,
+            steps,
+            options,
+        } => drive_file(alloc, source, steps, options, files, out),
     }
 }
 

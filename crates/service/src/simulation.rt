@@ -24,7 +24,7 @@ use task_seed::{SeedTurns, Setup, TableTurns, Turns, read_table};
 use trace::{Counted, Lines};
 
 // The composition of the source in a file, or the report on why there is none.
-fn plan_of<F: Files>(alloc: Global, name: &str, files: &F) -> Result<Plan, Report>
+pub(crate) fn plan_of<F: Files>(alloc: Global, name: &str, files: &F) -> Result<Plan, Report>
     ensures ok { IfOk result (HasPlan (F.has files.now name.now)) }
     ensures err { IfErr result (HasNoPlan (F.has files.now name.now) (F.lacks files.now name.now)) }
 {
@@ -77,7 +77,7 @@ fn simulate_seed<W: Write>(
 }
 
 // A gap as the turns of a seed take it; what is too large for them stays so.
-fn gap_of(gap: u64) -> u32
+pub(crate) fn gap_of(gap: u64) -> u32
     ensures same { gap ≤ 65535 → result ≡ gap }
     ensures large { 65535 < gap → 65535 < result }
 {
@@ -122,7 +122,7 @@ fn simulate_rows<W: Write>(
     }
 }
 
-fn lines_for(is_trace: bool) -> Lines
+pub(crate) fn lines_for(is_trace: bool) -> Lines
     ensures { result ≡ lines_for is_trace }
 {
     if is_trace { Lines::Trace } else { Lines::All }

@@ -8,11 +8,11 @@ Lacks c text = (k : ℕ) → k < length text → get_or text k 0 ≢ c
 lacks_later : (c b : ℕ) (bs : List ℕ) → Lacks c (b ∷ bs) → Lacks c bs
 lacks_later c b bs free k low = free (suc k) (omega arith)
 
-abbrev first_of : List ℕ → ℕ
+abbrev pub first_of : List ℕ → ℕ
 first_of [] = 0
 first_of (b ∷ bs) = b
 
-abbrev rest_of : List ℕ → List ℕ
+abbrev pub rest_of : List ℕ → List ℕ
 rest_of [] = []
 rest_of (b ∷ bs) = bs
 

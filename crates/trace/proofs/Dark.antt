@@ -40,16 +40,16 @@ word_is_plain b h = grind (arith, nat_tests)
 pub plain_is_dark : (b : ℕ) → is_plain b ≡ true → is_dark b ≡ true
 plain_is_dark b h = grind (arith, nat_tests)
 
-dark_is_inked : (b : ℕ) → is_dark b ≡ true → is_inked b ≡ true
+pub dark_is_inked : (b : ℕ) → is_dark b ≡ true → is_inked b ≡ true
 dark_is_inked b h = grind (arith, nat_tests)
 
-inked_is_narrow : (b : ℕ) → is_inked b ≡ true → narrow b ≡ true
+pub inked_is_narrow : (b : ℕ) → is_inked b ≡ true → narrow b ≡ true
 inked_is_narrow b h = grind (arith, nat_tests)
 
 digit_is_plain : (b : ℕ) → IsInRange 48 57 b → is_plain b ≡ true
 digit_is_plain b h = grind (arith, nat_tests)
 
-all_append : (test : ℕ → Bool) (xs ys : List ℕ) → list_all test xs ≡ true → list_all test ys ≡ true → list_all test (xs ++ ys) ≡ true
+pub all_append : (test : ℕ → Bool) (xs ys : List ℕ) → list_all test xs ≡ true → list_all test ys ≡ true → list_all test (xs ++ ys) ≡ true
 all_append test xs ys h k = list_all-append test xs ys ∙ and_from (list_all test xs) (list_all test ys) h k
 
 -- a byte that fails the test isn't there
@@ -91,16 +91,16 @@ pub written_dark : (plan : Plan) (w : Written) → IsWritten plan w → list_all
 written_dark plan w h =
     all_append is_dark w.name (arguments_text plan w.args) (all_mono is_word_byte is_dark (λ b e. plain_is_dark b (word_is_plain b e)) w.name h.name.goes_on) (arguments_dark plan w.args h.args)
 
-number_inked : (n : ℕ) → n < 2 ^ 64 → list_all is_inked (number_text n) ≡ true
+pub number_inked : (n : ℕ) → n < 2 ^ 64 → list_all is_inked (number_text n) ≡ true
 number_inked n h =
     all_append is_inked (decimal n) (codes " ") (all_mono is_plain is_inked (λ b e. dark_is_inked b (plain_is_dark b e)) (decimal n) (number_plain n h)) refl
 
-key_inked : (key : Key) → IsKey key → list_all is_inked (key_text key) ≡ true
+pub key_inked : (key : Key) → IsKey key → list_all is_inked (key_text key) ≡ true
 key_inked key h =
     all_append is_inked (number_text key.tick) (number_text key.component ++ number_text key.number) (number_inked key.tick h.tick)
     (all_append is_inked (number_text key.component) (number_text key.number) (number_inked key.component h.component) (number_inked key.number h.number))
 
-written_inked : (plan : Plan) (w : Written) → IsWritten plan w → list_all is_inked (written_text plan w) ≡ true
+pub written_inked : (plan : Plan) (w : Written) → IsWritten plan w → list_all is_inked (written_text plan w) ≡ true
 written_inked plan w h = all_mono is_dark is_inked dark_is_inked (written_text plan w) (written_dark plan w h)
 
 pub line_inked : (plan : Plan) (line : Line) → IsLine plan line → list_all is_inked (line_text plan line) ≡ true

@@ -1,6 +1,6 @@
 -- What searches in texts and comparisons of texts say.
 use Rattle.std.proofs.Common.{◌≡◌, ℕ, ◌<◌, Bool, true, false, eqb, List, ◌∷◌, ◌++◌, refl, sym, subst, ◌∙◌}
-use Rattle.std.specs.Prelude.{None, Some, Result, Err, IfErr}
+use Rattle.std.specs.Prelude.{Option, None, Some, Result, Err, IfErr, IsSomeAnd}
 use Rattle.std.specs.Borrow.{Bor}
 use Rattle.std.specs.Cmp.Lexicographic.{pointwise}
 use Rattle.std.specs.Str.Pattern.{FindsChar}
@@ -20,6 +20,13 @@ other_texts r a b is f e = both_ways r f (is ∙ (bytes_eq-Decides a b).1 e)
 
 pub cut_parts : (c : ℕ) → c < 128 → (text : List ℕ) (before after : Bor (List ℕ)) → IsSplitOnceResult c text (Some (before, after)) → (text ≡ before.now ++ (c ∷ after.now)) × Lacks c before.now
 cut_parts c low text before after h = split_parts c text (Some (before, after)) h low
+
+-- what is said of an answer that is there
+pub some_of : {A : Type 0} (P : A → Type 0) (r : Option A) (x : A) → r ≡ Some x → IsSomeAnd r P → P x
+some_of P r x is h = subst (λ o. IsSomeAnd o P) is h
+
+pub cut_in : (c : ℕ) → c < 128 → (text : List ℕ) (r : Option (Bor (List ℕ) × Bor (List ℕ))) (before after : Bor (List ℕ)) → r ≡ Some (before, after) → IsSplitOnceResult c text r → (text ≡ before.now ++ (c ∷ after.now)) × Lacks c before.now
+cut_in c low text r before after is h = cut_parts c low text before after (subst (IsSplitOnceResult c text) is h)
 
 pub uncut : (c : ℕ) → c < 128 → (text : List ℕ) → FindsChar c text None → Lacks c text
 uncut c low text h k inside e = both_ways false refl ((contains_char c text false h low).1 k inside e)

@@ -116,12 +116,12 @@ parts_same plan name own (p ∷ ps) (q ∷ qs) h k hs ks e =
     let more = others_same plan p q ps qs hs.0 ks.0 hs.1 ks.1 inner in
     (parts.0, λ i. more.0 i ∷ more.1 i)
 
-written_same : (plan : Plan) (v u : Written) → IsWritten plan v → IsWritten plan u → written_text plan v ≡ written_text plan u → v ≡ u
+pub written_same : (plan : Plan) (v u : Written) → IsWritten plan v → IsWritten plan u → written_text plan v ≡ written_text plan u → v ≡ u
 written_same plan v u h k e =
     let parts = parts_same plan v.name u.name v.args u.args h.name k.name h.args k.args e in
     λ i. record { name = parts.0 i; args = parts.1 i }
 
-key_same : (key other : Key) (rest later : List ℕ) → IsKey key → IsKey other → key_text key ++ rest ≡ key_text other ++ later → (key ≡ other) × (rest ≡ later)
+pub key_same : (key other : Key) (rest later : List ℕ) → IsKey key → IsKey other → key_text key ++ rest ≡ key_text other ++ later → (key ≡ other) × (rest ≡ later)
 key_same key other rest later h k e =
     let first = same_cut 32 (decimal key.tick) (decimal other.tick) _ _ (number_lacks key.tick h.tick) (number_lacks other.tick k.tick) (sym (key_parts key rest) ∙ e ∙ key_parts other later) in
     let second = same_cut 32 (decimal key.component) (decimal other.component) _ _ (number_lacks key.component h.component) (number_lacks other.component k.component) first.1 in

@@ -14,7 +14,7 @@ use Rattle.trace.specs.Lines.{text_of, shown_text, turns_at}
 use lib.Seq.{take-append-add}
 use Rattle.trace.specs.declared.counted.Counted.{Counted}
 use Rattle.trace.specs.declared.fault.WriteFault.{WriteFault}
-use Rattle.trace.specs.Counts.{writer_of, failures_of, one_more}
+use Rattle.trace.specs.Counts.{writer_of, one_more}
 use Rattle.trace.specs.Puts.{Puts, Stops}
 use Rattle.trace.specs.Given.{stops}
 

@@ -1,8 +1,8 @@
 -- What a trace file gives, and its first line at fault.
-use Rattle.std.specs.Prelude.{◌≡◌, ℕ, ◌+◌, List, [], ◌∷◌, ◌++◌, length}
+use Rattle.std.specs.Prelude.{◌≡◌, ℕ, List, [], ◌∷◌, ◌++◌}
 use Rattle.terms.specs.Named.{Named}
 use Rattle.plans.specs.declared.plan.Plan.{Plan}
-use Rattle.task_seed.specs.Table.{lines_of}
+use Rattle.trace.specs.FileFaults.{IsFileFault}
 use Rattle.trace.specs.Written.{Line, line_text, IsLine, LineGives}
 use Rattle.trace.specs.declared.fault.TraceError.{TraceError}
 use Rattle.trace.specs.declared.fault.TraceError.TheVariants as trace
@@ -32,22 +32,9 @@ abbrev pub Gives : Plan → List (List ℕ) → List Named → Type 0
 Gives plan [] actions = actions ≡ []
 Gives plan (text ∷ texts) actions = (given later : List Named) × IsGiven plan text given × Gives plan texts later × (actions ≡ given ++ later)
 
--- line n, counted from 1, has the fault, and the lines before it give actions
-pub record IsFirstAtFault (plan : Plan) (has_fault : List ℕ → Type 0) (bytes : List ℕ) (n : ℕ) : Type 0 where
-  pub before : List (List ℕ)
-  pub line : List ℕ
-  pub later : List (List ℕ)
-  pub split : lines_of bytes ≡ before ++ line ∷ later
-  pub actions : List Named
-  pub sound : Gives plan before actions
-  pub counted : length before + 1 ≡ n
-  pub fault : has_fault line
-
 -- why a file isn't read
 abbrev pub IsTraceFault : Plan → List ℕ → TraceError → Type 0
-IsTraceFault plan bytes trace.NoMemory = Unit {0}
-IsTraceFault plan bytes (trace.BadLine n) = IsFirstAtFault plan (IsBad plan) bytes n
-IsTraceFault plan bytes (trace.UnknownAction n) = IsFirstAtFault plan (IsUnknown plan) bytes n
+IsTraceFault plan bytes error = IsFileFault (Gives plan) (IsBad plan) (IsUnknown plan) bytes error
 
 -- what each fault says; want of memory says nothing
 abbrev pub Blames : Type 0 → Type 0 → LineFault → Type 0

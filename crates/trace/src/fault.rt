@@ -1,4 +1,4 @@
-//! Why not all was written, and why a trace isn't read.
+//! Why not all was written, and why a file isn't read.
 ghost use Rattle.std.specs.Prelude.{◌≡◌};
 ghost use Rattle.trace.specs.declared.fault.TraceError.TheVariants.{NoMemory as OutOfMemory};
 
@@ -32,15 +32,15 @@ impl Refusal for WriteFault {
     }
 }
 
-/// Why a trace file isn't read. Lines are counted from 1.
+/// Why a file of actions or of steps isn't read. Lines are counted from 1.
 #[derive(Clone, Copy, Debug, PartialEq, Eq, Error)]
 pub enum TraceError {
     #[error("out of memory")]
     NoMemory,
-    /// The first line at fault has another form than the lines of a trace.
-    #[error("line {0} is no line of a trace")]
+    /// The first line at fault has another form than the lines of such a file.
+    #[error("line {0} is no line of such a file")]
     BadLine(usize),
-    /// The first line at fault has the form of a trace's lines, but the composition has no such action.
+    /// The first line at fault has the form of such lines, but the composition has no such action.
     #[error("line {0} has an action that the composition doesn't have")]
     UnknownAction(usize),
 }

@@ -1,14 +1,17 @@
-//! That a trace file says one thing, and that what is written is read back.
+//! That a file of actions or of steps says one thing, and that what is written is read back.
 ghost use Rattle.std.specs.Prelude.{◌≡◌, ◌≢◌, ℕ, List};
 ghost use Rattle.std.specs.List.{AllByRecursion};
 ghost use Rattle.event_keys.specs.declared.outcome.Turned.{Turned};
 ghost use Rattle.terms.specs.Named.{Named};
 ghost use Rattle.plans.specs.declared.plan.Plan.{Plan};
 ghost use Rattle.task_seed.specs.Table.{lines_of};
+ghost use Rattle.world.specs.declared.step.Step.{Step};
 ghost use Rattle.trace.specs.declared.fault.TraceError.{TraceError};
 ghost use Rattle.trace.specs.declared.fault.TraceError.TheVariants.{NoMemory};
 ghost use Rattle.trace.specs.declared.lines.Lines.TheVariants.{All};
 ghost use Rattle.trace.specs.Lines.{text_of};
+ghost use Rattle.trace.specs.StepFile.{GivesSteps, IsStepsFault};
+ghost use Rattle.trace.specs.StepLines.{StepLine, step_text, IsStepLine};
 ghost use Rattle.trace.specs.TraceFile.{Gives, IsTraceFault};
 ghost use Rattle.trace.specs.Written.{Line, line_text, IsLine};
 ghost use Rattle.trace.specs.WrittenTurns.{IsTurn, actions_done};
@@ -20,6 +23,15 @@ pub fn one_reading_law()
     ensures actions { (plan : Plan) (texts : List (List ℕ)) (actions others : List Named) → Gives plan texts actions → Gives plan texts others → actions ≡ others }
     ensures apart { (plan : Plan) (bytes : List ℕ) (actions : List Named) (error : TraceError) → Gives plan (lines_of bytes) actions → IsTraceFault plan bytes error → error ≡ NoMemory }
     ensures fault { (plan : Plan) (bytes : List ℕ) (error other : TraceError) → error ≢ NoMemory → other ≢ NoMemory → IsTraceFault plan bytes error → IsTraceFault plan bytes other → error ≡ other }
+{}
+
+/// A text is that of one line of steps, lines give one list of steps, a file that gives steps has no fault, and a file has
+/// one fault at most, beside the want of memory.
+pub fn one_step_reading_law()
+    ensures line { (plan : Plan) (line other : StepLine) → IsStepLine plan line → IsStepLine plan other → step_text plan line ≡ step_text plan other → line ≡ other }
+    ensures steps { (plan : Plan) (texts : List (List ℕ)) (steps others : List Step) → GivesSteps plan texts steps → GivesSteps plan texts others → steps ≡ others }
+    ensures apart { (plan : Plan) (bytes : List ℕ) (steps : List Step) (error : TraceError) → GivesSteps plan (lines_of bytes) steps → IsStepsFault plan bytes error → error ≡ NoMemory }
+    ensures fault { (plan : Plan) (bytes : List ℕ) (error other : TraceError) → error ≢ NoMemory → other ≢ NoMemory → IsStepsFault plan bytes error → IsStepsFault plan bytes other → error ≡ other }
 {}
 
 /// The text of turns, as [`write_turns`](crate::write_turns) writes all of them, is a trace that gives their actions.

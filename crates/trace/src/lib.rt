@@ -1,4 +1,4 @@
-//! Text of turns on its way out, and traces on their way in.
+//! Text of turns on its way out, and files of actions and of steps on their way in.
 #![tactic(auto)]
 
 pub mod counted;
@@ -8,6 +8,7 @@ pub mod laws;
 mod line_fault;
 pub mod lines;
 pub mod reading;
+pub mod steps;
 pub mod texts;
 mod words;
 mod written;
@@ -16,4 +17,5 @@ pub use counted::Counted;
 pub use fault::{TraceError, WriteFault};
 pub use lines::{Lines, write_turns};
 pub use reading::read_trace;
+pub use steps::read_steps;
 pub use texts::write_text;

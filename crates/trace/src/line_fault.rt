@@ -1,4 +1,4 @@
-//! What is wrong with one line of a trace.
+//! What is wrong with one line of a file.
 ghost use Rattle.std.specs.Prelude.{◌≡◌};
 ghost use Rattle.trace.specs.declared.line_fault.LineFault.TheVariants.{NoMemory as OutOfMemory};
 
@@ -9,7 +9,7 @@ use terms::NoMemory;
 #[derive(Clone, Copy, Debug, PartialEq, Eq)]
 pub(crate) enum LineFault {
     NoMemory,
-    /// The line has another form than the lines of a trace.
+    /// The line has another form than the lines of its file.
     Bad,
     /// The composition has no such action.
     Unknown,

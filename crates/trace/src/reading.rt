@@ -17,7 +17,7 @@ use std::str;
 use terms::Action;
 
 // The action that is written in the text.
-fn read_action(alloc: Global, plan: &Plan, text: &str) -> Result<Action, LineFault>
+pub(crate) fn read_action(alloc: Global, plan: &Plan, text: &str) -> Result<Action, LineFault>
     ensures ok { IfOk result (λ action. IsAction plan.now text.now action) }
     ensures err { IfErr result (λ fault. Blames (IsNoAction plan.now text.now) (IsForeign plan.now text.now) fault) }
 {
@@ -69,7 +69,7 @@ fn line_feed(text: &[u8]) -> Option<usize>
 }
 
 // The first line, without its line feed, and what follows it.
-fn split_line(text: &[u8]) -> (&[u8], &[u8])
+pub(crate) fn split_line(text: &[u8]) -> (&[u8], &[u8])
     requires { 0 < length text.now }
     ensures first { lines_of text.now ≡ result.0.now ∷ lines_of result.1.now }
     ensures shorter { length result.1.now < length text.now }
@@ -80,7 +80,7 @@ fn split_line(text: &[u8]) -> (&[u8], &[u8])
     }
 }
 
-fn fault_at(fault: LineFault, line: usize) -> TraceError
+pub(crate) fn fault_at(fault: LineFault, line: usize) -> TraceError
     ensures { result ≡ fault_of fault line }
 {
     match fault {

@@ -18,7 +18,7 @@ use plans::Plan;
 use std::alloc::Global;
 use terms::Scalar;
 
-fn number(word: &str) -> Option<u64>
+pub(crate) fn number(word: &str) -> Option<u64>
     ensures some { IfSome result (λ n. word.now ≡ decimal n) }
     ensures only { (n : ℕ) → n < 2 ^ 64 → word.now ≡ decimal n → result ≡ Some n }
 {
@@ -28,13 +28,21 @@ fn number(word: &str) -> Option<u64>
     }
 }
 
+// The number before the first space, and the text after it.
+pub(crate) fn number_before(text: &str) -> Option<(u64, &str)>
+    ensures some { IfSome result (λ r. (r.0 < 2 ^ 64) × (text.now ≡ decimal r.0 ++ (32 ∷ r.1.now))) }
+    ensures only { (n : ℕ) (rest : List ℕ) → n < 2 ^ 64 → text.now ≡ decimal n ++ (32 ∷ rest) → IsSomeAnd result (λ r. (r.0 ≡ n) × (r.1.now ≡ rest)) }
+{
+    let (word, rest) = text.split_once(' ')?;
+    Some((number(word)?, rest))
+}
+
 // The text after the first space, where a number stands before it.
 fn after_number(text: &str) -> Option<&str>
     ensures some { IfSome result (λ rest. (n : ℕ) × (n < 2 ^ 64) × (text.now ≡ decimal n ++ (32 ∷ rest.now))) }
     ensures only { (n : ℕ) (rest : List ℕ) → n < 2 ^ 64 → text.now ≡ decimal n ++ (32 ∷ rest) → IsSomeAnd result (λ r. r.now ≡ rest) }
 {
-    let (word, rest) = text.split_once(' ')?;
-    number(word)?;
+    let (_, rest) = number_before(text)?;
     Some(rest)
 }
 

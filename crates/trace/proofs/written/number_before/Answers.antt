@@ -1,5 +1,5 @@
 use Rattle.task_seed.proofs.Words.{split_number}
-use Rattle.trace.proofs.written.after_number.Goals as goal
+use Rattle.trace.proofs.written.number_before.Goals as goal
 
 pub returns-in_err-word-clause-only : goal.returns-in_err-word-clause-only
 returns-in_err-word-clause-only c n rest small e =
@@ -15,4 +15,5 @@ returns-in_err-number-clause-only c n rest small e =
 pub returns-clause-only : goal.returns-clause-only
 returns-clause-only c n rest small e =
     let split = split_number c.args.text.now rest n c.split_once.result c.split_once.ensures.cases small e in
-    let parts = rw c.in_ok-word.was at split in parts.1
+    let parts = rw c.in_ok-word.was at split in
+    let same = c.in_ok-number.ensures.only n small parts.0 in ((cc), parts.1)
