@@ -1,0 +1,203 @@
+//! Lists of steps with known replies, worked out by hand.
+
+use crate::subject::RING;
+use anyhow::Result;
+use sources::compose_source;
+use std::alloc::Global;
+use std::sync::Arc;
+use task_seed::{Setup, TableTurns, read_table};
+use terms::Refusal;
+use trace::read_steps;
+use world::{Reply, StepRefused, World};
+
+// Component 0 has turns at the ticks 2 and 4, component 1 at 1 and 3.
+const RING_TABLE: &str = "0 2 0 0\n0 2 0 0\n1 1 0 0\n1 2 0 0\n";
+
+const TWO_LISTENERS: &str =
+    "automaton S signature output go(v: 0..1) states n: 0..1 := 0 transitions output go(v: 0..1) pre v = n eff n := 1 tasks { go } automaton L signature input go(v: 0..1) states s: Int := 0 transitions input go(v: 0..1) eff s := s + v + 1 automaton F components a: S; b: L; c: L";
+
+const TWO_GOES: &str = "0 1 0 0\n0 1 0 1\n";
+
+// Its number wraps at its first turn.
+const COUNTER: &str =
+    "automaton C signature internal up states n: Int := 9223372036854775807 transitions internal up eff n := n + 1 tasks {up} automaton S components c: C";
+
+const ONE_TURN: &str = "0 1 0 0\n";
+
+/// A composition with its table of turns.
+#[derive(Clone, Copy)]
+enum Given {
+    Ring,
+    Fan,
+    Counter,
+}
+
+impl Given {
+    fn source(self) -> &'static str {
+        match self {
+            Given::Ring => RING,
+            Given::Fan => TWO_LISTENERS,
+            Given::Counter => COUNTER,
+        }
+    }
+
+    fn table(self) -> &'static str {
+        match self {
+            Given::Ring => RING_TABLE,
+            Given::Fan => TWO_GOES,
+            Given::Counter => ONE_TURN,
+        }
+    }
+}
+
+/// A list of steps from the start of a composition, the replies to the last of them, and a list of steps that leads to an equal world.
+#[derive(Clone, Copy)]
+struct Row {
+    given: Given,
+    steps: &'static str,
+    replies: &'static str,
+    equal: &'static str,
+}
+
+const ROWS: [Row; 12] = [
+    // a straggler undoes the idle turn at tick 3
+    Row {
+        given: Given::Ring,
+        steps: "process 1\nprocess 1\nprocess 0\ndeliver + 1 2 0 0 pass(1)\n",
+        replies: "processed 1 1 0\nprocessed 3 1 1\nprocessed 2 0 0\ndelivered 1\n",
+        equal: "process 1\nprocess 0\ndeliver + 1 2 0 0 pass(1)\n",
+    },
+    // its antimessage doesn't redo the turn
+    Row {
+        given: Given::Ring,
+        steps: "process 1\nprocess 1\nprocess 0\ndeliver + 1 2 0 0 pass(1)\nback 0\ndeliver - 1 2 0 0 pass(1)\n",
+        replies: "rolled back 2 0 0\ndelivered 0\n",
+        equal: "process 1\n",
+    },
+    Row {
+        given: Given::Ring,
+        steps: "process 1\nprocess 1\nprocess 0\ndeliver + 1 2 0 0 pass(1)\nback 0\ndeliver - 1 2 0 0 pass(1)\nprocess 1\n",
+        replies: "processed 3 1 1\n",
+        equal: "process 1\nprocess 1\n",
+    },
+    // there and back by a meeting
+    Row {
+        given: Given::Ring,
+        steps: "process 0\nback 0\nmeet 1 2 0 0 pass(1)\n",
+        replies: "processed 2 0 0\nrolled back 2 0 0\nmet\n",
+        equal: "",
+    },
+    // the antimessage comes first
+    Row {
+        given: Given::Ring,
+        steps: "process 0\nback 0\ndeliver - 1 2 0 0 pass(1)\ndeliver + 1 2 0 0 pass(1)\n",
+        replies: "processed 2 0 0\nrolled back 2 0 0\ndelivered 0\ndelivered 0\n",
+        equal: "",
+    },
+    // two messages and one antimessage
+    Row {
+        given: Given::Ring,
+        steps: "process 0\nback 0\nprocess 0\ndeliver + 1 2 0 0 pass(1)\ndeliver + 1 2 0 0 pass(1)\ndeliver - 1 2 0 0 pass(1)\n",
+        replies: "processed 2 0 0\nrolled back 2 0 0\nprocessed 2 0 0\ndelivered 0\ndelivered 0\ndelivered 0\n",
+        equal: "process 0\ndeliver + 1 2 0 0 pass(1)\n",
+    },
+    // a commit above global virtual time
+    Row {
+        given: Given::Ring,
+        steps: "process 1\nprocess 0\ncommit 3 1 1\ncommit 2 0 0\n",
+        replies: "processed 1 1 0\nprocessed 2 0 0\nrefused 34\ncommitted 1\n",
+        equal: "process 1\nprocess 0\ncommit 2 0 0\n",
+    },
+    // refused steps leave the world
+    Row {
+        given: Given::Ring,
+        steps: "process 1\nprocess 0\ncommit 2 0 0\ncommit 2 0 0\ncommit 1 1 0\nback 1\nprocess 2\nmeet 1 2 0 0 pass(1)\n",
+        replies: "committed 0\nrefused 35\nrefused 33\nrefused 30\nrefused 32\n",
+        equal: "process 1\nprocess 0\ncommit 2 0 0\n",
+    },
+    // in order
+    Row {
+        given: Given::Ring,
+        steps: "process 1\nprocess 0\ndeliver + 1 2 0 0 pass(1)\nprocess 1\nprocess 1\ndeliver + 0 3 1 1 pass(0)\nprocess 0\nprocess 0\ndeliver + 1 4 0 1 pass(1)\nprocess 1\ncommit end\nprocess 0\n",
+        replies: "processed 1 1 0\nprocessed 2 0 0\ndelivered 0\nprocessed 2 0 0\nprocessed 3 1 1\ndelivered 0\nprocessed 3 1 1\nprocessed 4 0 1\ndelivered 0\nprocessed 4 0 1\ncommitted 4\nrefused 31\n",
+        equal: "process 1\nprocess 0\ndeliver + 1 2 0 0 pass(1)\nprocess 1\nprocess 1\ndeliver + 0 3 1 1 pass(0)\nprocess 0\nprocess 0\ndeliver + 1 4 0 1 pass(1)\nprocess 1\ncommit end\n",
+    },
+    // the number that wrapped is taken back
+    Row {
+        given: Given::Counter,
+        steps: "process 0\nback 0\n",
+        replies: "processed 1 0 0\nrolled back 1 0 0\n",
+        equal: "",
+    },
+    // one of two receivers had the message
+    Row {
+        given: Given::Fan,
+        steps: "process 0\ndeliver + 1 1 0 0 go(0)\nback 0\nmeet 2 1 0 0 go(0)\ndeliver - 1 1 0 0 go(0)\n",
+        replies: "processed 1 0 0\ndelivered 0\nrolled back 1 0 0\nmet\ndelivered 0\n",
+        equal: "",
+    },
+    // and had done it
+    Row {
+        given: Given::Fan,
+        steps: "process 0\ndeliver + 1 1 0 0 go(0)\nprocess 1\nback 0\ndeliver - 1 1 0 0 go(0)\nmeet 2 1 0 0 go(0)\n",
+        replies: "processed 1 0 0\ndelivered 0\nprocessed 1 0 0\nrolled back 1 0 0\ndelivered 1\nmet\n",
+        equal: "",
+    },
+];
+
+/// How many rows come out as they should, and how many there are.
+pub fn count(alloc: Global) -> Result<(u64, u64)> {
+    let mut passed = 0u64;
+    for row in &ROWS {
+        if is_right(alloc, row)? {
+            passed = passed.saturating_add(1);
+        }
+    }
+    Ok((passed, ROWS.len() as u64))
+}
+
+// Whether the replies end as the row says, the world is equal to that of the other list, and it is equal to the start only where that list is empty.
+fn is_right(alloc: Global, row: &Row) -> Result<bool> {
+    let plan = compose_source(alloc, row.given.source().as_bytes())?;
+    let rows = read_table(alloc, row.given.table().as_bytes())?;
+    let turns = TableTurns::new(alloc, &plan, rows.as_slice())?;
+    let setup = Arc::new(alloc, Setup::new(plan, turns, 1_000)?)?;
+    let start = World::new(alloc, Arc::try_clone(&setup)?)?;
+    let (world, replies) = driven(alloc, &setup, row.steps)?;
+    let (other, _) = driven(alloc, &setup, row.equal)?;
+    let is_at_start = row.equal.is_empty();
+    Ok(replies.as_str().ends_with(row.replies) && world == other && (world == start) == is_at_start)
+}
+
+// The world after the steps of a text, and the lines of their replies.
+fn driven(
+    alloc: Global,
+    setup: &Arc<Setup<TableTurns>>,
+    steps: &str,
+) -> Result<(World<TableTurns>, String)> {
+    let steps = read_steps(alloc, setup.plan(), steps.as_bytes())?;
+    let mut world = World::new(alloc, Arc::try_clone(setup)?)?;
+    let replies = world.run(alloc, steps.as_slice())?;
+    let mut lines = String::new(alloc);
+    for reply in &replies {
+        lines.push_str(line_of(alloc, reply)?.as_str())?;
+    }
+    Ok((world, lines))
+}
+
+fn line_of(alloc: Global, reply: &Result<Reply, StepRefused>) -> Result<String> {
+    Ok(match reply {
+        Ok(Reply::Processed(key)) => format!(in alloc;
+            "processed {} {} {}\n",
+            key.tick, key.component, key.number
+        )?,
+        Ok(Reply::Delivered(count)) => format!(in alloc; "delivered {count}\n")?,
+        Ok(Reply::Met) => String::from_str(alloc, "met\n")?,
+        Ok(Reply::RolledBack(key)) => format!(in alloc;
+            "rolled back {} {} {}\n",
+            key.tick, key.component, key.number
+        )?,
+        Ok(Reply::Committed(count)) => format!(in alloc; "committed {count}\n")?,
+        Err(refusal) => format!(in alloc; "refused {}\n", refusal.number())?,
+    })
+}
