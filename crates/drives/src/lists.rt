@@ -1,5 +1,6 @@
 //! Random lists of steps, judged by the one-thread simulator.
 
+use crate::leases::gives_all;
 use crate::orderly::orderly;
 use crate::rows;
 use crate::subject::{CROWD, FAN, RING, Subject};
@@ -24,9 +25,10 @@ struct Tally {
     committed: u64,
 }
 
-/// Drives the worlds of the rows, and then each composition by random lists, a thousand in all, and by one list in order, and prints how many came out as they should: what was
-/// committed after half of a list and after all of it are each a beginning of the simulator's text, the first of the second, and the list
-/// in order commits all. The lists of a composition must have committed a turn each in the mean, so that they aren't refused throughout.
+/// Drives the worlds of the rows, then the worlds and the exchanges of each composition by random lists, a thousand each in all, and one world
+/// by the list in order, and prints how many came out as they should. What a world committed after half of a list and after all of it are
+/// each a beginning of the simulator's text, the first of the second; the list in order commits all; an exchange's chunks are the text. The
+/// lists of a composition must have committed a turn each in the mean, so that they aren't refused throughout.
 pub fn check(rt: &(impl Print + AllocGlobal)) -> Result<ExitCode> {
     let alloc = rt.alloc();
     let (passed, rows) = rows::count(alloc)?;
@@ -58,6 +60,8 @@ fn check_source(alloc: Global, source: &str, lists: u64, tally: &mut Tally) -> R
         )?;
         let is_well = is_a_beginning(alloc, &subject, steps.as_slice(), tally)?;
         count(tally, is_well);
+        let is_given = gives_all(alloc, &subject, &mut random)?;
+        count(tally, is_given);
     }
     let has_moved = tally.committed >= lists;
     let is_whole = commits_all(alloc, &subject)?;

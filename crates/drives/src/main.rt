@@ -1,8 +1,9 @@
-//! The program `drives`: worlds driven by lists of steps. With the word `check` it drives worlds by twelve lists whose replies are known and
-//! three small compositions by a thousand random lists, and compares the text of what is committed with that of the one-thread simulator; with the word `run` it tells how many steps a
-//! world does in a millisecond.
+//! The program `drives`: worlds driven by lists of steps, and exchanges by lists of calls. With the word `check` it drives worlds by twelve
+//! lists whose replies are known, and worlds and exchanges of three small compositions by a thousand random lists each, whose texts it
+//! compares with that of the one-thread simulator; with the word `run` it tells how many steps a world does in a millisecond.
 #![tactic(auto)]
 
+mod leases;
 mod lists;
 mod orderly;
 mod rows;

@@ -1,0 +1,88 @@
+//! Random lists of calls of an exchange and its leases, judged by the one-thread simulator.
+
+use crate::subject::Subject;
+use anyhow::Result;
+use exchange::{Exchange, Lease};
+use rand_core::Rng;
+use rand_pcg::Lcg64Xsh32;
+use std::alloc::Global;
+use std::sync::Arc;
+use task_seed::SeedTurns;
+use trace::{Counted, Lines, write_turns};
+
+// Enough for all turns of a subject, a few entries a round.
+const ROUNDS: u32 = 10_000;
+
+/// Whether the chunks that an exchange gives, joined, are the simulator's text, after a random list of calls and then round after round
+/// until all is given.
+pub fn gives_all(alloc: Global, subject: &Subject, random: &mut Lcg64Xsh32) -> Result<bool> {
+    let (mut exchange, mut leases) = Exchange::new(alloc, Arc::try_clone(&subject.setup)?)?;
+    let mut out = Counted::new(Vec::new(alloc));
+    for _ in 0..random.next_u32() % 200 {
+        call(
+            alloc,
+            &mut exchange,
+            leases.as_mut_slice(),
+            &mut out,
+            random,
+        )?;
+    }
+    finish(alloc, &mut exchange, leases.as_mut_slice(), &mut out)?;
+    Ok(exchange.finished() && out.into_inner().as_slice() == subject.text.as_slice())
+}
+
+// One call, of a lease that may have been away for long.
+fn call(
+    alloc: Global,
+    exchange: &mut Exchange<SeedTurns>,
+    leases: &mut [Lease<SeedTurns>],
+    out: &mut Counted<Vec<u8>>,
+    random: &mut Lcg64Xsh32,
+) -> Result<()> {
+    let place = random.next_u32() as usize % leases.len().max(1);
+    match (random.next_u32() % 8, leases.get_mut(place)) {
+        (0, _) => {
+            exchange.commit();
+        }
+        (1, _) => write_chunk(exchange, out)?,
+        (2 | 3, Some(lease)) => {
+            lease.settle();
+        }
+        (4 | 5, Some(lease)) => {
+            exchange.meet(lease)?;
+        }
+        (_, Some(lease)) => {
+            lease.run_ahead(alloc, random.next_u32() % 5)?;
+        }
+        (_, None) => {}
+    }
+    Ok(())
+}
+
+// Each lease delivers its tray, runs ahead and meets, until all is committed and given.
+fn finish(
+    alloc: Global,
+    exchange: &mut Exchange<SeedTurns>,
+    leases: &mut [Lease<SeedTurns>],
+    out: &mut Counted<Vec<u8>>,
+) -> Result<()> {
+    for _ in 0..ROUNDS {
+        if exchange.finished() {
+            break;
+        }
+        for lease in leases.iter_mut() {
+            lease.settle();
+            lease.run_ahead(alloc, 3)?;
+            exchange.meet(lease)?;
+        }
+        exchange.commit();
+        write_chunk(exchange, out)?;
+    }
+    write_chunk(exchange, out)
+}
+
+fn write_chunk(exchange: &mut Exchange<SeedTurns>, out: &mut Counted<Vec<u8>>) -> Result<()> {
+    let chunk = exchange.take_chunk();
+    write_turns(exchange.setup().plan(), chunk.turns.iter(), Lines::All, out)?;
+    Ok(())
+}
