@@ -2,7 +2,7 @@
 
 use crate::subject::Subject;
 use anyhow::Result;
-use exchange::{Exchange, Lease};
+use exchange::{Exchange, Lease, MeetRefused};
 use rand_core::Rng;
 use rand_pcg::Lcg64Xsh32;
 use std::alloc::Global;
@@ -85,4 +85,31 @@ fn write_chunk(exchange: &mut Exchange<SeedTurns>, out: &mut Counted<Vec<u8>>) -
     let chunk = exchange.take_chunk();
     write_turns(exchange.setup().plan(), chunk.turns.iter(), Lines::All, out)?;
     Ok(())
+}
+
+/// Whether a lease of another exchange of the same setup, run ahead by one entry, is accepted, and the exchange's own lease of that component
+/// is then a stranger, twice, without a trace.
+pub fn replaces_its_lease(alloc: Global, subject: &Subject) -> Result<bool> {
+    let (first, own) = with_stranger(alloc, subject)?;
+    let (mut second, mut again) = with_stranger(alloc, subject)?;
+    let Some(lease) = again.first_mut() else {
+        return Ok(false);
+    };
+    let is_refused = second.meet(lease) == Err(MeetRefused::Stranger);
+    let is_refused_again = second.meet(lease) == Err(MeetRefused::Stranger);
+    Ok(is_refused && is_refused_again && first == second && own == again)
+}
+
+// An exchange that has met the first lease of another, and its own leases.
+fn with_stranger(
+    alloc: Global,
+    subject: &Subject,
+) -> Result<(Exchange<SeedTurns>, Vec<Lease<SeedTurns>>)> {
+    let (mut exchange, leases) = Exchange::new(alloc, Arc::try_clone(&subject.setup)?)?;
+    let (_, mut others) = Exchange::new(alloc, Arc::try_clone(&subject.setup)?)?;
+    if let Some(other) = others.first_mut() {
+        other.run_ahead(alloc, 1)?;
+        exchange.meet(other)?;
+    }
+    Ok((exchange, leases))
 }

@@ -1,6 +1,6 @@
 //! Random lists of steps, judged by the one-thread simulator.
 
-use crate::leases::gives_all;
+use crate::leases::{gives_all, replaces_its_lease};
 use crate::orderly::orderly;
 use crate::rows;
 use crate::subject::{CROWD, FAN, RING, Subject};
@@ -66,6 +66,7 @@ fn check_source(alloc: Global, source: &str, lists: u64, tally: &mut Tally) -> R
     let has_moved = tally.committed >= lists;
     let is_whole = commits_all(alloc, &subject)?;
     count(tally, has_moved && is_whole);
+    count(tally, replaces_its_lease(alloc, &subject)?);
     Ok(())
 }
 

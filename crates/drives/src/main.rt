@@ -1,6 +1,7 @@
 //! The program `drives`: worlds driven by lists of steps, and exchanges by lists of calls. With the word `check` it drives worlds by twelve
 //! lists whose replies are known, and worlds and exchanges of three small compositions by a thousand random lists each, whose texts it
-//! compares with that of the one-thread simulator; with the word `run` it tells how many steps a world does in a millisecond.
+//! compares with that of the one-thread simulator; with the word `run` it tells how many steps a world does in a millisecond, and what a
+//! meeting and a commit cost.
 #![tactic(auto)]
 
 mod leases;

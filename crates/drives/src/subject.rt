@@ -21,6 +21,25 @@ pub const FAN: &str =
 pub const CROWD: &str =
     "type Id = 0..2 automaton N(me: Id, nx: Id) signature input say(const me, v: 0..7) output say(const nx, v: 0..7) states s: 0..7 := 1 transitions input say(const me, v: 0..7) eff s := (s + v) mod 8 output say(const nx, v: 0..7) pre v = s eff s := (s + 1) mod 8 tasks { say } automaton C components a: N(0, 1); b: N(1, 2); c: N(2, 0)";
 
+// A node of a ring of up to 64.
+const NODE: &str =
+    "type Id = 0..63 automaton Node(me: Id, nx: Id, first: Bool) signature input pass(const me) output pass(const nx) states has: Bool := first transitions input pass(const me) eff has := true output pass(const nx) pre has eff has := false tasks { pass } automaton Ring components n0: Node(0, 1, true)";
+
+/// The source of a ring of so many nodes, from 2 to 64.
+pub fn ring_of(alloc: Global, size: u64) -> Result<String> {
+    let mut text = String::from_str(alloc, NODE)?;
+    for number in 1..size {
+        let next = if number.saturating_add(1) == size {
+            0
+        } else {
+            number.saturating_add(1)
+        };
+        let node = format!(in alloc; "; n{number}: Node({number}, {next}, false)")?;
+        text.push_str(node.as_str())?;
+    }
+    Ok(text)
+}
+
 /// A setup with the turns that the one-thread simulator takes, and their text.
 #[derive(Drop)]
 pub struct Subject {
