@@ -52,9 +52,6 @@ none_more : {X : Type 0} (extra : List X) → length extra ≡ 0 → extra ≡ [
 none_more [] e = refl
 none_more (x ∷ xs) e = absurd (omega (arith, e))
 
-some_is : {X : Type 0} (a b : X) → Some a ≡ Some b → a ≡ b
-some_is a b e = cc
-
 -- lists of one length whose items are the same at each place
 same_items : {X : Type 0} (xs ys : List X) → length xs ≡ length ys → ((j : ℕ) (x y : X) → slice_get xs j ≡ Some x → slice_get ys j ≡ Some y → x ≡ y) → xs ≡ ys
 same_items [] [] e at = refl
