@@ -11,8 +11,8 @@ use Rattle.virtual_time.specs.Bags.{hit, times, remove}
 use Rattle.virtual_time.specs.Machine.{Machine, Lawful, HasCount}
 use Rattle.virtual_time.specs.Entries.{Entry, Own, Input, Item}
 use Rattle.virtual_time.specs.Records.{Record, message_comes, antimessage_comes, back_by_message, back_by_antimessage, sent_by, unsent}
-use Rattle.virtual_time.specs.Worlds.{DeliverMessage, DeliverAntimessage, deliver_message, deliver_antimessage, record_of, same, taken_at}
-use Rattle.virtual_time.specs.Exchange.Leases.{Lease, IsLease, Matches, alone, lease_after, lease_of as lease_in}
+use Rattle.virtual_time.specs.Worlds.{DeliverMessage, DeliverAntimessage, deliver_message, deliver_antimessage, put_back, record_of, same, taken_at}
+use Rattle.virtual_time.specs.Exchange.Leases.{Does, Lease, IsLease, Matches, alone, lease_after, lease_of as lease_in}
 use Rattle.antimessage.specs.Counts.{Each}
 use Rattle.antimessage.specs.Bags.{is_to}
 use Rattle.raw_events.specs.Around.{first_where, without_where}
@@ -20,7 +20,8 @@ use Rattle.rollback.specs.Flight.{in_flight, item_of, goes, is_sign}
 use Rattle.rollback.specs.Held.{comes, back_by}
 use Rattle.rollback.specs.Post.{IsPosted}
 use Rattle.exchange.specs.Holding.{Holding, IsHolding, IsDelivered, AllDelivered, IsCount, lease_of}
-use Rattle.exchange.proofs.Leasing.{AloneLaw, kept, not_to_self}
+use Rattle.exchange.specs.Core.{delivery}
+use Rattle.exchange.proofs.Leasing.{AloneLaw, PutLaw, kept, not_to_self}
 
 -- where all came to component i, the first to it is the first of all
 pub none_to : (i : ℕ) (xs : List Signed) → Each (λ y. y.message.to ≡ i) xs → first_where (is_to i) xs ≡ None → xs ≡ []
@@ -184,23 +185,54 @@ module _ (m : Machine (List Datum) Named) (law : Lawful m) where
           inside Plus j past = sent.other j ∙ is.inside Plus j past
           inside Minus j past = sent.there j ∙ ap (unsent m i back j) (is.inside Minus j past) ∙ none_beyond count counted i j back past
 
+      plus_there : s.sign ≡ Plus → 0 < times m ((alone m i l).part i).plus (item_of s).key (item_of s).action
+      plus_there e =
+          let x = item_of s in
+          subst (λ c. 0 < times m c.plus x.key x.action) (sym here) (subst (λ ys. 0 < times m (in_flight Plus i ys) x.key x.action) (sym tray) (subst (λ ys. 0 < times m ys x.key x.action) (sym (plus_first s rest (plus_goes e).0)) (one_more x (in_flight Plus i rest))))
+
+      minus_there : s.sign ≡ Minus → 0 < times m ((alone m i l).part i).minus (item_of s).key (item_of s).action
+      minus_there e =
+          let x = item_of s in
+          let goes_on = minus_goes e in
+          subst (λ c. 0 < times m c.minus x.key x.action) (sym here) (subst (λ ys. 0 < times m (in_flight Minus i ys) x.key x.action) (sym tray) (rw (goes_on.1) (one_more x (in_flight Minus i rest))))
+
       pub deliver_kept : (sign : Sign) → s.sign ≡ sign → (out : List Signed) → IsPosted Minus (unsent m i (back_by m sign (item_of s) r)) h.out out → IsHolding m count (after (comes m sign (item_of s) r) rest out)
       deliver_kept Plus e out sent =
           let x = item_of s in
           let goes_on = plus_goes e in
-          let there : 0 < times m ((alone m i l).part i).plus x.key x.action
-          = subst (λ c. 0 < times m c.plus x.key x.action) (sym here) (subst (λ ys. 0 < times m (in_flight Plus i ys) x.key x.action) (sym tray) (subst (λ ys. 0 < times m ys x.key x.action) (sym (plus_first s rest goes_on.0)) (one_more x (in_flight Plus i rest)))) in
           made out (message_comes m x r) (back_by_message m x r) sent
-          (kept m law alone_law i is.stub l (lease_of (after (message_comes m x r) rest out)) (DeliverMessage i x ∷ []) (deliver_message m i x (alone m i l)) is.lease is.match (refl, there, refl)
+          (kept m law alone_law i is.stub l (lease_of (after (message_comes m x r) rest out)) (DeliverMessage i x ∷ []) (deliver_message m i x (alone m i l)) is.lease is.match (refl, plus_there e, refl)
           (message_law i l x ∙ message_is (back_by_message m x r) out sent s rest tray goes_on.0 goes_on.1 refl))
       deliver_kept Minus e out sent =
           let x = item_of s in
           let goes_on = minus_goes e in
-          let there : 0 < times m ((alone m i l).part i).minus x.key x.action
-          = subst (λ c. 0 < times m c.minus x.key x.action) (sym here) (subst (λ ys. 0 < times m (in_flight Minus i ys) x.key x.action) (sym tray) (rw (goes_on.1) (one_more x (in_flight Minus i rest)))) in
           made out (antimessage_comes m x r) (back_by_antimessage m x r) sent
-          (kept m law alone_law i is.stub l (lease_of (after (antimessage_comes m x r) rest out)) (DeliverAntimessage i x ∷ []) (deliver_antimessage m i x (alone m i l)) is.lease is.match (refl, there, refl)
+          (kept m law alone_law i is.stub l (lease_of (after (antimessage_comes m x r) rest out)) (DeliverAntimessage i x ∷ []) (deliver_antimessage m i x (alone m i l)) is.lease is.match (refl, minus_there e, refl)
           (antimessage_law i l x ∙ antimessage_is (back_by_antimessage m x r) out sent s rest tray goes_on.0 goes_on.1 refl))
+
+      own : record_of ((alone m i l).part i) ≡ r
+      own = ap record_of here
+
+      -- it is a step of the lease alone
+      pub deliver_does : PutLaw m law → (sign : Sign) → s.sign ≡ sign → (out : List Signed) → IsPosted Minus (unsent m i (back_by m sign (item_of s) r)) h.out out
+          → Does m i (alone m i l) (delivery i sign (item_of s) ∷ []) (alone m i (lease_of (after (comes m sign (item_of s) r) rest out)))
+      deliver_does put_law Plus e out sent =
+          let x = item_of s in
+          let goes_on = plus_goes e in (
+            refl,
+            plus_there e,
+            ap (alone m i) (sym (message_is (back_by_message m x r) out sent s rest tray goes_on.0 goes_on.1 refl)) ∙ put_law i l (message_comes m x r) (taken_at m i x) (unsent m i (back_by_message m x r))
+                ∙ ap (λ q. put_back i (message_comes m x q) (taken_at m i x) (unsent m i (back_by_message m x q)) (alone m i l)) (sym own),
+          )
+      deliver_does put_law Minus e out sent =
+          let x = item_of s in
+          let goes_on = minus_goes e in
+          let minus : Record (List Datum) Named → ℕ → List (Item Named) → List (Item Named) = λ q j xs. taken_at m i x j (unsent m i (back_by_antimessage m x q) j xs) in (
+            refl,
+            minus_there e,
+            ap (alone m i) (sym (antimessage_is (back_by_antimessage m x r) out sent s rest tray goes_on.0 goes_on.1 refl)) ∙ put_law i l (antimessage_comes m x r) same (minus r)
+                ∙ ap (λ q. put_back i (antimessage_comes m x q) same (minus q) (alone m i l)) (sym own),
+          )
 
 -- one more was delivered, of a list of deliveries that is not yet done
 module _ {P : Type 0} (m : Machine (List Datum) Named) (initial old mid : Holding P) (s : Signed) (is : IsDelivered m old mid s) where

@@ -10,7 +10,7 @@ use Rattle.event_keys.specs.declared.message.Signed.{Signed}
 use Rattle.virtual_time.specs.Machine.{Machine, Lawful, HasCount}
 use Rattle.virtual_time.specs.Entries.{Entry, Own, Input, Item}
 use Rattle.virtual_time.specs.Records.{Record, after_entry, next_of, sent_by}
-use Rattle.virtual_time.specs.Worlds.{World, Step, Process, process, record_of, same}
+use Rattle.virtual_time.specs.Worlds.{World, Step, Process, process, put_back, record_of, same}
 use Rattle.virtual_time.specs.Exchange.Stubs.{Stub, Exchange}
 use Rattle.virtual_time.specs.Exchange.Leases.{Lease, IsLease, Matches, Does, alone, lease_after, lease_of as lease_in}
 use Rattle.rollback.specs.declared.copied.Copies.{Copies}
@@ -31,6 +31,12 @@ module _ (m : Machine (List Datum) Named) (law : Lawful m) where
   ProcessLaw =
       (i : ℕ) (lease : Lease (List Datum) Named) (entry : Entry Named) → next_of m i (record_of lease.part) ≡ Some entry
       → lease_in i lease.floor (process m i (alone m i lease)) ≡ lease_after i lease (after_entry entry (record_of lease.part)) (sent_by m i entry) same
+
+  -- a lease with another record and another flight, alone
+  abbrev pub PutLaw : Type 0
+  PutLaw =
+      (i : ℕ) (lease : Lease (List Datum) Named) (own_record : Record (List Datum) Named) (plus minus : ℕ → List (Item Named) → List (Item Named))
+      → alone m i (lease_after i lease own_record plus minus) ≡ put_back i own_record plus minus (alone m i lease)
 
   pub kept : AloneLaw → (i : ℕ) (st : Stub Named) (l l' : Lease (List Datum) Named) (steps : List (Step Named)) (w : World (List Datum) Named) → IsLease m i l → Matches m i st l
       → Does m i (alone m i l) steps w → lease_in i l.floor w ≡ l' → IsLease m i l' × Matches m i st l'

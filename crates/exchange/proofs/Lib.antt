@@ -9,3 +9,5 @@ mod Lowest
 mod Receiving
 pub mod Accepting
 mod Spreading
+mod Core
+mod Doing

@@ -1,5 +1,5 @@
 -- At the start all is sound, and each lease matches its stub.
-use Rattle.std.proofs.Common.{◌≡◌, ℕ, zero, suc, ◌+◌, ◌<◌, ◌≤◌, ◌⊎◌, inl, inr, Option, None, Some, [], map, length, refl, ap, sym, subst, ◌∙◌, arith}
+use Rattle.std.proofs.Common.{◌≡◌, ℕ, zero, suc, ◌+◌, ◌<◌, ◌≤◌, ◌⊎◌, inl, inr, Option, None, Some, List, [], map, length, refl, ap, sym, subst, ◌∙◌, arith}
 use Rattle.std.specs.Prelude.{slice_get, IfSome}
 use Rattle.std.specs.List.{range_with_len}
 use Rattle.std.proofs.lemmas.List.FromFn.{length-map-range_with_len}
@@ -10,15 +10,37 @@ use Rattle.event_keys.specs.declared.message.Sign.TheVariants.{Plus, Minus}
 use Rattle.rollback.specs.declared.copied.Copies.{Copies}
 use Rattle.rollback.specs.Flight.{in_flight}
 use Rattle.virtual_time.specs.Exchange.Stubs.{IsSound, start_stub as start_seen, start_exchange}
+use Rattle.virtual_time.specs.Machine.{Machine}
+use Rattle.virtual_time.specs.Rules.{IsWorld}
+use Rattle.virtual_time.specs.Worlds.{start_world}
 use Rattle.virtual_time.specs.Exchange.Leases.{IsLease, Matches, start_lease}
+use Rattle.virtual_time.specs.Exchange.Wholes.{IsWhole}
+use Rattle.terms.specs.Datum.{Datum}
+use Rattle.terms.specs.Named.{Named}
+use Rattle.plans.specs.Plans.{composition}
+use Rattle.rollback.specs.Held.{machine_of}
+use Rattle.task_seed.specs.declared.setup.Setup.{Setup}
+use Rattle.task_seed.specs.declared.turns.Turn.{Turn}
+use Rattle.task_seed.specs.Setups.{plan_of, system}
 use Rattle.task_seed.specs.Turning.{System, key_of}
 use Rattle.task_seed.specs.Machines.{machine, turn_rank}
 use Rattle.exchange.specs.declared.stub.Stub.{Stub}
 use Rattle.exchange.specs.Holding.{Holding, IsHolding, lease_of}
 use Rattle.exchange.specs.Shared.{Shared, IsShared, IsStub, stub_of, stub_or_start, turns_of, exchange_of}
-use Rattle.exchange.specs.Start.{first, bound_at, first_bound, start_stub}
+use Rattle.exchange.specs.Core.{StandFor}
+use Rattle.exchange.specs.Start.{first, bound_at, first_bound, lease_or_start, leases_of, start_holding, start_shared, start_stub}
 use Rattle.exchange.proofs.Committing.{end_is}
 use Rattle.exchange.proofs.Passing.{number_is, rank_some, rank_none}
+
+-- what is made for the numbers from a to a + n - 1
+made_at : {X : Type 0} (f : ℕ → X) (a n j : ℕ) (o : Option X) → slice_get (map f (range_with_len a n)) j ≡ o → ((x : X) × (o ≡ Some x) × (j < n) × (x ≡ f (a + j))) ⊎ ((o ≡ None) × (n ≤ j))
+made_at f a zero j o e = inr (sym e, omega arith)
+made_at f a (suc n) zero o e = inl (f a, sym e, omega arith, ap f (omega arith))
+made_at {X} f a (suc n) (suc j) o e = go (made_at f (a + 1) n j o e)
+  where
+    go : ((x : X) × (o ≡ Some x) × (j < n) × (x ≡ f (a + 1 + j))) ⊎ ((o ≡ None) × (n ≤ j)) → ((x : X) × (o ≡ Some x) × (suc j < suc n) × (x ≡ f (a + suc j))) ⊎ ((o ≡ None) × (suc n ≤ suc j))
+    go (inl h) = let l = h.2 in inl (h.0, h.1, omega (arith, l), h.3 ∙ ap f (omega arith))
+    go (inr h) = let l = h.1 in inr (h.0, omega (arith, l))
 
 module _ (s : System) where
   floor_is : (i : ℕ) → i < length s.composition → rank_of_bound (first_bound s i) ≡ turn_rank s i 0
@@ -30,16 +52,6 @@ module _ (s : System) where
 
   stub_is : (i : ℕ) → i < length s.composition → stub_of (machine s) i (start_stub s i) ≡ start_seen (machine s) i
   stub_is i there = λ v. record { base = 0; floor = floor_is i there v; taken = λ k a. 0; standing = λ k a l. 0; plus = []; minus = [] }
-
-  -- the stubs of components i to i + n - 1
-  stubs_at : (a n j : ℕ) → (o : Option Stub) → slice_get (map (start_stub s) (range_with_len a n)) j ≡ o → ((stub : Stub) × (o ≡ Some stub) × (j < n) × (stub ≡ start_stub s (a + j))) ⊎ ((o ≡ None) × (n ≤ j))
-  stubs_at a zero j o e = inr (sym e, omega arith)
-  stubs_at a (suc n) zero o e = inl (start_stub s a, sym e, omega arith, ap (start_stub s) (omega arith))
-  stubs_at a (suc n) (suc j) o e = go (stubs_at (a + 1) n j o e)
-    where
-      go : ((stub : Stub) × (o ≡ Some stub) × (j < n) × (stub ≡ start_stub s (a + 1 + j))) ⊎ ((o ≡ None) × (n ≤ j)) → ((stub : Stub) × (o ≡ Some stub) × (suc j < suc n) × (stub ≡ start_stub s (a + suc j))) ⊎ ((o ≡ None) × (suc n ≤ suc j))
-      go (inl h) = let l = h.2 in inl (h.0, h.1, omega (arith, l), h.3 ∙ ap (start_stub s) (omega arith))
-      go (inr h) = let l = h.1 in inr (h.0, omega (arith, l))
 
   small : (i : ℕ) → IfSome (key_of s i 0) (λ key. key.number < 4294967296)
   small i = go (key_of s i 0) refl
@@ -53,13 +65,13 @@ module _ (s : System) where
 
   module _ {P : Type 0} (e : Shared P) (stubs : e.stubs ≡ map (start_stub s) (range_with_len 0 (length s.composition))) (bound : e.bound ≡ first) (held : e.held ≡ []) (given : e.given ≡ 0) where
     stub_at : (j : ℕ) → stub_or_start (machine s) j (slice_get e.stubs j) ≡ start_seen (machine s) j
-    stub_at j = go (slice_get e.stubs j) (stubs_at 0 (length s.composition) j (slice_get e.stubs j) (ap (λ l. slice_get l j) (sym stubs)))
+    stub_at j = go (slice_get e.stubs j) (made_at (start_stub s) 0 (length s.composition) j (slice_get e.stubs j) (ap (λ l. slice_get l j) (sym stubs)))
       where
         go : (o : Option Stub) → ((stub : Stub) × (o ≡ Some stub) × (j < length s.composition) × (stub ≡ start_stub s (0 + j))) ⊎ ((o ≡ None) × (length s.composition ≤ j)) → stub_or_start (machine s) j o ≡ start_seen (machine s) j
         go o (inl h) = ap (stub_or_start (machine s) j) (h.1 ∙ ap (λ x. Some x) (h.3 ∙ ap (start_stub s) (omega arith))) ∙ stub_is j h.2
         go o (inr h) = ap (stub_or_start (machine s) j) h.0
 
-    seen : exchange_of (machine s) e ≡ start_exchange (machine s)
+    pub seen : exchange_of (machine s) e ≡ start_exchange (machine s)
     seen = λ v. record { stub = λ j. stub_at j v; bound = (ap rank_of_bound bound) v; held = (ap turns_of held) v; given = given v }
 
     pub shared_kept : IsSound (machine s) (length s.composition) (start_exchange (machine s)) → IsShared s e
@@ -67,7 +79,7 @@ module _ (s : System) where
         record {
           sound = subst (IsSound (machine s) (length s.composition)) (sym seen) sound;
           many = ap length stubs ∙ length-map-range_with_len (start_stub s) 0 (length s.composition);
-          stubs = λ j stub h. each j stub h (stubs_at 0 (length s.composition) j (slice_get e.stubs j) (ap (λ l. slice_get l j) (sym stubs)));
+          stubs = λ j stub h. each j stub h (made_at (start_stub s) 0 (length s.composition) j (slice_get e.stubs j) (ap (λ l. slice_get l j) (sym stubs)));
         }
       where
         each : (j : ℕ) (stub : Stub) → slice_get e.stubs j ≡ Some stub
@@ -79,14 +91,12 @@ module _ (s : System) where
         each j stub h (inr none) = let both : Some stub ≡ None = sym h ∙ none.0 in cc
 
   -- a lease at the start
-  pub holding_kept : {P : Type 0} (h : Holding P) → h.component.number < length s.composition → h.component.base ≡ first
-      → h.component.history ≡ record { base = (machine s).start h.component.number; first = 0; done = []; pending = []; owed = [] } → h.tray ≡ [] → h.out ≡ [] → h.copies ≡ record { of_sender = []; of_receiver = [] } → h.floor ≡ first_bound s h.component.number
-      → IsLease (machine s) h.component.number (start_lease (machine s) h.component.number) × Matches (machine s) h.component.number (start_seen (machine s) h.component.number) (start_lease (machine s) h.component.number)
-      → IsHolding (machine s) (length s.composition) h
-  holding_kept h there base history tray out copies floor both =
+  pub lease_seen : {P : Type 0} (h : Holding P) → h.component.number < length s.composition → h.component.base ≡ first
+      → h.component.history ≡ record { base = (machine s).start h.component.number; first = 0; done = []; pending = []; owed = [] } → h.tray ≡ [] → h.out ≡ [] → h.floor ≡ first_bound s h.component.number
+      → lease_of h ≡ start_lease (machine s) h.component.number
+  lease_seen h there base history tray out floor =
       let i = h.component.number in
-      let seen_lease : lease_of h ≡ start_lease (machine s) i
-      = λ v. record {
+      λ v. record {
         base = (ap rank_of_bound base) v;
         floor = (ap rank_of_bound floor ∙ floor_is i there) v;
         part = record {
@@ -100,7 +110,15 @@ module _ (s : System) where
         };
         out_plus = λ j. (ap (in_flight Plus j) out) v;
         out_minus = λ j. (ap (in_flight Minus j) out) v;
-      } in
+      }
+
+  pub holding_kept : {P : Type 0} (h : Holding P) → h.component.number < length s.composition → h.component.base ≡ first
+      → h.component.history ≡ record { base = (machine s).start h.component.number; first = 0; done = []; pending = []; owed = [] } → h.tray ≡ [] → h.out ≡ [] → h.copies ≡ record { of_sender = []; of_receiver = [] } → h.floor ≡ first_bound s h.component.number
+      → IsLease (machine s) h.component.number (start_lease (machine s) h.component.number) × Matches (machine s) h.component.number (start_seen (machine s) h.component.number) (start_lease (machine s) h.component.number)
+      → IsHolding (machine s) (length s.composition) h
+  holding_kept h there base history tray out copies floor both =
+      let i = h.component.number in
+      let seen_lease = lease_seen h there base history tray out floor in
       record {
         lease = subst (IsLease (machine s) i) (sym seen_lease) both.0;
         stub = start_seen (machine s) i;
@@ -110,3 +128,25 @@ module _ (s : System) where
         of_receiver = λ j. ap (λ (c : Copies). in_flight Plus j c.of_receiver) copies ∙ sym (ap (in_flight Plus j) out);
         inside = λ sign j past. ap (in_flight sign j) out;
       }
+
+-- all leases at the start
+module _ {T : Type 0} (turn_of : T → ℕ → ℕ → Option Turn) (setup : Setup T) where
+  abbrev m : Machine (List Datum) Named
+  m = machine_of turn_of setup
+
+  lease_at : (j : ℕ) (o : Option (Holding (Setup T))) → ((h : Holding (Setup T)) × (o ≡ Some h) × (j < length (composition (plan_of setup))) × (h ≡ start_holding turn_of setup (0 + j))) ⊎ ((o ≡ None) × (length (composition (plan_of setup)) ≤ j)) → lease_or_start m j o ≡ start_lease m j
+  lease_at j o (inl h) =
+      ap (lease_or_start m j) (h.1 ∙ ap (λ x. Some x) (h.3 ∙ ap (start_holding turn_of setup) (omega arith))) ∙ lease_seen (system turn_of setup) (start_holding turn_of setup j) h.2 refl refl refl refl refl
+  lease_at j o (inr h) = ap (lease_or_start m j) h.0
+
+  leases_are : (hs : List (Holding (Setup T))) → hs ≡ map (start_holding turn_of setup) (range_with_len 0 (length (composition (plan_of setup)))) → leases_of m hs ≡ start_lease m
+  leases_are hs e =
+      λ v j. lease_at j (slice_get hs j) (made_at (start_holding turn_of setup) 0 (length (composition (plan_of setup))) j (slice_get hs j) (ap (λ l. slice_get l j) (sym e))) v
+
+  pub stand_first : IsWorld m (start_world m) → ((i : ℕ) → IsLease m i (start_lease m i) × Matches m i (start_seen m i) (start_lease m i)) → IsWhole m (start_exchange m) (start_lease m) (start_world m)
+      → (e : Shared (Setup T)) → e ≡ start_shared turn_of setup → (hs : List (Holding (Setup T))) → hs ≡ map (start_holding turn_of setup) (range_with_len 0 (length (composition (plan_of setup))))
+      → StandFor m (exchange_of m e) (leases_of m hs) (start_world m)
+  stand_first world each whole e e_is hs hs_is =
+      let there : exchange_of m e ≡ start_exchange m = seen (system turn_of setup) e (ap (λ (x : Shared _). x.stubs) e_is) (ap (λ (x : Shared _). x.bound) e_is) (ap (λ (x : Shared _). x.held) e_is) (ap (λ (x : Shared _). x.given) e_is) in
+      subst (λ x. StandFor m x (leases_of m hs) (start_world m)) (sym there)
+      (subst (λ ls. StandFor m (start_exchange m) ls (start_world m)) (sym (leases_are hs hs_is)) (record { proper = λ j. (each j).0; match = λ j. (each j).1; whole = whole; world = world }))

@@ -7,3 +7,4 @@ pub mod Moving
 pub mod Refusals
 pub mod Same
 pub mod SameLaws
+pub mod Core

@@ -1,6 +1,10 @@
 -- What workers share, and the leases, at the start.
-use Rattle.std.specs.Prelude.{ℕ, Option, None, Some, [], map, length}
+use Rattle.std.specs.Prelude.{ℕ, Option, None, Some, List, [], map, length, slice_get}
 use Rattle.std.specs.List.{range_with_len}
+use Rattle.terms.specs.Datum.{Datum}
+use Rattle.terms.specs.Named.{Named}
+use Rattle.virtual_time.specs.Machine.{Machine}
+use Rattle.virtual_time.specs.Exchange.Leases.{Lease, start_lease}
 use Rattle.event_keys.specs.declared.key.Key.{Key}
 use Rattle.event_keys.specs.declared.key.Bound.{Bound}
 use Rattle.event_keys.specs.declared.key.Bound.TheVariants.{At, End}
@@ -11,8 +15,17 @@ use Rattle.task_seed.specs.Setups.{system, plan_of}
 use Rattle.task_seed.specs.Turning.{System, key_of}
 use Rattle.rollback.specs.Held.{machine_of, start_record}
 use Rattle.exchange.specs.declared.stub.Stub.{Stub}
-use Rattle.exchange.specs.Holding.{Holding}
+use Rattle.exchange.specs.Holding.{Holding, lease_of}
 use Rattle.exchange.specs.Shared.{Shared}
+
+-- the lease of component j as the theory sees it; where there is none it is as at the start
+abbrev pub lease_or_start : {P : Type 0} → Machine (List Datum) Named → ℕ → Option (Holding P) → Lease (List Datum) Named
+lease_or_start m j None = start_lease m j
+lease_or_start m j (Some h) = lease_of h
+
+-- a list of leases, one a component
+abbrev pub leases_of : {P : Type 0} → Machine (List Datum) Named → List (Holding P) → ℕ → Lease (List Datum) Named
+leases_of m hs j = lease_or_start m j (slice_get hs j)
 
 -- below it there is no key
 abbrev pub first : Bound

@@ -1,17 +1,23 @@
 //! What workers share.
-ghost use Rattle.std.specs.Prelude.{◌≡◌, ℕ, ◌≤◌, ◌<◌, ◌+◌, ◌↔◌, true, Some, IfOk, length, map, slice_get, option_map};
+ghost use Rattle.std.specs.Prelude.{◌≡◌, ℕ, ◌≤◌, ◌<◌, ◌+◌, ◌↔◌, true, Some, IfOk, List, [], ◌∷◌, length, map, slice_get, option_map};
 ghost use Rattle.std.specs.Arc.{arc_value};
 ghost use Rattle.event_keys.specs.declared.key.Bound.TheVariants.{At, End};
 ghost use Rattle.event_keys.specs.Ranks.{rank_of_bound};
 ghost use Rattle.virtual_time.specs.Reference.{reference_below, point, turns_of};
+ghost use Rattle.virtual_time.specs.Exchange.Leases.{Lease as LeaseSeen};
 ghost use Rattle.virtual_time.specs.Exchange.Meetings.{IsCommit};
+ghost use Rattle.virtual_time.specs.Exchange.Stubs.{IsSound};
+ghost use Rattle.virtual_time.specs.Worlds.{Commit};
+ghost use Rattle.terms.specs.Datum.{Datum};
+ghost use Rattle.terms.specs.Named.{Named};
 ghost use Rattle.plans.specs.Plans.{composition};
 ghost use Rattle.task_seed.specs.Setups.{system, plan_of};
 ghost use Rattle.task_seed.specs.Machines.{end_rank};
 ghost use Rattle.rollback.specs.Held.{machine_of};
 ghost use Rattle.gvt.specs.Least.{IsLeast};
 ghost use Rattle.exchange.specs.declared.stub.Stub.{Stub as StubValue};
-ghost use Rattle.exchange.specs.Shared.{exchange_of, clear_until, is_end, is_ended, passing, IsPassing};
+ghost use Rattle.exchange.specs.Core.{Leads};
+ghost use Rattle.exchange.specs.Shared.{exchange_of, clear_until, is_end, is_ended, passing, IsPassing, IsShared};
 ghost use Rattle.std.specs.List.{list_all};
 
 use crate::stub::Stub;
@@ -24,7 +30,7 @@ use std::sync::Arc;
 use task_seed::laws::machine_is_lawful;
 use task_seed::{Setup, Turns};
 use terms::{Action, State};
-use virtual_time::exchanges::exchange_is_sound;
+use virtual_time::exchanges::{exchange_is_core, exchange_is_sound};
 use virtual_time::reference::reference_is_counted;
 
 /// What workers share: for each component a stub, the committed bound, the turns taken in and not yet given, and how many were given.
@@ -67,6 +73,16 @@ impl<T: Turns> Exchange<T> {
         &self.setup
     }
 
+    /// Every exchange is sound, though every lease may be away: its bound lies between all bases and all floors, and no key in an inbox is below
+    /// it; from the bound on, what senders have standing is what receivers have taken or have in their inboxes; below it, both are what the
+    /// reference sends; and what was taken in and given are the reference's turns. The call does nothing.
+    pub fn is_sound(&self)
+        ensures sound { IsSound (machine_of T.turn_of self.now.setup) (length (composition (plan_of self.now.setup))) (exchange_of (machine_of T.turn_of self.now.setup) self.now) }
+        ensures shared { IsShared (system T.turn_of self.now.setup) self.now }
+    {
+        let _ = &self.setup;
+    }
+
     /// The bound that the last commit left: nothing below it can come any more. Before the first commit there is no key below it.
     pub fn bound(&self) -> Bound
         ensures { result ≡ self.now.bound }
@@ -84,7 +100,22 @@ impl<T: Turns> Exchange<T> {
     /// Raises the bound to the least of all floors and of all keys in inboxes: nothing below it can come any more. The answer is the
     /// number of the turns with keys below it. It takes no memory; its time grows with the number of the components and with that of the
     /// turns that were passed.
+    ///
+    /// It is one commit of the whole world that the exchange and its leases stand for, wherever these are.
     pub fn commit(&mut self) -> u64
+        ensures commit { IsCommit (machine_of T.turn_of self.old.setup) (exchange_of (machine_of T.turn_of self.old.setup) self.old) (exchange_of (machine_of T.turn_of self.old.setup) self.new) }
+        ensures rest { self.new ≡ record self.old { bound = self.new.bound; stubs = self.new.stubs } }
+        ensures stubs { (j : ℕ) → slice_get self.new.stubs j ≡ option_map (passing (system T.turn_of self.old.setup) (rank_of_bound self.new.bound) j) (slice_get self.old.stubs j) }
+        ensures count { result ≡ length (reference_below (machine_of T.turn_of self.old.setup) (rank_of_bound self.new.bound)) }
+        ensures core { (leases : ℕ → LeaseSeen (List Datum) Named) → Leads (machine_of T.turn_of self.old.setup) (λ steps. steps ≡ Commit (rank_of_bound self.new.bound) ∷ []) (exchange_of (machine_of T.turn_of self.old.setup) self.old) leases (exchange_of (machine_of T.turn_of self.old.setup) self.new) leases }
+    {
+        machine_is_lawful(self.setup());
+        exchange_is_core::<State, Action>();
+        self.is_sound();
+        self.raise_bound()
+    }
+
+    fn raise_bound(&mut self) -> u64
         ensures commit { IsCommit (machine_of T.turn_of self.old.setup) (exchange_of (machine_of T.turn_of self.old.setup) self.old) (exchange_of (machine_of T.turn_of self.old.setup) self.new) }
         ensures rest { self.new ≡ record self.old { bound = self.new.bound; stubs = self.new.stubs } }
         ensures stubs { (j : ℕ) → slice_get self.new.stubs j ≡ option_map (passing (system T.turn_of self.old.setup) (rank_of_bound self.new.bound) j) (slice_get self.old.stubs j) }

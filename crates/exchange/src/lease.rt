@@ -1,5 +1,5 @@
 //! Leases: components that workers hold, away from what they share.
-ghost use Rattle.std.specs.Prelude.{◌≡◌, ◌≤◌, ◌<◌, ◌-◌, ◌^◌, [], length, min, true, false, None, IfOk, OnOk, OnErr, IfErr, IsErrOf, IsSomeAnd, ◌↔◌, ◌⊎◌};
+ghost use Rattle.std.specs.Prelude.{◌≡◌, ◌≤◌, ◌<◌, ◌-◌, ◌^◌, [], length, min, replicate, true, false, None, IfOk, OnOk, OnErr, IfErr, IsErrOf, IsSomeAnd, ◌↔◌, ◌⊎◌};
 ghost use Rattle.antimessage.specs.Bags.{least_of};
 ghost use Rattle.event_keys.specs.declared.message.Sign.TheVariants.{Plus};
 ghost use Rattle.event_keys.specs.Ranks.{rank};
@@ -8,7 +8,12 @@ ghost use Rattle.virtual_time.specs.Records.{next_of};
 ghost use Rattle.rollback.specs.Held.{machine_of, processed, sent_next};
 ghost use Rattle.rollback.specs.Post.{IsPosted};
 ghost use Rattle.event_keys.specs.declared.message.Signed.{Signed as SignedValue};
-ghost use Rattle.exchange.specs.Holding.{IsAhead, IsDelivered, AllDelivered};
+ghost use Rattle.exchange.specs.Core.{Moves, StaysKnown, deliveries};
+ghost use Rattle.exchange.specs.Holding.{IsAhead, IsDelivered, IsHolding, AllDelivered, lease_of};
+ghost use Rattle.plans.specs.Plans.{composition};
+ghost use Rattle.task_seed.specs.Setups.{plan_of};
+ghost use Rattle.virtual_time.specs.Exchange.Leases.{IsLease};
+ghost use Rattle.virtual_time.specs.Worlds.{Process};
 
 use antimessage::Bag;
 use event_keys::{Bound, Key};
@@ -16,10 +21,10 @@ use rollback::laws::run_law;
 use rollback::{Component, Copies, ProcessRefused};
 use std::alloc::Global;
 use std::marker::Model;
-use task_seed::Turns;
 use task_seed::laws::machine_is_lawful;
+use task_seed::{Setup, Turns};
 use terms::{Action, NoMemory, State};
-use virtual_time::exchanges::{exchange_is_sound, lease_law};
+use virtual_time::exchanges::{exchange_is_core, exchange_is_sound, lease_law};
 
 /// A component that a worker holds, away from what workers share: with its tray of messages that came to it and aren't delivered
 /// yet, its outgoing messages and two copies of each, and its floor, the least key that it had to do at its last meeting. It can't be
@@ -70,9 +75,62 @@ impl<T: Turns> Lease<T> {
         self.tray.least()
     }
 
+    /// Every lease is sound: its record is proper and grounded, and no key that is next, waits in its tray or is outgoing lies below its floor.
+    /// The call does nothing.
+    pub fn is_sound(&self)
+        ensures lease { IsLease (machine_of T.turn_of self.now.component.setup) self.now.component.number (lease_of self.now) }
+        ensures holding { IsHolding (machine_of T.turn_of self.now.component.setup) (length (composition (plan_of self.now.component.setup))) self.now }
+    {
+        let _ = &self.component;
+    }
+
     /// Processes entries, at most `budget` of them, and answers how many. It stops short where nothing is pending and no turn is
     /// left, and where memory is refused; that is an error only where the first entry was refused, and then nothing has changed.
     pub fn run_ahead(&mut self, alloc: Global, budget: u32) -> Result<u32, NoMemory>
+        ensures ahead { IfOk result (λ count. IsAhead (machine_of T.turn_of self.old.component.setup) self.old self.new count) }
+        ensures most { IfOk result (λ count. count ≤ budget) }
+        ensures none { IfOk result (λ count. count ≡ 0 → (budget ≡ 0) ⊎ (next_of (machine_of T.turn_of self.old.component.setup) self.old.component.number self.old.component.history ≡ None)) }
+        ensures moves { IfOk result (λ count. Moves (machine_of T.turn_of self.old.component.setup) self.old.component.number (replicate count (Process self.old.component.number)) (lease_of self.old) (lease_of self.new)) }
+        ensures known { StaysKnown (machine_of T.turn_of self.old.component.setup) self.old.component.number (lease_of self.old) (lease_of self.new) }
+        ensures kept { OnErr result (self.new ≡ self.old) }
+    {
+        machine_is_lawful(self.setup());
+        exchange_is_core::<State, Action>();
+        exchange_is_sound::<State, Action>();
+        lease_law::<State, Action>();
+        self.is_sound();
+        let ahead = self.process_some(alloc, budget);
+        self.is_sound();
+        ahead
+    }
+
+    /// Delivers the whole tray, from the least message on, and answers how many messages that were, or the greatest `u64` where
+    /// there were more. It takes no memory.
+    pub fn settle(&mut self) -> u64
+        ensures delivered { AllDelivered (machine_of T.turn_of self.old.component.setup) self.old self.old.tray self.new }
+        ensures tray { self.new.tray ≡ [] }
+        ensures count { result ≡ min (length self.old.tray) (2 ^ 64 - 1) }
+        ensures moves { Moves (machine_of T.turn_of self.old.component.setup) self.old.component.number (deliveries self.old.component.number self.old.tray) (lease_of self.old) (lease_of self.new) }
+        ensures known { StaysKnown (machine_of T.turn_of self.old.component.setup) self.old.component.number (lease_of self.old) (lease_of self.new) }
+    {
+        machine_is_lawful(self.setup());
+        exchange_is_core::<State, Action>();
+        exchange_is_sound::<State, Action>();
+        lease_law::<State, Action>();
+        self.is_sound();
+        let count = self.deliver_all();
+        self.is_sound();
+        count
+    }
+
+    fn setup(&self) -> &Setup<T>
+        ensures { result.now ≡ self.now.component.setup }
+    {
+        self.component.setup()
+    }
+
+    // Processes entries, at most so many.
+    fn process_some(&mut self, alloc: Global, budget: u32) -> Result<u32, NoMemory>
         ensures ahead { IfOk result (λ count. IsAhead (machine_of T.turn_of self.old.component.setup) self.old self.new count) }
         ensures most { IfOk result (λ count. count ≤ budget) }
         ensures none { IfOk result (λ count. count ≡ 0 → (budget ≡ 0) ⊎ (next_of (machine_of T.turn_of self.old.component.setup) self.old.component.number self.old.component.history ≡ None)) }
@@ -89,9 +147,8 @@ impl<T: Turns> Lease<T> {
         Ok(budget)
     }
 
-    /// Delivers the whole tray, from the least message on, and answers how many messages that were, or the greatest `u64` where
-    /// there were more. It takes no memory.
-    pub fn settle(&mut self) -> u64
+    // Delivers the whole tray.
+    fn deliver_all(&mut self) -> u64
         ensures delivered { AllDelivered (machine_of T.turn_of self.old.component.setup) self.old self.old.tray self.new }
         ensures tray { self.new.tray ≡ [] }
         ensures count { result ≡ min (length self.old.tray) (2 ^ 64 - 1) }

@@ -1,10 +1,14 @@
 //! Meetings of a lease with what workers share.
-ghost use Rattle.std.specs.Prelude.{◌≡◌, ◌↔◌, ℕ, Some, true, false, length, slice_get, IfOk, OnOk, OnErr, IsOk, IsErrOf};
+ghost use Rattle.std.specs.Prelude.{◌≡◌, ◌↔◌, ℕ, List, Some, true, false, length, slice_get, IfOk, OnOk, OnErr, IsOk, IsErrOf};
 ghost use Rattle.event_keys.specs.Ranks.{rank_of_bound};
 ghost use Rattle.antimessage.specs.Bags.{insert_all};
 ghost use Rattle.antimessage.specs.Counts.{Each};
-ghost use Rattle.virtual_time.specs.Exchange.Leases.{IsFloor, Matches};
+ghost use Rattle.virtual_time.specs.Exchange.Leases.{IsFloor, Lease as LeaseSeen, Matches};
 ghost use Rattle.virtual_time.specs.Exchange.Meetings.{Met};
+ghost use Rattle.virtual_time.specs.Exchange.Wholes.{put_lease};
+ghost use Rattle.terms.specs.Datum.{Datum};
+ghost use Rattle.terms.specs.Named.{Named};
+ghost use Rattle.exchange.specs.Core.{AreMeetings, Leads};
 ghost use Rattle.plans.specs.Plans.{composition};
 ghost use Rattle.task_seed.specs.Setups.{plan_of, system};
 ghost use Rattle.rollback.specs.Held.{machine_of};
@@ -26,7 +30,7 @@ use task_seed::laws::{equal_setup_law, machine_is_lawful};
 use task_seed::{Setup, Turns};
 use terms::{Action, State};
 use turn_lists::merge;
-use virtual_time::exchanges::{exchange_is_sound, meeting_law};
+use virtual_time::exchanges::{exchange_is_core, exchange_is_sound, meeting_law};
 use virtual_time::merging::merging_law;
 
 impl Stub {
@@ -145,15 +149,23 @@ impl<T: Turns> Exchange<T> {
     ///
     /// It is accepted exactly where the lease's setup is the exchange's (else 40), and its base, floor, taken messages and standing sends
     /// are those that are kept of its component (else 41). A refusal changes neither. It takes no memory.
+    ///
+    /// In the whole world that the exchange and its leases stand for, wherever these are, messages meet their antimessages, and nothing else
+    /// happens.
     pub fn meet(&mut self, lease: &mut Lease<T>) -> Result<Bound, MeetRefused>
         ensures ok { IsOk result ↔ ((⟦<Setup<T> as PartialEq>⟧.eq self.old.setup lease.old.component.setup ≡ true) × Matches (machine_of T.turn_of self.old.setup) lease.old.component.number ((exchange_of (machine_of T.turn_of self.old.setup) self.old).stub lease.old.component.number) (lease_of lease.old)) }
         ensures other { IsErrOf result MeetRefused.OtherSetup ↔ (⟦<Setup<T> as PartialEq>⟧.eq self.old.setup lease.old.component.setup ≡ false) }
         ensures bound { IfOk result (λ bound. bound ≡ self.old.bound) }
         ensures met { OnOk result (Met (machine_of T.turn_of self.old.setup) lease.old.component.number (exchange_of (machine_of T.turn_of self.old.setup) self.old) (lease_of lease.old) (exchange_of (machine_of T.turn_of self.old.setup) self.new) (lease_of lease.new)) }
+        ensures core { OnOk result ((leases : ℕ → LeaseSeen (List Datum) Named) → leases lease.old.component.number ≡ lease_of lease.old → Leads (machine_of T.turn_of self.old.setup) AreMeetings (exchange_of (machine_of T.turn_of self.old.setup) self.old) leases (exchange_of (machine_of T.turn_of self.old.setup) self.new) (put_lease lease.old.component.number (lease_of lease.new) leases)) }
         ensures rest { self.new ≡ record self.old { stubs = self.new.stubs; held = self.new.held } }
         ensures same { OnOk result ((lease.new.component.setup ≡ lease.old.component.setup) × (lease.new.component.number ≡ lease.old.component.number)) }
         ensures kept { OnErr result ((self.new ≡ self.old) × (lease.new ≡ lease.old)) }
     {
+        machine_is_lawful(self.setup());
+        exchange_is_core::<State, Action>();
+        exchange_is_sound::<State, Action>();
+        self.is_sound();
         equal_setup_law(&self.setup, lease.component.setup());
         self.judge(lease)?;
         Ok(self.accept(lease))

@@ -5,7 +5,10 @@ ghost use Rattle.std.specs.Arc.{arc_value};
 ghost use Rattle.plans.specs.Plans.{composition};
 ghost use Rattle.task_seed.specs.Setups.{system, plan_of};
 ghost use Rattle.rollback.specs.Held.{machine_of};
-ghost use Rattle.exchange.specs.Start.{first_bound, start_stub, start_holding, start_shared};
+ghost use Rattle.virtual_time.specs.Worlds.{start_world};
+ghost use Rattle.exchange.specs.Core.{StandFor};
+ghost use Rattle.exchange.specs.Shared.{exchange_of};
+ghost use Rattle.exchange.specs.Start.{first_bound, start_stub, start_holding, start_shared, leases_of};
 
 use crate::exchange::Exchange;
 use crate::lease::Lease;
@@ -19,7 +22,8 @@ use std::sync::Arc;
 use task_seed::laws::machine_is_lawful;
 use task_seed::{Setup, Turns};
 use terms::{Action, NoMemory, State};
-use virtual_time::exchanges::exchange_is_sound;
+use virtual_time::exchanges::{exchange_is_core, exchange_is_sound};
+use virtual_time::worlds::{committed_is_reference, each_step_is_answered};
 
 // Below it there is no key.
 const FIRST: Bound = Bound::At(Key {
@@ -72,10 +76,25 @@ fn start_lease<T: Turns>(alloc: Global, setup: Arc<Setup<T>>, i: u16) -> Result<
 
 impl<T: Turns> Exchange<T> {
     /// The exchange of a setup at its start, with a lease for each component, in order.
+    ///
+    /// They stand for the world at its start.
     pub fn new(
         alloc: Global,
         setup: Arc<Setup<T>>,
     ) -> Result<(Exchange<T>, Vec<Lease<T>>), NoMemory>
+        ensures exchange { IfOk result (λ both. both.0 ≡ start_shared T.turn_of (arc_value setup)) }
+        ensures leases { IfOk result (λ both. both.1.items ≡ map (start_holding T.turn_of (arc_value setup)) (range_with_len 0 (length (composition (plan_of (arc_value setup)))))) }
+        ensures start { IfOk result (λ both. StandFor (machine_of T.turn_of (arc_value setup)) (exchange_of (machine_of T.turn_of (arc_value setup)) both.0) (leases_of (machine_of T.turn_of (arc_value setup)) both.1.items) (start_world (machine_of T.turn_of (arc_value setup)))) }
+    {
+        machine_is_lawful(&setup);
+        exchange_is_core::<State, Action>();
+        exchange_is_sound::<State, Action>();
+        committed_is_reference::<State, Action>();
+        each_step_is_answered::<State, Action>();
+        Exchange::start(alloc, setup)
+    }
+
+    fn start(alloc: Global, setup: Arc<Setup<T>>) -> Result<(Exchange<T>, Vec<Lease<T>>), NoMemory>
         ensures exchange { IfOk result (λ both. both.0 ≡ start_shared T.turn_of (arc_value setup)) }
         ensures leases { IfOk result (λ both. both.1.items ≡ map (start_holding T.turn_of (arc_value setup)) (range_with_len 0 (length (composition (plan_of (arc_value setup)))))) }
     {

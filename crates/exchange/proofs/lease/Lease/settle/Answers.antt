@@ -1,27 +1,30 @@
-use Rattle.std.proofs.Common.{refl, sym, ap, subst, ◌∙◌}
+use Rattle.std.proofs.Common.{length, subst}
+use Rattle.plans.specs.Plans.{composition}
+use Rattle.task_seed.specs.Setups.{plan_of}
+use Rattle.virtual_time.specs.Machine.{HasCount, Lawful}
 use Rattle.rollback.specs.Held.{machine_of}
-use Rattle.exchange.specs.Holding.{Holding, AllDelivered, IsCount, IsDelivered}
-use Rattle.exchange.proofs.Delivering.{rest_after, count_after}
+use Rattle.exchange.proofs.Doing.{all_known, all_moves}
 use Rattle.exchange.proofs.lease.Lease.settle.Goals as goal
 
-pub loop-count-preserved : goal.loop-count-preserved
-loop-count-preserved g c =
+pub returns-clause-moves : goal.returns-clause-moves
+returns-clause-moves g c =
     let t = g.T.Turns.turn_of in
     let own = c.args.self.now in
-    let old = c.loop-count.self in
-    let mid = c.deliver_next.new.self in
-    let found = c.loop-count-test.ensures.delivered refl in
-    let same = c.loop-count.invariant.setup in
-    let is : IsDelivered (machine_of t own.component.setup) old mid found.0 = subst (λ p. IsDelivered (machine_of t p) old mid found.0) same found.1 in
-    record {
-      setup = ap (λ (h : Holding _). h.component.setup) found.1.rest ∙ same;
-      rest = rest_after (machine_of t own.component.setup) own old mid found.0 is c.loop-count.invariant.rest;
-      count = subst (IsCount own.tray mid.tray) (sym c.saturating_add-count.ensures) (count_after (machine_of t own.component.setup) own old mid found.0 is c.loop-count.count c.loop-count.invariant.count);
-    }
+    let m = machine_of t own.component.setup in
+    let n = length (composition (plan_of own.component.setup)) in
+    let law : Lawful m = subst (λ p. Lawful (machine_of t p)) c.setup.ensures c.machine_is_lawful.ensures.lawful in
+    let counted : HasCount m n = subst (λ p. HasCount (machine_of t p) (length (composition (plan_of p)))) c.setup.ensures c.machine_is_lawful.ensures.counted in
+    let is = c.is_sound-2.ensures.lease in
+    all_moves m law n counted (c.exchange_is_sound.ensures.alone m) (c.lease_law.ensures.alone m) (c.lease_law.ensures.message m) (c.lease_law.ensures.antimessage m) own.tray own c.deliver_all-count.new.self c.is_sound.ensures.holding is.self_plus is.self_minus c.deliver_all-count.ensures.delivered
+    (c.exchange_is_core.ensures.world m) (c.exchange_is_core.ensures.alone m)
 
-pub returns-clause-delivered : goal.returns-clause-delivered
-returns-clause-delivered g c =
-    let m = machine_of g.T.Turns.turn_of c.args.self.now.component.setup in
-    let old = c.loop-count.self in
-    let none = c.loop-count-test.ensures.none refl in
-    subst (AllDelivered m c.args.self.now c.args.self.now.tray) (sym none.1) (c.loop-count.invariant.rest old (subst (λ ys. AllDelivered m old ys old) (sym none.0) refl))
+pub returns-clause-known : goal.returns-clause-known
+returns-clause-known g c =
+    let t = g.T.Turns.turn_of in
+    let own = c.args.self.now in
+    let m = machine_of t own.component.setup in
+    let n = length (composition (plan_of own.component.setup)) in
+    let law : Lawful m = subst (λ p. Lawful (machine_of t p)) c.setup.ensures c.machine_is_lawful.ensures.lawful in
+    let counted : HasCount m n = subst (λ p. HasCount (machine_of t p) (length (composition (plan_of p)))) c.setup.ensures c.machine_is_lawful.ensures.counted in
+    let is = c.is_sound-2.ensures.lease in
+    all_known m law n counted (c.exchange_is_sound.ensures.alone m) (c.lease_law.ensures.alone m) (c.lease_law.ensures.message m) (c.lease_law.ensures.antimessage m) own.tray own c.deliver_all-count.new.self c.is_sound.ensures.holding is.self_plus is.self_minus c.deliver_all-count.ensures.delivered

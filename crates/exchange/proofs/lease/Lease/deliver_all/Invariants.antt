@@ -1,7 +1,7 @@
 use Rattle.std.proofs.Common.{◌≡◌, length}
 use Rattle.rollback.specs.Held.{machine_of}
 use Rattle.exchange.specs.Holding.{Holding, AllDelivered, IsCount}
-use Rattle.exchange.proofs.lease.Lease.settle.Given as goal
+use Rattle.exchange.proofs.lease.Lease.deliver_all.Given as goal
 
 abbrev pub invariant-loop-count : goal.invariant-loop-count
 invariant-loop-count g l =

@@ -1,7 +1,7 @@
 use Rattle.std.proofs.Common.{◌≡◌}
 use Rattle.rollback.specs.Held.{machine_of}
 use Rattle.exchange.specs.Holding.{IsAhead}
-use Rattle.exchange.proofs.lease.Lease.run_ahead.Given as goal
+use Rattle.exchange.proofs.lease.Lease.process_some.Given as goal
 
 abbrev pub invariant-loop-count : goal.invariant-loop-count
 invariant-loop-count g l =

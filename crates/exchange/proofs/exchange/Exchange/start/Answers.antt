@@ -1,0 +1,38 @@
+use Rattle.std.proofs.Common.{◌≡◌, [], ◌∷◌, ◌++◌, map, length, refl, sym, ap, subst, ◌∙◌, arith}
+use Rattle.std.proofs.lemmas.List.FromFn.{map-range_with_len_more}
+use Rattle.std.specs.Arc.{arc_value}
+use Rattle.std.specs.List.{range_with_len}
+use Rattle.plans.specs.Plans.{composition}
+use Rattle.task_seed.specs.Setups.{system, plan_of}
+use Rattle.task_seed.specs.Machines.{machine}
+use Rattle.virtual_time.specs.Machine.{Lawful}
+use Rattle.exchange.specs.Shared.{Shared}
+use Rattle.exchange.specs.Start.{first, start_stub, start_holding}
+use Rattle.exchange.proofs.Starting.{shared_kept}
+use Rattle.exchange.proofs.exchange.Exchange.start.Goals as goal
+
+pub invariant_of-exchange : goal.invariant_of-exchange
+invariant_of-exchange g c =
+    let t = g.T.Turns.turn_of in
+    let p = arc_value c.args.setup in
+    let s = system t p in
+    let law : Lawful (machine s) = subst (λ x. Lawful (machine (system t x))) c.deref.ensures c.machine_is_lawful.ensures.lawful in
+    let start = c.exchange_is_sound.ensures.start (machine s) (length s.composition) law in
+    let count = c.components-i-end.ensures ∙ ap (λ plan. length (composition plan)) c.plan.ensures ∙ ap (λ x. length (composition (plan_of x))) c.deref-2.ensures in
+    let all : c.loop-i.i ≡ length s.composition = omega (arith, c.loop-i-test.false, count, c.loop-i.auto.i-end) in
+    let stubs = c.loop-i.invariant.stubs ∙ ap (λ n. map (start_stub s) (range_with_len 0 n)) all in
+    let e : Shared _ = record { setup = p; stubs = c.loop-i.stubs.items; bound = first; held = c.new.result.after; given = 0 } in
+    (ap (λ l. l.before) c.new.ensures, shared_kept s e stubs refl (ap (λ l. l.after) c.new.ensures) refl start.0)
+
+pub loop-i-preserved : goal.loop-i-preserved
+loop-i-preserved g c =
+    let t = g.T.Turns.turn_of in
+    let p = arc_value c.args.setup in
+    let s = system t p in
+    let i = c.loop-i.i in
+    let stub : c.start_stub.result ≡ start_stub s i = c.start_stub.ensures ∙ ap (λ x. start_stub (system t x) i) c.deref-in-loop-i.ensures in
+    let lease : c.in_ok-start_lease.field-0 ≡ start_holding t p i = c.in_ok-start_lease.ensures ∙ ap (λ x. start_holding t x i) c.in_ok-try_clone.ensures in
+    record {
+      stubs = c.in_ok-push.ensures.items ∙ ap (λ l. l ++ c.start_stub.result ∷ []) c.loop-i.invariant.stubs ∙ ap (λ x. map (start_stub s) (range_with_len 0 i) ++ x ∷ []) stub ∙ sym (map-range_with_len_more (start_stub s) 0 i i (omega arith));
+      leases = c.in_ok-push-2.ensures.items ∙ ap (λ l. l ++ c.in_ok-start_lease.field-0 ∷ []) c.loop-i.invariant.leases ∙ ap (λ x. map (start_holding t p) (range_with_len 0 i) ++ x ∷ []) lease ∙ sym (map-range_with_len_more (start_holding t p) 0 i i (omega arith));
+    }
