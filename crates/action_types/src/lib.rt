@@ -8,6 +8,3 @@ mod seen;
 mod standing;
 
 pub use search::first_difference;
-
-#[cfg(test)]
-mod tests;

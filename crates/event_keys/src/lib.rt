@@ -14,6 +14,3 @@ pub use entry::Entry;
 pub use key::{Bound, Key};
 pub use message::{Message, Sign, Signed};
 pub use outcome::{Outcome, Turned};
-
-#[cfg(test)]
-mod tests;

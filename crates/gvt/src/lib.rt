@@ -4,6 +4,3 @@
 pub mod least;
 
 pub use least::{least_bound, lesser};
-
-#[cfg(test)]
-mod tests;

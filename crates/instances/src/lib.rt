@@ -10,6 +10,3 @@ pub mod parts;
 pub mod table;
 
 pub use parts::{Parts, parts_of};
-
-#[cfg(test)]
-mod tests;

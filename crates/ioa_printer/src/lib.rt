@@ -12,8 +12,6 @@ mod names;
 mod source;
 mod statements;
 mod term;
-#[cfg(test)]
-mod tests;
 mod types;
 
 use crate::source::put_source;

@@ -18,6 +18,3 @@ pub use page::Page;
 pub use reading::tokens;
 pub use token::{Kind, Token};
 pub use word::Word;
-
-#[cfg(test)]
-mod tests;

@@ -8,6 +8,3 @@ mod span;
 pub use arguments::overlap;
 pub use entries::is_shared;
 pub use span::{Span, meet, span_of};
-
-#[cfg(test)]
-mod tests;

@@ -16,6 +16,3 @@ pub(crate) mod strand;
 pub use cell::{EventCell, Refused};
 pub use list::EventList;
 pub use list::iter::Iter;
-
-#[cfg(test)]
-mod tests;

@@ -1,5 +1,7 @@
-//! The tests of `service`, in a crate of their own, so that `service` isn't proved a second time with them.
+//! The tests of `service` and `command_line`, in a crate of their own, so that those aren't proved a second time with them.
 #![tactic(auto)]
 
 #[cfg(test)]
 mod tests;
+#[cfg(test)]
+mod words;

@@ -2,7 +2,7 @@
 ghost use Rattle.std.specs.Prelude.{◌≡◌, ◌^◌};
 ghost use Rattle.event_keys.specs.Ranks.{rank, rank_of_bound, owner_of};
 
-use super::*;
+use event_keys::{Bound, Entry, Key, Message, Outcome, Sign, Signed, Turned};
 use std::alloc::AllocError;
 use std::process::Abort;
 use std::test::Fail;

@@ -1,4 +1,4 @@
-use crate::{EventCell, EventList};
+use raw_events::{EventCell, EventList};
 use std::alloc::AllocError;
 use std::process::Abort;
 use std::rc::Rc;

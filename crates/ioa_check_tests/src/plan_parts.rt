@@ -2,7 +2,7 @@
 ghost use Rattle.std.specs.Prelude.{◌≡◌, [], ◌∷◌, length};
 ghost use Rattle.ioa_check.specs.Resolutions.{automaton_meaning};
 
-use crate::parts_of;
+use instances::parts_of;
 use ioa_check::{Automaton, Component, Resolved, Transition, Variable};
 use ioa_entries::Slot;
 use ioa_kinds::Kind;

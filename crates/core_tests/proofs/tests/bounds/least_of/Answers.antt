@@ -2,7 +2,7 @@ use Rattle.std.proofs.Common.{List, ◌∙◌, subst, ◌≡◌}
 use Rattle.std.proofs.iter.Yields.{Copied-Drains}
 use Rattle.event_keys.specs.declared.key.Bound.{Bound}
 use Rattle.gvt.specs.Least.{IsLeast}
-use Rattle.gvt.proofs.tests.least_of.Goals as goal
+use Rattle.core_tests.proofs.tests.bounds.least_of.Goals as goal
 
 pub returns : goal.returns
 returns c =

@@ -1,5 +1,5 @@
 //! Tokens and layouts worked out by hand.
-use super::*;
+use ioa_tokens::{Kind, Page, Token, TokensError, Word, tokens};
 use std::alloc::AllocGlobal;
 use std::process::Abort;
 use terms::Refusal;

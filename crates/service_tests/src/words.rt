@@ -1,6 +1,6 @@
 //! What is asked for, by hand.
 
-use crate::{Asked, Options, Refused, read_words};
+use command_line::{Asked, Options, Refused, read_words};
 use std::alloc::Global;
 use std::test::Fail;
 

@@ -1,6 +1,6 @@
 //! A source, built and printed by hand.
 
-use crate::print;
+use ioa_printer::print;
 use ioa_trees::tree::{
     Addend, Automaton, ComponentTree, Composed, Declared, Entry, EntryKind, Init, Sign, SourceTree,
     Statement, Term, Transition, TypeTree, Variable,

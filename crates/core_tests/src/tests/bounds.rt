@@ -1,8 +1,8 @@
 //! Least bounds, worked out by hand.
 ghost use Rattle.gvt.specs.Least.{IsLeast};
 
-use crate::least_bound;
 use event_keys::{Bound, Key};
+use gvt::least_bound;
 
 fn at(tick: u64, component: u16, number: u64) -> Bound {
     Bound::At(Key {

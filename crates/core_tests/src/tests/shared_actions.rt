@@ -1,6 +1,6 @@
 //! Parameters and entries against each other, by values worked out by hand.
 
-use crate::{Span, is_shared, meet, overlap, span_of};
+use overlaps::{Span, is_shared, meet, overlap, span_of};
 use plans::{Entry, Kind, Param};
 use std::alloc::Global;
 use std::test::Fail;

@@ -1,6 +1,6 @@
 //! Compositions by hand.
 
-use crate::first_difference;
+use action_types::first_difference;
 use ioa_check::{Automaton, Component, Resolved, Transition};
 use ioa_entries::Slot;
 use ioa_kinds::Kind;
