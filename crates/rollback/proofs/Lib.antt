@@ -17,3 +17,5 @@ mod Taken
 mod Standing
 mod Lowest
 mod Leaving
+mod InStep
+mod Even

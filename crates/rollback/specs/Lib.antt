@@ -13,3 +13,4 @@ pub mod Same
 pub mod SameLaws
 pub mod Levels
 pub mod Matched
+pub mod Sides

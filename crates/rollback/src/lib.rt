@@ -7,6 +7,7 @@ mod deliver;
 mod done;
 mod drop;
 mod growth;
+mod in_step;
 pub mod inverse;
 mod keys;
 pub mod laws;

@@ -1,14 +1,17 @@
 //! Whether a component is the one that others know by what it has taken and what it has sent.
 ghost use Rattle.std.specs.Prelude.{◌≡◌, ◌<◌, ◌+◌, ◌^◌, ◌==◌, ◌↔◌, true, false, count_by};
 ghost use Rattle.std.specs.List.{list_all};
+ghost use Rattle.event_keys.specs.declared.message.Message.{Message as MessageValue};
 ghost use Rattle.event_keys.specs.declared.message.Sign.TheVariants.{Plus, Minus};
 ghost use Rattle.antimessage.specs.Bags.{is_one};
 ghost use Rattle.rollback.specs.Held.{machine_of};
 ghost use Rattle.rollback.specs.Matched.{IsStanding, IsTaken};
+ghost use Rattle.rollback.specs.Sides.{count_turns};
 ghost use Rattle.rollback.specs.Levels.{all_of, signed_as, is_all_sent, is_all_taken, is_input_level, is_sent_if_from, is_sent_level, is_taken_if_to, is_taken_level, is_turn_level, count_as, count_came, count_there, count_standing, count_sent, is_input_of, is_sending_of};
 
 use crate::component::Component;
 use crate::done::Done;
+use crate::in_step::{Side, Source, are_in_step};
 use antimessage::Bag;
 use antimessage::laws::order_law;
 use event_keys::{Message, Sign, Signed};
@@ -231,6 +234,30 @@ impl Takings<'_> {
         }
     }
 
+    // Whether one walk along both sides finds the same messages; then each is level.
+    fn is_in_step(self) -> bool
+        ensures { result ≡ true → (message : MessageValue) → is_taken_level self.entry message ≡ true }
+    {
+        let mut came = Side::new(
+            Source::with_sign(self.taken.iter(), Sign::Plus),
+            Source::with_sign(self.owed.iter(), Sign::Minus),
+            Source::with_sign(self.tray.iter(), Sign::Minus),
+        );
+        let mut there = Side::new(
+            Source::Inputs(self.done.iter()),
+            Source::with_sign(self.pending.iter(), Sign::Plus),
+            Source::with_sign(self.tray.iter(), Sign::Plus),
+        );
+        are_in_step(&mut came, &mut there)
+    }
+
+    // Whether all messages to the component are level: by one walk, and where that finds a difference by looking for each.
+    fn is_matched(self, to: u16) -> bool
+        ensures { result ≡ is_all_taken self.entry to }
+    {
+        self.is_in_step() || self.is_all_level(to)
+    }
+
     // The same of all messages to the component.
     fn is_all_level(self, to: u16) -> bool
         ensures { result ≡ is_all_taken self.entry to }
@@ -301,6 +328,24 @@ impl Sendings<'_> {
         }
     }
 
+    // Whether one walk along both sides finds the same messages.
+    fn is_in_step(self) -> bool
+        ensures { result ≡ true → (message : MessageValue) → count_standing message (record { standing = self.entry.standing.now; out = self.entry.out.now }) ≡ count_turns message (all_of self.entry.done.now) + count_as Minus message self.entry.out.now }
+    {
+        let mut standing = Side::new(
+            Source::with_sign(self.standing.iter(), Sign::Plus),
+            Source::with_sign(self.out.iter(), Sign::Plus),
+            Source::Nothing,
+        );
+        let none = EventList::new();
+        let mut sent = Side::new(
+            Source::antimessages(none.iter(), self.done.iter()),
+            Source::with_sign(self.out.iter(), Sign::Minus),
+            Source::Nothing,
+        );
+        are_in_step(&mut standing, &mut sent)
+    }
+
     // The same of all messages of the component.
     fn is_all_level(self, from: u16) -> bool
         ensures { result ≡ is_all_sent self.entry from }
@@ -321,8 +366,7 @@ impl<T: Turns> Component<T> {
     /// as many as there are antimessages owed or in `tray`. `tray` are signed messages to it that are not delivered yet. What is
     /// sent to others doesn't matter.
     ///
-    /// No memory is taken. The body is the plain one: each message is looked for among all of them, so the time grows as the square
-    /// of their number.
+    /// No memory is taken. Where they are, the time grows with the number of all these messages; where they are not, it grows as its square.
     pub fn has_taken(&self, taken: &Bag, tray: &Bag) -> bool
         ensures { (result ≡ true) ↔ IsTaken (machine_of T.turn_of self.now.setup) self.now.number self.now.history taken.now tray.now }
     {
@@ -335,15 +379,14 @@ impl<T: Turns> Component<T> {
             pending: &self.pending,
             owed: &self.owed,
         };
-        takings.is_all_level(self.number)
+        takings.is_matched(self.number)
     }
 
     /// Whether `standing` are the messages that the component has sent and not taken back: of each, to each receiver, as many as the
     /// done turns sent and as there are antimessages in `out`, without as many as there are in `out`. `out` are its signed messages
     /// that have not left yet. What others sent doesn't matter.
     ///
-    /// No memory is taken. The body is the plain one: each message is looked for among all of them, so the time grows as the square
-    /// of their number.
+    /// No memory is taken. Where they are, the time grows with the number of all these messages; where they are not, it grows as its square.
     pub fn has_standing(&self, standing: &Bag, out: &Bag) -> bool
         ensures { (result ≡ true) ↔ IsStanding (machine_of T.turn_of self.now.setup) self.now.number self.now.history standing.now out.now }
     {
@@ -356,6 +399,6 @@ impl<T: Turns> Component<T> {
             out,
             done: &self.done,
         };
-        sendings.is_all_level(self.number)
+        sendings.is_in_step() || sendings.is_all_level(self.number)
     }
 }
