@@ -1,7 +1,7 @@
 //! How many steps a world does in a millisecond, and what meetings and commits cost.
 
 use crate::orderly::orderly;
-use crate::subject::{CROWD, RING, Subject, ring_of};
+use crate::subject::{CROWD, RING, Subject, crowd_of, ring_of};
 use anyhow::Result;
 use exchange::Exchange;
 use std::alloc::{AllocGlobal, Global};
@@ -21,14 +21,28 @@ pub fn measure(rt: &(impl Print + Clock + AllocGlobal)) -> Result<ExitCode> {
         }
     }
     for components in [2u64, 64] {
-        for entries in [10u32, 1_000] {
-            let (first, later, commit) = exchange(rt, rt.alloc(), components, entries)?;
-            println!(rt;
-                "{components} components, {entries} entries: first meeting {first} ns, a later one {later} ns, a commit {commit} ns"
-            )?;
-        }
+        let ring = ring_of(rt.alloc(), components)?;
+        meetings(rt, "ring", ring.as_str(), components)?;
+        let crowd = crowd_of(rt.alloc(), components)?;
+        meetings(rt, "crowd", crowd.as_str(), components)?;
     }
     Ok(ExitCode::from(0))
+}
+
+// Prints what meetings and commits cost after 10 and 1,000 entries.
+fn meetings(
+    rt: &(impl Print + Clock + AllocGlobal),
+    name: &str,
+    source: &str,
+    components: u64,
+) -> Result<()> {
+    for entries in [10u32, 1_000] {
+        let (first, later, commit) = exchange(rt, rt.alloc(), source, entries)?;
+        println!(rt;
+            "{name} of {components}, {entries} entries: first meeting {first} ns, a later one {later} ns, a commit {commit} ns"
+        )?;
+    }
+    Ok(())
 }
 
 // The number of the steps, at most so many, and the nanoseconds that they took.
@@ -50,11 +64,10 @@ const TIMES: u64 = 100;
 fn exchange(
     clock: &impl Clock,
     alloc: Global,
-    components: u64,
+    source: &str,
     entries: u32,
 ) -> Result<(u64, u64, u64)> {
-    let source = ring_of(alloc, components)?;
-    let subject = Subject::new(alloc, source.as_str(), 1, 10_000)?;
+    let subject = Subject::new(alloc, source, 1, 10_000)?;
     let (mut exchange, mut leases) = Exchange::new(alloc, Arc::try_clone(&subject.setup)?)?;
     let Some(lease) = leases.first_mut() else {
         return Ok((0, 0, 0));
