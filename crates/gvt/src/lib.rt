@@ -1,6 +1,10 @@
-//! Global virtual time: the least of bounds that are taken one after another.
+//! Global virtual time: the least of bounds that are taken one after another, and the count of committed turns that threads publish.
 #![tactic(auto)]
 
 pub mod least;
+pub mod published;
+mod rule;
+pub mod word;
 
 pub use least::{least_bound, lesser};
+pub use word::{Published, Seat};
