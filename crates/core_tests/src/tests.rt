@@ -5,7 +5,6 @@ mod bounds;
 mod given;
 mod keys;
 mod nodes;
-mod seats;
 mod shared_actions;
 mod stores;
 mod tables;
