@@ -1,3 +1,4 @@
 mod Telling
 mod Numbers
 mod Locals
+mod Runs

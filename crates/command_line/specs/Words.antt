@@ -9,6 +9,7 @@ use Rattle.clap.specs.declared.error.ErrorKind.{ErrorKind}
 use Rattle.clap.specs.declared.error.ErrorKind.TheVariants as error
 use Rattle.command_line.specs.declared.Asked.{Asked}
 use Rattle.command_line.specs.declared.Asked.TheVariants as asked
+use Rattle.command_line.specs.declared.crew.Crew.{Crew}
 use Rattle.command_line.specs.declared.Options.{Options}
 use Rattle.command_line.specs.declared.Refused.{Refused}
 use Rattle.command_line.specs.declared.Refused.TheVariants as refused
@@ -27,9 +28,6 @@ bare = record (new_app (codes "warp")) { top = record (new_app (codes "warp")).t
 
 abbrev pub print_app : App
 print_app = of_file (codes "print") (codes "F")
-
-abbrev pub first_app : App
-first_app = of_file (codes "first") (codes "TABLE")
 
 -- a number with a default
 abbrev pub number_rule : Text → Text → ValueParser → Rule
@@ -53,6 +51,13 @@ simulating app =
 abbrev pub reference_app : App
 reference_app = simulating (of_file (codes "reference") (codes "F"))
 
+-- a subcommand that workers carry out
+abbrev pub manned : App → App
+manned app = with_rule (with_rule app (number_rule (codes "workers") (codes "2") (Unsigned 1 64))) (number_rule (codes "budget") (codes "64") (Unsigned 1 65535))
+
+abbrev pub run_app : App
+run_app = manned (simulating (of_file (codes "run") (codes "F")))
+
 abbrev pub check_app : App
 check_app = with_rule (of_file (codes "check") (codes "F")) (file_rule (codes "TRACE"))
 
@@ -61,7 +66,7 @@ drive_app = simulating (with_rule (of_file (codes "drive") (codes "F")) (file_ru
 
 abbrev pub warp : App
 warp =
-    with_subcommand (with_subcommand (with_subcommand (with_subcommand (with_subcommand bare print_app.top) first_app.top) reference_app.top) check_app.top)
+    with_subcommand (with_subcommand (with_subcommand (with_subcommand (with_subcommand bare print_app.top) reference_app.top) run_app.top) check_app.top)
     drive_app.top
 
 -- the number that stands for an option, within a range
@@ -86,12 +91,25 @@ pub record HasOptions (rows : List Row) (options : Options) : Type 0 where
   pub table : option_map (λ s. s.now) options.table ≡ first_of (codes "table") rows
   pub trace : IsFlag (first_of (codes "trace") rows) options.trace
 
+-- the workers, and how far each runs ahead, as they were entered
+pub record HasCrew (rows : List Row) (crew : Crew) : Type 0 where
+  pub workers : IsNumber rows (codes "workers") 1 64 crew.workers
+  pub budget : IsNumber rows (codes "budget") 1 65535 crew.budget
+
 -- what was entered is this subcommand, with this file and these options
 pub record Simulates (entered : Option (Text × List Row)) (subcommand source : Text) (options : Options) : Type 0 where
   pub rows : List Row
   pub is : entered ≡ Some (subcommand, rows)
   pub given : first_of (codes "F") rows ≡ Some source
   pub chosen : HasOptions rows options
+
+-- what was entered is this subcommand, with this file, these options and these workers
+pub record SimulatesByWorkers (entered : Option (Text × List Row)) (subcommand source : Text) (options : Options) (workers : Crew) : Type 0 where
+  pub rows : List Row
+  pub is : entered ≡ Some (subcommand, rows)
+  pub given : first_of (codes "F") rows ≡ Some source
+  pub chosen : HasOptions rows options
+  pub crew : HasCrew rows workers
 
 -- what was entered is this subcommand, with these two files and these options
 pub record Drives (entered : Option (Text × List Row)) (subcommand source steps : Text) (options : Options) : Type 0 where
@@ -116,8 +134,8 @@ pub record Names (entered : Option (Text × List Row)) (subcommand argument file
 
 abbrev pub IsNamed : Option (Text × List Row) → Asked → Type 0
 IsNamed entered (asked.Print source) = Names entered (codes "print") (codes "F") source.now
-IsNamed entered (asked.First table) = Names entered (codes "first") (codes "TABLE") table.now
 IsNamed entered (asked.Reference source options) = Simulates entered (codes "reference") source.now options
+IsNamed entered (asked.Run source options crew) = SimulatesByWorkers entered (codes "run") source.now options crew
 IsNamed entered (asked.Check source trace) = NamesBoth entered (codes "check") (codes "F") (codes "TRACE") source.now trace.now
 IsNamed entered (asked.Drive source steps options) = Drives entered (codes "drive") source.now steps.now options
 

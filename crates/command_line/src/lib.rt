@@ -4,13 +4,17 @@
 ghost use Rattle.std.specs.Prelude.{◌≡◌, ℕ, false, IfOk, MatchOption, MatchResult, map, option_map, string_bytes};
 ghost use Rattle.clap.specs.Words.{app_of, first_of, found_of, kind_of, rows_of, rule_of, subcommand_rows_of};
 ghost use Rattle.command_line.specs.declared.Asked.{Asked as AskedValue};
+ghost use Rattle.command_line.specs.declared.crew.Crew.{Crew as CrewValue};
 ghost use Rattle.command_line.specs.declared.Options.{Options as OptionsValue};
-ghost use Rattle.command_line.specs.Words.{warp, file_rule, number_rule, table_rule, trace_rule, simulating, print_app, first_app, reference_app, check_app, drive_app, HasOptions, IsAsked, IsFlag, IsNamed, IsNumber, IsRefused, IsTold};
+ghost use Rattle.command_line.specs.Words.{warp, file_rule, number_rule, table_rule, trace_rule, simulating, manned, print_app, reference_app, run_app, check_app, drive_app, HasCrew, HasOptions, IsAsked, IsFlag, IsNamed, IsNumber, IsRefused, IsTold};
 ghost use Rattle.command_line.specs.declared.Refused.TheVariants.{NoMemory};
+
+mod crew;
 
 use clap::builder::ValueParser;
 use clap::error::{Error, ErrorKind};
 use clap::{Arg, ArgAction, ArgMatches, Command, value_parser};
+pub use crew::Crew;
 use std::alloc::{AllocError, Global};
 
 /// What the words ask for.
@@ -20,14 +24,16 @@ pub enum Asked<'a> {
     Print {
         source: &'a str,
     },
-    /// The table in this file is run by the first path.
-    First {
-        table: &'a str,
-    },
     /// The composition of the source in this file is simulated by one thread.
     Reference {
         source: &'a str,
         options: Options<'a>,
+    },
+    /// The composition of the source in this file is simulated by workers.
+    Run {
+        source: &'a str,
+        options: Options<'a>,
+        crew: Crew,
     },
     /// Whether the actions in the second file are a schedule of the composition of the source in the first.
     Check {
@@ -107,8 +113,8 @@ fn described<'a>(alloc: Global) -> Result<Command<'a>, AllocError>
         .no_binary_name(true)
         .subcommand_required(true)
         .subcommand(print(alloc)?)?
-        .subcommand(first(alloc)?)?
         .subcommand(reference(alloc)?)?
+        .subcommand(run(alloc)?)?
         .subcommand(check(alloc)?)?
         .subcommand(drive(alloc)?)
 }
@@ -121,15 +127,6 @@ fn print<'a>(alloc: Global) -> Result<Command<'a>, AllocError>
         .arg(file(alloc, "F", "The file of the source"))
 }
 
-fn first<'a>(alloc: Global) -> Result<Command<'a>, AllocError>
-    ensures { IfOk result (λ c. app_of c ≡ first_app) }
-{
-    Command::new(alloc, "first")
-        .about("Run the ring of two with a table of turns up to its first commit")
-        .hide(true)
-        .arg(file(alloc, "TABLE", "The file of the table"))
-}
-
 fn reference<'a>(alloc: Global) -> Result<Command<'a>, AllocError>
     ensures { IfOk result (λ c. app_of c ≡ reference_app) }
 {
@@ -139,6 +136,16 @@ fn reference<'a>(alloc: Global) -> Result<Command<'a>, AllocError>
         )
         .arg(file(alloc, "F", "The file of the source"))?;
     with_options(alloc, command)
+}
+
+fn run<'a>(alloc: Global) -> Result<Command<'a>, AllocError>
+    ensures { IfOk result (λ c. app_of c ≡ run_app) }
+{
+    let command = Command::new(alloc, "run")
+        .about("Simulate a composition by several workers, and write the turns that are committed")
+        .arg(file(alloc, "F", "The file of the source"))?;
+    let command = with_options(alloc, command)?;
+    with_crew(alloc, command)
 }
 
 fn check<'a>(alloc: Global) -> Result<Command<'a>, AllocError>
@@ -186,6 +193,29 @@ fn with_options<'a>(alloc: Global, command: Command<'a>) -> Result<Command<'a>, 
         .arg(number(alloc, "ticks", "1000", ticks, "The last tick"))?
         .arg(table(alloc))?
         .arg(trace(alloc))
+}
+
+// The options of what workers simulate.
+fn with_crew<'a>(alloc: Global, command: Command<'a>) -> Result<Command<'a>, AllocError>
+    ensures { IfOk result (λ c. app_of c ≡ manned (app_of command.entry)) }
+{
+    let workers = value_parser!(u64).range(1..65);
+    let budgets = value_parser!(u64).range(1..65_536);
+    command
+        .arg(number(
+            alloc,
+            "workers",
+            "2",
+            workers,
+            "How many workers run the components",
+        ))?
+        .arg(number(
+            alloc,
+            "budget",
+            "64",
+            budgets,
+            "How many entries a worker processes of a component at a time",
+        ))
 }
 
 fn number<'a>(
@@ -241,14 +271,20 @@ fn asked_by<'a>(matches: &ArgMatches<'a>) -> Option<Asked<'a>>
         let source = file_of(found, "F")?;
         return Some(Asked::Print { source });
     }
-    if name == "first" {
-        let table = file_of(found, "TABLE")?;
-        return Some(Asked::First { table });
-    }
     if name == "reference" {
         let source = file_of(found, "F")?;
         let options = options_of(found)?;
         return Some(Asked::Reference { source, options });
+    }
+    if name == "run" {
+        let source = file_of(found, "F")?;
+        let options = options_of(found)?;
+        let crew = crew_of(found)?;
+        return Some(Asked::Run {
+            source,
+            options,
+            crew,
+        });
     }
     if name == "check" {
         let source = file_of(found, "F")?;
@@ -283,6 +319,18 @@ fn options_of<'a>(found: &ArgMatches<'a>) -> Option<Options<'a>>
         ticks,
         table: file_of(found, "table"),
         trace: is_set(found, "trace"),
+    })
+}
+
+// The workers and how far each runs ahead, each number in its range.
+fn crew_of(found: &ArgMatches) -> Option<Crew>
+    ensures { MatchOption result ((c : CrewValue) → HasCrew (rows_of (found_of found.now)) c → ⊥) (HasCrew (rows_of (found_of found.now))) }
+{
+    let workers = number_of(found, "workers", 1, 64)?;
+    let budget = number_of(found, "budget", 1, 65_535)?;
+    Some(Crew {
+        workers: workers as u16,
+        budget: budget as u32,
     })
 }
 

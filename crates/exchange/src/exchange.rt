@@ -90,6 +90,13 @@ impl<T: Turns> Exchange<T> {
         self.bound
     }
 
+    /// How many turns chunks have given.
+    pub fn given(&self) -> u64
+        ensures { result ≡ self.now.given }
+    {
+        self.given
+    }
+
     /// Whether every base is the end: then all turns that there are lie below the bases.
     pub fn finished(&self) -> bool
         ensures { result ≡ list_all is_ended self.now.stubs }

@@ -16,7 +16,7 @@ use Rattle.trace.specs.declared.counted.Counted.{Counted}
 use Rattle.trace.specs.declared.fault.WriteFault.{WriteFault}
 use Rattle.trace.specs.Counts.{writer_of, one_more}
 use Rattle.trace.specs.Puts.{Puts, Stops}
-use Rattle.trace.specs.Given.{stops}
+use Rattle.trace.specs.Given.{puts_nothing, then_puts, then_stops, stops}
 
 -- the text of the turns so far, and of one more
 next_text : (plan : Plan) (lines : Lines) (given : List (Bor Turned)) (turned : Bor Turned) → text_of plan lines (turns_at given) ++ shown_text plan lines turned.now ≡ text_of plan lines (turns_at (given ++ turned ∷ []))
@@ -24,33 +24,6 @@ next_text plan lines given turned =
     flat_map_more (shown_text plan lines) [] (turns_at given) turned.now ∙ ap (text_of plan lines) (sym (map-append (λ (turn : Bor Turned). turn.now) given (turned ∷ [])))
 
 module _ {W : Type 0} {known : W → Option (List ℕ)} where
-  -- nothing was written yet
-  pub puts_nothing : (a : Counted W) (m : ℕ) → m < 2 ^ 64 → Puts known a a m m []
-  puts_nothing a m low = record { bytes = Appends-nil (known (writer_of a)); failures = refl; count = omega (arith, low) }
-
-  -- one text, and then another
-  pub then_puts : {a b c : Counted W} {m n o : ℕ} {s t : List ℕ} → Puts known a b m n s → Puts known b c n o t → Puts known a c m o (s ++ t)
-  then_puts {a} {b} {c} {m} {n} {o} {s} {t} p q =
-      record {
-        bytes = Appends-trans (known (writer_of a)) (known (writer_of b)) (known (writer_of c)) s t p.bytes q.bytes;
-        failures = q.failures ∙ p.failures;
-        count = simp length-append (omega arith);
-      }
-
-  -- one text, and then the write failed in another
-  pub then_stops : {a b c : Counted W} {m n : ℕ} {s t : List ℕ} {e : WriteFault} → Puts known a b m n s → Stops known b c n t e → Stops known a c m (s ++ t) e
-  then_stops {a} {b} {c} {m} {n} {s} {t} {e} p q =
-      let old = known (writer_of a) in
-      let new = known (writer_of c) in
-      let joined = Appends-trans old (known (writer_of b)) new s (take q.part t) p.bytes q.bytes in
-      record {
-        part = length s + q.part;
-        short = simp length-append (omega arith);
-        bytes = subst (Appends old new) (sym (take-append-add s t q.part)) joined;
-        failures = q.failures ∙ ap one_more p.failures;
-        count = omega arith;
-      }
-
   -- the same after one byte, which the text shows in front
   pub then_stops_after : {a b c : Counted W} {m n x : ℕ} {t : List ℕ} {e : WriteFault} → Puts known a b m n (x ∷ []) → Stops known b c n t e → Stops known a c m (x ∷ t) e
   then_stops_after p q = then_stops p q

@@ -15,7 +15,7 @@ mod written;
 
 pub use counted::Counted;
 pub use fault::{TraceError, WriteFault};
-pub use lines::{Lines, write_turns};
+pub use lines::{Lines, append_turns, write_turns};
 pub use reading::read_trace;
 pub use steps::read_steps;
 pub use texts::write_text;

@@ -32,7 +32,6 @@ pub enum Lines {
 /// The iterator may be any that ends. An error comes only
 /// where a write fails: [`WriteFault::WriteFailed`] has the number of the text's bytes, from the front, that had gone out,
 /// one more failure is counted, and no more turns are taken.
-#[tactic(auto, using(crate::proofs::Putting::turns))]
 pub fn write_turns<'a, W: Write, I: Iterator<Item = &'a Turned> + Drop>(
     plan: &Plan,
     turns: I,
@@ -46,11 +45,32 @@ pub fn write_turns<'a, W: Write, I: Iterator<Item = &'a Turned> + Drop>(
     ensures err { IfErr result (λ fault. (given : List (Bor Turned)) × (rest : I) × Yields I.next_gives turns given rest × Stops W.contents out.old out.new 0 (text_of plan.now lines (turns_at given)) fault) }
     ensures err_failures { OnErr result (failures_of out.new ≡ one_more (failures_of out.old)) }
 {
-    let mut written = 0;
+    match append_turns(plan, turns, lines, 0, out) {
+        Ok(_) => Ok(()),
+        Err(fault) => Err(fault),
+    }
+}
+
+/// Writes the lines of further turns, as [`write_turns`] writes the first ones, where so many bytes went out before them. The answer is the
+/// number of bytes from then on, up to the greatest `u64`; that of an error counts those before too.
+#[tactic(auto, using(crate::proofs::Putting::turns))]
+pub fn append_turns<'a, W: Write, I: Iterator<Item = &'a Turned> + Drop>(
+    plan: &Plan,
+    turns: I,
+    lines: Lines,
+    before: u64,
+    out: &mut Counted<W>,
+) -> Result<u64, WriteFault>
+    requires can { I.can_next turns }
+    requires ends { IsFinite (I.remaining turns) }
+    ensures ok { IfOk result (λ after. (given : List (Bor Turned)) × Drains I.next_gives turns given × Puts W.contents out.old out.new before after (text_of plan.now lines (turns_at given))) }
+    ensures err { IfErr result (λ fault. (given : List (Bor Turned)) × (rest : I) × Yields I.next_gives turns given rest × Stops W.contents out.old out.new before (text_of plan.now lines (turns_at given)) fault) }
+{
+    let mut written = before;
     for turned in turns {
         written = put_shown(out, plan, lines, turned, written)?;
     }
-    Ok(())
+    Ok(written)
 }
 
 fn put_shown<W: Write>(

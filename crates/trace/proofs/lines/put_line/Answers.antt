@@ -1,7 +1,8 @@
 use Rattle.std.proofs.Common.{rules, [], ◌∷◌, ◌++◌}
 use Rattle.trace.specs.Given.{stops}
 use Rattle.trace.specs.Lines.{outcome_text}
-use Rattle.trace.proofs.Putting.{then_stops, then_fails}
+use Rattle.trace.proofs.Putting.{then_fails}
+use Rattle.trace.specs.Given.{then_stops}
 use Rattle.trace.proofs.lines.put_line.Goals as goal
 
 pub returns-in_err-written-2-clause-err : goal.returns-in_err-written-2-clause-err

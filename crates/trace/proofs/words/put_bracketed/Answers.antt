@@ -2,7 +2,8 @@ use Rattle.std.proofs.Common.{rules, ◌++◌}
 use Rattle.std.specs.Prelude.{codes}
 use Rattle.trace.specs.Lines.{argument_text, others_text}
 use Rattle.trace.specs.Given.{stops}
-use Rattle.trace.proofs.Putting.{then_stops, then_fails}
+use Rattle.trace.proofs.Putting.{then_fails}
+use Rattle.trace.specs.Given.{then_stops}
 use Rattle.trace.proofs.words.put_bracketed.Goals as goal
 
 pub returns-in_err-written-2-clause-err : goal.returns-in_err-written-2-clause-err

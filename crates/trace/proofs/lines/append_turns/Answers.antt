@@ -3,7 +3,7 @@ use Rattle.std.specs.Prelude.{Result, Err, IfErr}
 use Rattle.std.specs.Iterator.{Yields}
 use Rattle.std.proofs.iter.Next.{Yields-more}
 use Rattle.trace.proofs.Putting.{stops_at_next}
-use Rattle.trace.proofs.lines.write_turns.Goals as goal
+use Rattle.trace.proofs.lines.append_turns.Goals as goal
 
 failed_with : {A E : Type 0} (P : E → Type 0) (r : Result A E) (e : E) → r ≡ Err e → P e → IfErr r P
 failed_with P r e is p = subst (λ x. IfErr x P) (sym is) p

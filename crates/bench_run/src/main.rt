@@ -1,0 +1,171 @@
+//! The program `bench_run`: how many turns a millisecond workers commit and write, 1, 2 and 4 of them, beside the one-thread simulator, with text
+//! to a writer that keeps none of it. At the argument `run` it measures a ring of 8 components, 64 components that each compute, and the source
+//! in the file that the next argument names; it writes nothing else.
+#![tactic(auto)]
+
+ghost use Rattle.std.specs.Prelude.{◌≤◌};
+
+use anyhow::Result;
+use commands::simulate;
+use plans::Plan;
+use sources::compose_source;
+use std::alloc::{AllocGlobal, Global};
+use std::io::{self, Write};
+use std::sync::{Arc, Wait};
+use std::thread::Threads;
+use std::time::{Clock, Instant};
+use std::{env, fs, rt};
+use task_seed::{SeedTurns, Setup};
+use trace::{Counted, Lines};
+use workers::{Unheld, run};
+
+const NODE: &str =
+    "type Id = 0..63 automaton Node(me: Id, nx: Id, first: Bool) signature input pass(const me) output pass(const nx) states has: Bool := first transitions input pass(const me) eff has := true output pass(const nx) pre has eff has := false tasks { pass } automaton Ring components n0: Node(0, 1, true)";
+
+const STEPS: &str =
+    "type Id = 0..255 automaton Steps signature internal step states sum: Int := 0 transitions internal step eff for i: Id do sum := sum + i od tasks { step } automaton All components c0: Steps";
+
+// A writer that counts what it takes and keeps none of it.
+#[derive(Drop)]
+struct Nowhere {
+    taken: u64,
+}
+
+impl Write for Nowhere {
+    fn write(&mut self, piece: &[u8]) -> io::Result<usize> {
+        self.taken = self.taken.saturating_add(piece.len() as u64);
+        Ok(piece.len())
+    }
+
+    fn flush(&mut self) -> io::Result<()> {
+        Ok(())
+    }
+}
+
+// A ring of so many nodes, at least 2.
+fn ring(alloc: Global, size: u64) -> Result<String> {
+    let mut text = String::from_str(alloc, NODE)?;
+    for number in 1..size {
+        let next = if number + 1 == size { 0 } else { number + 1 };
+        let node = format!(in alloc; "; n{number}: Node({number}, {next}, false)")?;
+        text.push_str(node.as_str())?;
+    }
+    Ok(text)
+}
+
+// So many components, of which each adds 256 numbers at each turn.
+fn steps(alloc: Global, size: u64) -> Result<String> {
+    let mut text = String::from_str(alloc, STEPS)?;
+    for number in 1..size {
+        let component = format!(in alloc; "; c{number}: Steps")?;
+        text.push_str(component.as_str())?;
+    }
+    Ok(text)
+}
+
+// A composition with the turns of a seed.
+fn setup(alloc: Global, text: &str, ticks: u64) -> Result<Setup<SeedTurns>> {
+    let plan: Plan = compose_source(alloc, text.as_bytes())?;
+    Ok(Setup::new(plan, SeedTurns::new(1, 0, 8)?, ticks)?)
+}
+
+fn out() -> Counted<Nowhere> {
+    Counted::new(Nowhere { taken: 0 })
+}
+
+// The nanoseconds that the one-thread simulator takes, and the bytes that it writes.
+fn one_thread(clock: &impl Clock, alloc: Global, text: &str, ticks: u64) -> Result<(u64, u64)> {
+    let setup = setup(alloc, text, ticks)?;
+    let mut out = out();
+    let started = Instant::now(clock)?;
+    simulate(alloc, &setup, Lines::All, &mut out)?;
+    let spent = u64::try_from(started.elapsed(clock)?.as_nanos())?;
+    Ok((spent, out.into_inner().taken))
+}
+
+// The turns that workers committed, the nanoseconds that they took, and the bytes that were written.
+fn workers<R: Threads + Wait + Sync + Clock>(
+    rt: &R,
+    alloc: Global,
+    text: &str,
+    ticks: u64,
+    workers: u16,
+    budget: u32,
+) -> Result<(u64, u64, u64)>
+    requires { (1 ≤ workers) × (workers ≤ 64) × (1 ≤ budget) × (budget ≤ 65535) }
+{
+    let setup = Arc::new(alloc, setup(alloc, text, ticks)?)?;
+    let mut out = out();
+    let started = Instant::now(rt)?;
+    let summary = run(
+        rt,
+        alloc,
+        setup,
+        workers,
+        budget,
+        &Unheld,
+        Lines::All,
+        &mut out,
+    )?;
+    let spent = u64::try_from(started.elapsed(rt)?.as_nanos())?;
+    Ok((summary.turns, spent, out.into_inner().taken))
+}
+
+// Prints the speeds for one source, in turns a millisecond.
+fn measure<R: Threads + Wait + Sync + Clock + Print>(
+    rt: &R,
+    alloc: Global,
+    name: &str,
+    text: &str,
+    ticks: u64,
+) -> Result<()> {
+    let (alone, wanted) = one_thread(rt, alloc, text, ticks)?;
+    for crew in [1u16, 2, 4] {
+        for budget in [1u32, 8, 64, 1024] {
+            let (turns, spent, taken) = workers(rt, alloc, text, ticks, crew, budget)?;
+            let same = if taken == wanted {
+                ""
+            } else {
+                ", and other text"
+            };
+            println!(rt;
+                "{name}, {ticks} ticks, {turns} turns: {} by one thread, {} by {crew} workers with budget {budget}{same}",
+                speed(turns, alone),
+                speed(turns, spent)
+            )?;
+        }
+    }
+    Ok(())
+}
+
+// Turns a millisecond.
+fn speed(turns: u64, nanoseconds: u64) -> u64 {
+    turns.saturating_mul(1_000_000) / nanoseconds.max(1)
+}
+
+fn measure_all<R: Threads + Wait + Sync + Clock + Print + rt::Files>(
+    rt: &R,
+    alloc: Global,
+    file: &str,
+) -> Result<()> {
+    measure(rt, alloc, "ring of 8", ring(alloc, 8)?.as_str(), 100_000)?;
+    measure(
+        rt,
+        alloc,
+        "64 that compute",
+        steps(alloc, 64)?.as_str(),
+        2_000,
+    )?;
+    let text = fs::read_to_string(rt, file)?;
+    measure(rt, alloc, file, text.as_str(), 100_000)
+}
+
+fn main(rt: HostRuntime) -> Result<()> {
+    let mut words = env::args(&rt)?.skip(1);
+    match (words.next(), words.next()) {
+        (Some(word), Some(file)) if word.as_str() == "run" => {
+            measure_all(&rt, rt.alloc(), file.as_str())
+        }
+        _ => Ok(()),
+    }
+}

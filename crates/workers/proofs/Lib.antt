@@ -1,0 +1,9 @@
+mod Crossing
+mod Ended
+mod Growing
+mod Moves
+mod Portioned
+mod Settled
+mod Started
+mod Sums
+mod Written

@@ -1,0 +1,92 @@
+use Rattle.std.proofs.Common.{◌≡◌, ◌++◌, [], ap, sym, subst, ◌∙◌, refl, length, map, rules, arith, All, ◌≤◌, ◌∷◌, true, append_assoc, length-append}
+use Rattle.std.proofs.lemmas.List.{length-map, append-nil, nil_from_length}
+use Rattle.std.proofs.lemmas.List.Elements.{All-nil, All-push}
+use Rattle.workers.specs.declared.places.Pass.{Pass}
+use Rattle.workers.specs.Passes.{holding, IsEmptyOf}
+use Rattle.crossbeam_queue.specs.Passes.{view, ruled_capacity}
+use Rattle.workers.specs.Places.{times}
+use Rattle.workers.proofs.Sums.{none_before, times_more}
+use Rattle.workers.proofs.Moves.{begins, founds, has_room, admits}
+use Rattle.workers.proofs.places.Pool.new.Goals as goal
+
+pub ruled-requires-clause-rule : goal.ruled-requires-clause-rule
+ruled-requires-clause-rule g c = begins g.L.Numbered.number_of
+
+pub push_as-requires-clause-rule : goal.push_as-requires-clause-rule
+push_as-requires-clause-rule g c =
+    let i = c.loop-lease.invariant in
+    let number = g.L.Numbered.number_of in
+    let lease = c.in-Some.lease in
+    let all = ap (λ l. c.loop-lease.yielded ++ l) (sym c.in-Some.ensures.steps.0) ∙ i.left in
+    let once = subst (λ l. times (number lease) (map number l) ≤ 1) (sym all) (c.requires.once (number lease)) in
+    (founds _ _ _ _ _ i.alone (i.numbers (number lease) ∙ none_before number c.loop-lease.yielded lease _ once), has_room number _ _)
+
+pub another-pass-requires-clause-rule : goal.another-pass-requires-clause-rule
+another-pass-requires-clause-rule g c = admits g.L.Numbered.number_of _ _
+
+pub loop-lease-preserved : goal.loop-lease-preserved
+loop-lease-preserved g c =
+    let i = c.loop-lease.invariant in
+    let number = g.L.Numbered.number_of in
+    let same = ap (λ v. v.all) c.in-Ok.ensures.rule in record {
+      can = search rules;
+      ends = search rules;
+      left = append_assoc c.loop-lease.yielded (c.in-Some.lease ∷ []) c.next.new.self.rest.items ∙ ap (λ l. c.loop-lease.yielded ++ l) (sym c.in-Some.ensures.steps.0) ∙ i.left;
+      pass = search rules;
+      alone = search rules;
+      held = search rules;
+      numbers = λ x. ap (times x) same ∙ (let h = times_more number x c.loop-lease.yielded c.in-Some.lease in let k = i.numbers x in omega arith);
+      count = ap length same ∙ (let k = i.count in omega (arith, length-append c.loop-lease.yielded (c.in-Some.lease ∷ [])));
+    }
+
+pub loop-init : goal.loop-init
+loop-init g c =
+    let i = c.loop-lease.invariant in
+    let number = g.L.Numbered.number_of in
+    let rest = c.loop-lease.lease-iterator.rest in
+    let ended : rest.items ≡ [] = nil_from_length rest.items (sym rest.ok.0 ∙ c.in-None.ensures.steps.0) in
+    let all : c.loop-lease.yielded ≡ c.args.leases.items = sym (append-nil c.loop-lease.yielded) ∙ ap (λ l. c.loop-lease.yielded ++ l) (sym ended) ∙ i.left in record {
+      count = search rules;
+      room = refl;
+      all = subst (All (IsEmptyOf (record { queue = c.in_ok-queue.queue }) (map number c.args.leases.items))) (sym c.in_ok-places.ensures.items) (All-nil _);
+      same = refl;
+      pass = i.pass;
+      held = i.held;
+      sole = λ _. i.alone;
+      numbers = λ x. i.numbers x ∙ ap (λ l. times x (map number l)) all;
+      length = i.count ∙ ap length all ∙ sym (length-map c.args.leases.items number);
+    }
+
+pub loop-preserved : goal.loop-preserved
+loop-preserved g c =
+    let i = c.loop.invariant in
+    let numbers = map g.L.Numbered.number_of c.args.leases.items in
+    let P : Pass g.row.L.Denot → Type 0 = IsEmptyOf (record { queue = c.in_ok-queue.queue }) numbers in
+    let a = c.another-pass.ensures in
+    let known : (view c.another-pass.result).all ≡ (view c.loop.founder).all = ap (λ v. v.all) a.rule.1 in
+    let fits : length (view c.another-pass.result).all ≤ ruled_capacity c.in_ok-queue.queue = let e = c.in_ok-queue.ensures.0 in let l = c.len.ensures in let k = ap length known ∙ i.length in omega (arith, length-map c.args.leases.items g.L.Numbered.number_of) in record {
+      count = search rules;
+      room = search rules;
+      all = subst (All P) (sym c.push_reserved.ensures.items) (All-push P _ _ i.all ((a.queue.1, fits), ap (λ v. v.held) a.rule.1, (λ x. ap (times x) known ∙ i.numbers x), ap length known ∙ i.length));
+      same = refl;
+      pass = search rules;
+      held = search rules;
+      sole = λ one. let n = c.loop-test.true in let m = c.loop.invariant.count in absurd (omega arith);
+      numbers = λ x. ap (λ v. times x v.all) a.rule.0 ∙ i.numbers x;
+      length = ap (λ v. length v.all) a.rule.0 ∙ i.length;
+    }
+
+pub returns-clause-passes : goal.returns-clause-passes
+returns-clause-passes g c =
+    let i = c.loop.invariant in
+    let numbers = map g.L.Numbered.number_of c.args.leases.items in
+    let P : Pass g.row.L.Denot → Type 0 = IsEmptyOf (record { queue = c.in_ok-queue.queue }) numbers in
+    let fits : length (view c.loop.founder).all ≤ ruled_capacity c.in_ok-queue.queue = let e = c.in_ok-queue.ensures.0 in let l = c.len.ensures in let k = i.length in omega (arith, length-map c.args.leases.items g.L.Numbered.number_of) in
+    subst (All P) (sym c.push_reserved-2.ensures.items) (All-push P _ _ i.all ((i.pass, fits), i.held, i.numbers, i.length))
+
+pub returns-clause-alone : goal.returns-clause-alone
+returns-clause-alone g c only =
+    let i = c.loop.invariant in
+    let P : Pass g.row.L.Denot → Type 0 = λ p. (holding p).alone ≡ true in
+    let none : c.loop.places.items ≡ [] = nil_from_length c.loop.places.items (let n = i.count in let e = c.loop.auto.counter-end in let o = c.loop.places.ok.0 in let p = only in omega arith) in
+    subst (All P) (sym c.push_reserved-2.ensures.items) (All-push P _ _ (subst (All P) (sym none) (All-nil P)) (i.sole only))

@@ -1,0 +1,30 @@
+use Rattle.std.proofs.Common.{◌≡◌, ℕ, ◌+◌, ◌++◌, true, [], All, vec_len, length, map}
+use Rattle.crossbeam_queue.specs.Passes.{view, IsPassOf}
+use Rattle.workers.specs.Places.{times}
+use Rattle.workers.specs.Passes.{IsEmptyOf}
+use Rattle.workers.proofs.places.Pool.new.Given as goal
+
+abbrev pub invariant-loop-lease : goal.invariant-loop-lease
+invariant-loop-lease g l = record {
+  can : (goal.iterator-loop-lease g).can_next l.lease-iterator;
+  ends : (goal.iterator-loop-lease g).is_finite l.lease-iterator;
+  left : l.yielded ++ l.lease-iterator.rest.items ≡ l.fn.leases.items;
+  pass : IsPassOf l.queue l.founder;
+  alone : (view l.founder).alone ≡ true;
+  held : (view l.founder).held ≡ [];
+  numbers : (x : ℕ) → times x (view l.founder).all ≡ times x (map g.L.Numbered.number_of l.yielded);
+  count : length (view l.founder).all ≡ length l.yielded;
+}
+
+abbrev pub invariant-loop : goal.invariant-loop
+invariant-loop g l = record {
+  count : vec_len l.places + 1 ≡ l.counter;
+  room : l.places.cap ≡ l.initial.places.cap;
+  all : All (IsEmptyOf (record { queue = l.queue }) (map g.L.Numbered.number_of l.fn.leases.items)) l.places.items;
+  same : l.queue ≡ l.initial.queue;
+  pass : IsPassOf l.queue l.founder;
+  held : (view l.founder).held ≡ [];
+  sole : l.fn.passes ≡ 1 → (view l.founder).alone ≡ true;
+  numbers : (x : ℕ) → times x (view l.founder).all ≡ times x (map g.L.Numbered.number_of l.fn.leases.items);
+  length : length (view l.founder).all ≡ length (map g.L.Numbered.number_of l.fn.leases.items);
+}

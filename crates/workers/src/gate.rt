@@ -1,0 +1,65 @@
+//! What stands between a worker and the lease that it runs ahead.
+ghost use Rattle.workers.specs.Gates.{StaysItself};
+
+use exchange::Lease;
+use std::alloc::Global;
+use task_seed::{SeedTurns, TableTurns, Turns};
+use terms::NoMemory;
+
+/// What a worker asks before it is started and each time that it runs a lease ahead. A gate may hold a lease up, run fewer entries or none,
+/// or look on; it is called by many workers at once, without the lock round what they share. A gate that holds nothing up has
+/// `lease.run_ahead(alloc, budget)` for its body, as [`Unheld`] has.
+pub trait Gate<T: Turns>: Sync {
+    /// Runs a lease ahead by at most `budget` entries, and answers how many. The lease stays that of its component: its number, setup, base,
+    /// floor, taken messages and standing sends stay.
+    ///
+    /// # Errors
+    ///
+    /// `NoMemory`, only where memory was refused; the run then ends with that fault.
+    fn ahead(&self, alloc: Global, lease: &mut Lease<T>, budget: u32) -> Result<u32, NoMemory>
+        ensures same { StaysItself T.turn_of lease.old lease.new };
+
+    /// Whether a worker may be started. Workers are numbered from 0 and asked in order by the calling thread; after the first that isn't
+    /// started no other is.
+    fn may_start(&self, worker: u16) -> bool {
+        let _ = worker;
+        true
+    }
+}
+
+/// The gate that holds nothing up.
+#[derive(Drop)]
+pub struct Unheld;
+
+impl Gate<SeedTurns> for Unheld {
+    fn ahead(
+        &self,
+        alloc: Global,
+        lease: &mut Lease<SeedTurns>,
+        budget: u32,
+    ) -> Result<u32, NoMemory> {
+        run_ahead(alloc, lease, budget)
+    }
+}
+
+impl Gate<TableTurns> for Unheld {
+    fn ahead(
+        &self,
+        alloc: Global,
+        lease: &mut Lease<TableTurns>,
+        budget: u32,
+    ) -> Result<u32, NoMemory> {
+        run_ahead(alloc, lease, budget)
+    }
+}
+
+/// Runs a lease ahead: what the body of a gate's `ahead` does where nothing is held up. It is `Lease::run_ahead`, with what a gate owes.
+pub fn run_ahead<T: Turns>(
+    alloc: Global,
+    lease: &mut Lease<T>,
+    budget: u32,
+) -> Result<u32, NoMemory>
+    ensures { StaysItself T.turn_of lease.old lease.new }
+{
+    lease.run_ahead(alloc, budget)
+}

@@ -1,0 +1,20 @@
+//! Workers: threads that hold leases in turn, run them ahead and share what they did, while the calling thread writes what is committed.
+#![tactic(auto)]
+
+mod crew;
+pub mod fault;
+pub mod gate;
+pub mod laws;
+pub mod places;
+pub mod pool;
+pub mod rule;
+pub mod running;
+mod shared;
+mod working;
+mod writing;
+
+pub use fault::RunFault;
+pub use gate::{Gate, Unheld};
+pub use places::{Pass, Pool};
+pub use rule::{Hand, Numbered};
+pub use running::{Summary, run};

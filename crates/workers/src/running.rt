@@ -1,0 +1,253 @@
+//! A run: workers in threads of their own, and the calling thread, which writes.
+ghost use Rattle.std.specs.Prelude.{◌≡◌, ◌≤◌, All, IfErr, IfOk, length, map};
+ghost use Rattle.std.specs.Arc.{arc_value};
+ghost use Rattle.gvt.specs.Seats.{IsSeatOf};
+ghost use Rattle.task_seed.specs.Setups.{plan_of, system};
+ghost use Rattle.trace.specs.Puts.{Stops};
+ghost use Rattle.trace.specs.Went.{IsWritten};
+ghost use Rattle.workers.specs.Crews.{IsOf, IsOfBoth, number_of};
+ghost use Rattle.workers.specs.Passes.{IsOf as IsOfPool};
+ghost use Rattle.workers.specs.Places.{AreOnce};
+ghost use Rattle.workers.specs.Runs.{IsUnfinished, IsWhole};
+
+use crate::crew::Worker;
+use crate::fault::{RunFault, WorkFault};
+use crate::gate::Gate;
+use crate::laws::distinct_numbers_law;
+use crate::places::{Pass, Pool};
+use crate::shared::{Shared, end, note};
+use crate::working::work;
+use crate::writing::write_all;
+use core::mem::replace_with;
+use exchange::{Exchange, Lease};
+use gvt::{Published, Seat};
+use std::alloc::Global;
+use std::io::Write;
+use std::sync::atomic::AtomicBool;
+use std::sync::{Arc, Mutex, Wait};
+use std::thread;
+use std::thread::Threads;
+use task_seed::{Setup, Turns};
+use terms::NoMemory;
+use trace::{Counted, Lines};
+
+/// What a run came to.
+#[derive(Clone, Copy, Debug, PartialEq, Eq)]
+pub struct Summary {
+    /// How many turns there were, written or not.
+    pub turns: u64,
+}
+
+/// Simulates a setup by so many workers, 1 to 64, of which each runs a component ahead by at most `budget` entries, 1 to 65,535, before it
+/// shares what it did; and writes the lines of the turns as they are committed for good, in the order of keys. The calling thread writes; it
+/// and the workers may wait for each other, so that what is promised holds if the call returns.
+///
+/// What was written is a beginning of the text of the one-thread simulator that always takes the least key, and all of it where the answer
+/// isn't a fault. That several threads ran, and that what is written comes of the leases, no clause can say.
+///
+/// # Errors
+///
+/// The first fault that is met ends the run: want of memory (1), a failed write (60), where `written` counts every byte of the run, or a worker
+/// that wasn't started (61). That no lease is refused (40, 41) and no chunk is out of place (62) is shown by tests.
+pub fn run<T: Turns, W: Write + Drop, G: Gate<T>, R: Threads + Wait + Sync>(
+    rt: &R,
+    alloc: Global,
+    setup: Arc<Setup<T>>,
+    workers: u16,
+    budget: u32,
+    gate: &G,
+    lines: Lines,
+    out: &mut Counted<W>,
+) -> Result<Summary, RunFault>
+    requires workers { (1 ≤ workers) × (workers ≤ 64) }
+    requires budget { (1 ≤ budget) × (budget ≤ 65535) }
+    ensures whole { IfOk result (λ summary. IsWhole (plan_of (arc_value setup)) (system T.turn_of (arc_value setup)) lines (IsWritten W.contents out.old out.new) summary.turns) }
+    ensures unfinished { IfErr result (IsUnfinished (plan_of (arc_value setup)) (system T.turn_of (arc_value setup)) lines (IsWritten W.contents out.old out.new) (Stops W.contents out.old out.new 0)) }
+{
+    match start(rt, alloc, &setup, workers) {
+        Ok(begun) => run_begun(rt, alloc, &setup, begun, budget, gate, lines, out),
+        Err(_refused) => Err(RunFault::NoMemory),
+    }
+}
+
+// What the threads share, the workers, and the calling thread's seat.
+#[derive(Drop)]
+struct Begun<T: Turns> {
+    shared: Shared<T>,
+    crew: Vec<Worker<T>>,
+    seat: Seat,
+}
+
+// Makes what the threads share, and gives each worker its pass and its seat.
+fn start<T: Turns, R: Wait>(
+    rt: &R,
+    alloc: Global,
+    setup: &Arc<Setup<T>>,
+    workers: u16,
+) -> Result<Begun<T>, NoMemory>
+    requires workers { (1 ≤ workers) × (workers ≤ 64) }
+    ensures crew { IfOk result (λ begun. All (IsOf begun.shared) begun.crew.items) }
+    ensures seat { IfOk result (λ begun. IsSeatOf begun.shared.published begun.seat) }
+{
+    let (exchange, leases) = start_exchange(alloc, setup)?;
+    let (pool, passes) = Pool::new(rt, alloc, leases, workers)?;
+    let (published, mut seats) = Published::new(alloc, workers + 1)?;
+    let Some(seat) = seats.pop() else {
+        unreachable!()
+    };
+    let crew = gather(alloc, &pool, &published, passes, seats)?;
+    let shared = Shared {
+        exchange: Mutex::new(exchange),
+        fault: Mutex::new(None),
+        ends: AtomicBool::new(false),
+        pool,
+        published,
+    };
+    Ok(Begun { shared, crew, seat })
+}
+
+// The exchange of a setup at its start, with its leases, of which no two have one number.
+fn start_exchange<T: Turns>(
+    alloc: Global,
+    setup: &Arc<Setup<T>>,
+) -> Result<(Exchange<T>, Vec<Lease<T>>), NoMemory>
+    ensures { IfOk result (λ both. AreOnce (map number_of both.1.items)) }
+{
+    distinct_numbers_law::<T>();
+    Ok(Exchange::new(alloc, Arc::try_clone(setup)?)?)
+}
+
+// A worker for each pass, with a seat for each.
+fn gather<T: Turns>(
+    alloc: Global,
+    pool: &Pool<Lease<T>>,
+    published: &Published,
+    passes: Vec<Pass<Lease<T>>>,
+    mut seats: Vec<Seat>,
+) -> Result<Vec<Worker<T>>, NoMemory>
+    requires passes { All (λ pass. IsOfPool pool.now pass) passes.items }
+    requires seats { All (λ seat. IsSeatOf published.now seat) seats.items }
+    requires many { length passes.items ≤ length seats.items }
+    ensures { IfOk result (λ crew. All (IsOfBoth pool.now published.now) crew.items) }
+{
+    let mut crew = Vec::with_capacity(alloc, passes.len())?;
+    let mut number = 0u16;
+    for pass in passes {
+        let Some(seat) = seats.pop() else {
+            unreachable!()
+        };
+        crew.push(Worker { number, pass, seat })?;
+        number = number.wrapping_add(1);
+    }
+    Ok(crew)
+}
+
+// Has the workers work while the calling thread writes.
+fn run_begun<T: Turns, W: Write + Drop, G: Gate<T>, R: Threads + Wait + Sync>(
+    rt: &R,
+    alloc: Global,
+    own: &Setup<T>,
+    begun: Begun<T>,
+    budget: u32,
+    gate: &G,
+    lines: Lines,
+    out: &mut Counted<W>,
+) -> Result<Summary, RunFault>
+    requires crew { All (IsOf begun.shared) begun.crew.items }
+    requires seat { IsSeatOf begun.shared.published begun.seat }
+    ensures whole { IfOk result (λ summary. IsWhole (plan_of own.now) (system T.turn_of own.now) lines (IsWritten W.contents out.old out.new) summary.turns) }
+    ensures unfinished { IfErr result (IsUnfinished (plan_of own.now) (system T.turn_of own.now) lines (IsWritten W.contents out.old out.new) (Stops W.contents out.old out.new 0)) }
+{
+    let Begun { shared, crew, seat } = begun;
+    lend(
+        rt, alloc, &shared, own, crew, seat, budget, gate, lines, out,
+    )
+}
+
+// Lends the writer to the scope by value, since a scope's closure tells nothing of what is behind a `&mut`.
+fn lend<'x, T: Turns, W: Write + Drop, G: Gate<T>, R: Threads + Wait + Sync>(
+    rt: &'x R,
+    alloc: Global,
+    shared: &'x Shared<T>,
+    own: &'x Setup<T>,
+    crew: Vec<Worker<T>>,
+    seat: Seat,
+    budget: u32,
+    gate: &'x G,
+    lines: Lines,
+    out: &mut Counted<W>,
+) -> Result<Summary, RunFault>
+    requires crew { All (IsOf shared.now) crew.items }
+    requires seat { IsSeatOf shared.now.published seat }
+    ensures whole { IfOk result (λ summary. IsWhole (plan_of own.now) (system T.turn_of own.now) lines (IsWritten W.contents out.old out.new) summary.turns) }
+    ensures unfinished { IfErr result (IsUnfinished (plan_of own.now) (system T.turn_of own.now) lines (IsWritten W.contents out.old out.new) (Stops W.contents out.old out.new 0)) }
+{
+    replace_with(
+        out,
+        (crew, seat),
+        move |lent: Counted<W>, hands: (Vec<Worker<T>>, Seat)| -> (
+            Counted<W>,
+            Result<Summary, RunFault>,
+        )
+            requires { All (IsOf shared.now) hands.0.items × IsSeatOf shared.now.published hands.1 }
+            ensures whole { IfOk result.1 (λ summary. IsWhole (plan_of own.entry.now) (system T.turn_of own.entry.now) lines (IsWritten W.contents lent result.0) summary.turns) }
+            ensures unfinished { IfErr result.1 (IsUnfinished (plan_of own.entry.now) (system T.turn_of own.entry.now) lines (IsWritten W.contents lent result.0) (Stops W.contents lent result.0 0)) }
+        {
+            in_scope(
+                rt, alloc, shared, own, hands.0, hands.1, budget, gate, lines, lent,
+            )
+        },
+    )
+}
+
+// The workers in threads of a scope, while this thread writes.
+fn in_scope<'x, T: Turns, W: Write + Drop, G: Gate<T>, R: Threads + Wait + Sync>(
+    rt: &'x R,
+    alloc: Global,
+    shared: &'x Shared<T>,
+    own: &'x Setup<T>,
+    crew: Vec<Worker<T>>,
+    seat: Seat,
+    budget: u32,
+    gate: &'x G,
+    lines: Lines,
+    out: Counted<W>,
+) -> (Counted<W>, Result<Summary, RunFault>)
+    requires crew { All (IsOf shared.now) crew.items }
+    requires seat { IsSeatOf shared.now.published seat }
+    ensures whole { IfOk result.1 (λ summary. IsWhole (plan_of own.now) (system T.turn_of own.now) lines (IsWritten W.contents out result.0) summary.turns) }
+    ensures unfinished { IfErr result.1 (IsUnfinished (plan_of own.now) (system T.turn_of own.now) lines (IsWritten W.contents out result.0) (Stops W.contents out result.0 0)) }
+{
+    thread::scope(
+        thread::scope_env(),
+        rt,
+        move |scope| -> (Counted<W>, Result<Summary, RunFault>)
+            requires { All (IsOf shared.now) crew.items × IsSeatOf shared.now.published seat }
+            ensures whole { IfOk result.1 (λ summary. IsWhole (plan_of own.entry.now) (system T.turn_of own.entry.now) lines (IsWritten W.contents out result.0) summary.turns) }
+            ensures unfinished { IfErr result.1 (IsUnfinished (plan_of own.entry.now) (system T.turn_of own.entry.now) lines (IsWritten W.contents out result.0) (Stops W.contents out result.0 0)) }
+        {
+            for worker in crew {
+                if !gate.may_start(worker.number) {
+                    note(rt, shared, WorkFault::ThreadRefused);
+                    break;
+                }
+                let child = scope.spawn(
+                    move ||
+                        requires { IsOf shared.now worker }
+                    { work(rt, alloc, shared, gate, worker, budget) },
+                );
+                if child.is_err() {
+                    note(rt, shared, WorkFault::ThreadRefused);
+                    break;
+                }
+            }
+            let mut seat = seat;
+            let mut out = out;
+            let result = write_all(rt, shared, own, &mut seat, lines, &mut out);
+            if result.is_err() {
+                end(shared);
+            }
+            (out, result)
+        },
+    )
+}

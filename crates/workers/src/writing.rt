@@ -1,0 +1,138 @@
+//! What the calling thread does: it writes the turns that are committed for good.
+ghost use Rattle.std.specs.Prelude.{◌≡◌, IfErr, IfOk, []};
+ghost use Rattle.gvt.specs.Seats.{IsSeatOf};
+ghost use Rattle.task_seed.specs.Setups.{plan_of, system};
+ghost use Rattle.trace.specs.Lines.{text_of};
+ghost use Rattle.trace.specs.Puts.{Puts, Stops};
+ghost use Rattle.trace.specs.Went.{IsWritten};
+ghost use Rattle.workers.specs.Portions.{IsPortion, IsDuePortion};
+ghost use Rattle.workers.specs.Runs.{IsUnfinished, IsWhole};
+
+use crate::fault::{RunFault, WorkFault, run_fault};
+use crate::running::Summary;
+use crate::shared::{Shared, ends, noted};
+use event_keys::Turned;
+use exchange::{Exchange, MeetRefused};
+use gvt::Seat;
+use plans::Plan;
+use raw_events::EventList;
+use std::io::Write;
+use std::sync::Wait;
+use std::thread;
+use task_seed::laws::equal_setup_law;
+use task_seed::{Setup, Turns};
+use trace::{Counted, Lines, WriteFault, append_turns};
+
+// Turns that no chunk has given before, how many were given before them and with them, and whether they are the last ones.
+#[derive(Drop)]
+pub(crate) struct Portion {
+    pub(crate) turns: EventList<Turned>,
+    pub(crate) first: u64,
+    pub(crate) given: u64,
+    pub(crate) is_last: bool,
+}
+
+// The next chunk of an exchange of this setup.
+pub(crate) fn take_portion<T: Turns>(
+    exchange: &mut Exchange<T>,
+    own: &Setup<T>,
+) -> Result<Portion, MeetRefused>
+    ensures { IfOk result (IsPortion (system T.turn_of own.now)) }
+{
+    let shared = exchange.setup();
+    equal_setup_law(shared, own);
+    if *shared != *own {
+        return Err(MeetRefused::OtherSetup);
+    }
+    exchange.is_sound();
+    let is_last = exchange.finished();
+    let chunk = exchange.take_chunk();
+    let given = exchange.given();
+    Ok(Portion {
+        turns: chunk.turns,
+        first: chunk.first,
+        given,
+        is_last,
+    })
+}
+
+// The next portion, where the published count tells that there may be one, or a worker has ended. The lock isn't taken else.
+fn next_portion<T: Turns, R: Wait>(
+    rt: &R,
+    shared: &Shared<T>,
+    own: &Setup<T>,
+    seat: &mut Seat,
+    written: u64,
+) -> Result<Option<Portion>, WorkFault>
+    requires seat { IsSeatOf shared.now.published seat.old }
+    ensures seat { IsSeatOf shared.now.published seat.new }
+    ensures portion { IfOk result (IsDuePortion (system T.turn_of own.now)) }
+{
+    let count = shared.published.read(seat);
+    if count <= written && !ends(shared) {
+        return Ok(None);
+    }
+    if let Some(fault) = noted(rt, shared) {
+        return Err(fault);
+    }
+    let mut exchange = shared.exchange.lock(rt);
+    match take_portion(&mut exchange, own) {
+        Ok(portion) => Ok(Some(portion)),
+        Err(refused) => Err(WorkFault::Meeting(refused)),
+    }
+}
+
+// Writes the lines of a portion's turns, where so many bytes went out before.
+fn put_portion<W: Write>(
+    plan: &Plan,
+    turns: &EventList<Turned>,
+    lines: Lines,
+    before: u64,
+    out: &mut Counted<W>,
+) -> Result<u64, WriteFault>
+    requires front { turns.now.before ≡ [] }
+    ensures ok { IfOk result (λ after. Puts W.contents out.old out.new before after (text_of plan.now lines turns.now.after)) }
+    ensures err { IfErr result (Stops W.contents out.old out.new before (text_of plan.now lines turns.now.after)) }
+{
+    append_turns(plan, turns.iter(), lines, before, out)
+}
+
+// Writes portions until the last. What was written is a beginning of the text of all turns.
+pub(crate) fn write_all<T: Turns, W: Write, R: Wait>(
+    rt: &R,
+    shared: &Shared<T>,
+    own: &Setup<T>,
+    seat: &mut Seat,
+    lines: Lines,
+    out: &mut Counted<W>,
+) -> Result<Summary, RunFault>
+    requires seat { IsSeatOf shared.now.published seat.old }
+    ensures whole { IfOk result (λ summary. IsWhole (plan_of own.now) (system T.turn_of own.now) lines (IsWritten W.contents out.old out.new) summary.turns) }
+    ensures unfinished { IfErr result (IsUnfinished (plan_of own.now) (system T.turn_of own.now) lines (IsWritten W.contents out.old out.new) (Stops W.contents out.old out.new 0)) }
+{
+    let mut written = 0;
+    let mut bytes = 0;
+    for _ in rt.forever() {
+        let portion = match next_portion(rt, shared, own, seat, written) {
+            Ok(Some(portion)) => portion,
+            Ok(None) => {
+                thread::yield_now();
+                continue;
+            }
+            Err(fault) => return Err(run_fault(fault)),
+        };
+        if portion.first != written {
+            return Err(RunFault::OutOfPlace);
+        }
+        match put_portion(own.plan(), &portion.turns, lines, bytes, out) {
+            Ok(after) => bytes = after,
+            Err(fault) => return Err(RunFault::Write(fault)),
+        }
+        written = portion.given;
+        if portion.is_last {
+            return Ok(Summary { turns: written });
+        }
+        thread::yield_now();
+    }
+    unreachable!()
+}

@@ -1,0 +1,131 @@
+//! Runs that end before all is written.
+ghost use Rattle.std.specs.Prelude.{◌≤◌};
+
+use crate::rings::{TEXT, assert_held, page_of, run_ring};
+use exchange::Lease;
+use std::alloc::Global;
+use std::io::{self, Write};
+use std::sync::atomic::{AtomicBool, Ordering};
+use std::thread;
+use task_seed::TableTurns;
+use terms::{NoMemory, Refusal};
+use trace::{Counted, WriteFault};
+use workers::{Gate, RunFault, Summary, Unheld};
+
+#[test]
+fn a_failing_writer_has_a_beginning(rt: HostRuntime) {
+    for room in 0..53usize {
+        let mut out = page_of(rt.alloc(), room, 100);
+        let ran = run_ring(&rt, 2, &Unheld, &mut out);
+        let fault = WriteFault::WriteFailed(room as u64);
+        assert!(rt; ran == Err(RunFault::Write(fault)), "{room}");
+        assert!(rt; out.failures() == 1);
+        assert_held(&rt, out, &TEXT.as_bytes()[..room]);
+    }
+}
+
+#[test]
+fn a_writer_with_just_room_has_all(rt: HostRuntime) {
+    for most in [1usize, 53] {
+        let mut out = page_of(rt.alloc(), 53, most);
+        let ran = run_ring(&rt, 2, &Unheld, &mut out);
+        assert!(rt; ran == Ok(Summary { turns: 4 }) && out.failures() == 0);
+        assert_held(&rt, out, TEXT.as_bytes());
+    }
+}
+
+// A gate that lets no worker from this number on start.
+#[derive(Drop)]
+struct Few {
+    workers: u16,
+}
+
+impl Gate<TableTurns> for Few {
+    fn ahead(
+        &self,
+        alloc: Global,
+        lease: &mut Lease<TableTurns>,
+        budget: u32,
+    ) -> Result<u32, NoMemory> {
+        lease.run_ahead(alloc, budget)
+    }
+
+    fn may_start(&self, worker: u16) -> bool {
+        worker < self.workers
+    }
+}
+
+#[test]
+fn a_worker_that_may_not_start_ends_the_run(rt: HostRuntime) {
+    let mut out = page_of(rt.alloc(), 100, 100);
+    let ran = run_ring(&rt, 2, &Few { workers: 0 }, &mut out);
+    assert!(rt; ran == Err(RunFault::ThreadRefused));
+    assert_held(&rt, out, b"");
+    for workers in [1u16, 2] {
+        let mut out = page_of(rt.alloc(), 100, 100);
+        let ran = run_ring(&rt, 3, &Few { workers }, &mut out);
+        assert!(rt; ran == Err(RunFault::ThreadRefused));
+        assert!(rt;
+            TEXT.as_bytes()
+                .starts_with(out.into_inner().held.as_slice())
+        );
+    }
+    assert!(rt; RunFault::ThreadRefused.number() == 61);
+    assert!(rt; RunFault::OutOfPlace.number() == 62);
+}
+
+// A gate that holds its first caller until the writer has failed, for so many turns at most.
+#[derive(Drop)]
+struct Waiting<'a> {
+    failed: &'a AtomicBool,
+    held: AtomicBool,
+}
+
+impl<'a> Gate<TableTurns> for Waiting<'a> {
+    fn ahead(
+        &self,
+        alloc: Global,
+        lease: &mut Lease<TableTurns>,
+        budget: u32,
+    ) -> Result<u32, NoMemory> {
+        if !self.held.swap(true, Ordering::SeqCst) {
+            for _ in 0..1_000_000u32 {
+                if self.failed.load(Ordering::SeqCst) {
+                    break;
+                }
+                thread::yield_now();
+            }
+        }
+        lease.run_ahead(alloc, budget)
+    }
+}
+
+// A writer that fails at once, and tells so.
+#[derive(Drop)]
+struct Failing<'a> {
+    failed: &'a AtomicBool,
+}
+
+impl<'a> Write for Failing<'a> {
+    fn write(&mut self, _piece: &[u8]) -> io::Result<usize> {
+        self.failed.store(true, Ordering::SeqCst);
+        Ok(0)
+    }
+
+    fn flush(&mut self) -> io::Result<()> {
+        Ok(())
+    }
+}
+
+#[test]
+fn a_held_worker_does_not_hide_a_failed_write(rt: HostRuntime) {
+    let failed = AtomicBool::new(false);
+    let gate = Waiting {
+        failed: &failed,
+        held: AtomicBool::new(false),
+    };
+    let mut out = Counted::new(Failing { failed: &failed });
+    let ran = run_ring(&rt, 2, &gate, &mut out);
+    assert!(rt; ran == Err(RunFault::Write(WriteFault::WriteFailed(0))));
+    assert!(rt; failed.load(Ordering::SeqCst) && out.failures() == 1);
+}
