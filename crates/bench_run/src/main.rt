@@ -9,7 +9,7 @@ use anyhow::Result;
 use commands::simulate;
 use plans::Plan;
 use sources::compose_source;
-use std::alloc::{AllocGlobal, Global};
+use std::alloc::{Alloc, AllocGlobal, Global};
 use std::io::{self, Write};
 use std::sync::{Arc, Wait};
 use std::thread::Threads;
@@ -23,7 +23,7 @@ const NODE: &str =
     "type Id = 0..63 automaton Node(me: Id, nx: Id, first: Bool) signature input pass(const me) output pass(const nx) states has: Bool := first transitions input pass(const me) eff has := true output pass(const nx) pre has eff has := false tasks { pass } automaton Ring components n0: Node(0, 1, true)";
 
 const STEPS: &str =
-    "type Id = 0..255 automaton Steps signature internal step states sum: Int := 0 transitions internal step eff for i: Id do sum := sum + i od tasks { step } automaton All components c0: Steps";
+    "type Id = 0..255 automaton Steps(me: Id) signature internal step(const me) states sum: Int := 0 transitions internal step(const me) eff for i: Id do sum := sum + i od tasks { step } automaton All components c0: Steps(0)";
 
 // A writer that counts what it takes and keeps none of it.
 #[derive(Drop)]
@@ -57,7 +57,7 @@ fn ring(alloc: Global, size: u64) -> Result<String> {
 fn steps(alloc: Global, size: u64) -> Result<String> {
     let mut text = String::from_str(alloc, STEPS)?;
     for number in 1..size {
-        let component = format!(in alloc; "; c{number}: Steps")?;
+        let component = format!(in alloc; "; c{number}: Steps({number})")?;
         text.push_str(component.as_str())?;
     }
     Ok(text)
@@ -143,29 +143,33 @@ fn speed(turns: u64, nanoseconds: u64) -> u64 {
     turns.saturating_mul(1_000_000) / nanoseconds.max(1)
 }
 
-fn measure_all<R: Threads + Wait + Sync + Clock + Print + rt::Files>(
+fn measure_all<R: Threads + Wait + Sync + Clock + Print + rt::Files + Alloc>(
     rt: &R,
     alloc: Global,
     file: &str,
 ) -> Result<()> {
-    measure(rt, alloc, "ring of 8", ring(alloc, 8)?.as_str(), 100_000)?;
+    measure(rt, alloc, "ring of 8", ring(alloc, 8)?.as_str(), 10_000)?;
     measure(
         rt,
         alloc,
         "64 that compute",
         steps(alloc, 64)?.as_str(),
-        2_000,
+        300,
     )?;
     let text = fs::read_to_string(rt, file)?;
-    measure(rt, alloc, file, text.as_str(), 100_000)
+    measure(rt, alloc, file, text.as_str(), 10_000)
 }
 
 fn main(rt: HostRuntime) -> Result<()> {
     let mut words = env::args(&rt)?.skip(1);
-    match (words.next(), words.next()) {
-        (Some(word), Some(file)) if word.as_str() == "run" => {
-            measure_all(&rt, rt.alloc(), file.as_str())
-        }
-        _ => Ok(()),
+    let Some(word) = words.next() else {
+        return Ok(());
+    };
+    let Some(file) = words.next() else {
+        return Ok(());
+    };
+    if word.as_str() == "run" {
+        return measure_all(&rt, rt.alloc(), file.as_str());
     }
+    Ok(())
 }

@@ -35,7 +35,7 @@ use Rattle.commands.specs.Refusals.{drive_number}
 use Rattle.service.specs.declared.report.Report.{Report}
 use Rattle.service.specs.declared.report.Report.TheVariants.{Done, No, Driven, Refused, Fault, Misused}
 use Rattle.service.specs.Compositions.{HasPlan}
-use Rattle.service.specs.Drives.{HasNoTurns, IsDrivenBy, IsDriveReport, IsStepsReport, IsTurnsReport}
+use Rattle.service.specs.Drives.{HasNoTurns, HasPlanWith, IsDrivenBy, IsDriveReport, IsStepsReport, IsTurnsReport}
 use Rattle.service.specs.Parts.{IsMemory}
 use Rattle.service.specs.Reports.{report_of}
 use Rattle.service.specs.Simulations.{HasBadTable, HasTurns, IsTabled, LacksTable, lines_for, seeded, system_with, table_of}
@@ -107,27 +107,43 @@ rows_undriven plan options table given spells seen same (turns.GapOutOfRange lin
 rows_undriven plan options table given spells seen same (turns.TaskOutOfRange line) first = inl (inr (record { rows = given; spelling = spells; first = subst (λ (l : List Row). IsFirstFault (composition plan) l 28 (Some line)) same (first (λ e. cc)) }))
 rows_undriven plan options table given spells seen same (turns.NoSuchComponent line) first = inl (inr (record { rows = given; spelling = spells; first = subst (λ (l : List Row). IsFirstFault (composition plan) l 30 (Some line)) same (first (λ e. cc)) }))
 
+-- a plan that a source means, with what is then done with it
+module _ (has : List ℕ → List ℕ → Type 0) (lacks : List ℕ → Type 0) (source : List ℕ) (options : Options) (kept : Type 0) (Ends : Plan → System → Report → Type 0) (report : Report) where
+  abbrev pub IsMeantReport : Plan → Type 0
+  IsMeantReport plan = IsTurnsReport (HasTurns has (composition plan) options (table_of options)) (HasBadTable has (composition plan) options) (λ n. IsMemory n ⊎ LacksTable has lacks options n) options kept (Ends plan) report
+
+  module _ (plan : Plan) (meant : HasPlan (has source) plan) where
+    -- the turns of a seed
+    pub seed_meant : options.table ≡ None → IsTurnsReport (λ s. s ≡ seeded (composition plan) options) (λ n p. ⊥) IsMemory options kept (Ends plan) report → HasPlanWith (has source) IsMeantReport
+    seed_meant none r =
+        let asked : table_of options ≡ None = ap (option_map (λ s. s.now)) none in
+        record { plan = plan; meant = meant; holds = turns_otherwise options kept (Ends plan) report _ _ _ _ _ _ (λ s is. subst (λ t. HasTurns has (composition plan) options t s) (sym asked) is) (λ n p bad. absurd bad) (λ n one. inl one) r }
+
+    -- the turns of a table
+    pub named_meant : (name : List ℕ) → table_of options ≡ Some name
+        → IsTurnsReport (λ s. HasSmall (has name) (IsTabled (composition plan) options.ticks s)) (λ n p. HasSmall (has name) (λ table. IsRefused (composition plan) table n p)) (IsFileFault (has name) (lacks name)) options kept (Ends plan) report
+        → HasPlanWith (has source) IsMeantReport
+    named_meant name asked r = record {
+      plan = plan;
+      meant = meant;
+      holds =
+          turns_otherwise options kept (Ends plan) report _ _ _ _ _ _ (λ s is. subst (λ t. HasTurns has (composition plan) options t s) (sym asked) is) (λ n p bad. record { name = name; asked = asked; refused = bad })
+          (λ n one. inr (record { name = name; asked = asked; unread = one })) r;
+    }
+
 module _ (has : List ℕ → List ℕ → Type 0) (lacks : List ℕ → Type 0) (source steps : List ℕ) (options : Options) (kept : Type 0) (wrote : List ℕ → Type 0) (cut : List ℕ → ℕ → Type 0) (plan : Plan) (meant : HasPlan (has source) plan) (report : Report) where
-  abbrev ends : System → Report → Type 0
-  ends s = IsStepsReport (has steps) (lacks steps) plan s (lines_for options.trace) kept wrote cut
+  abbrev ends : Plan → System → Report → Type 0
+  ends p s = IsStepsReport (has steps) (lacks steps) p s (lines_for options.trace) kept wrote cut
 
   -- a plan with the turns of a seed
-  pub seed_driven : options.table ≡ None → IsTurnsReport (λ s. s ≡ seeded (composition plan) options) (λ n p. ⊥) IsMemory options kept ends report → IsDriveReport has lacks source steps options kept wrote cut report
-  seed_driven none r =
-      let asked : table_of options ≡ None = ap (option_map (λ s. s.now)) none in
-      inr (record { plan = plan; meant = meant; holds = turns_otherwise options kept ends report _ _ _ _ _ _ (λ s is. subst (λ t. HasTurns has (composition plan) options t s) (sym asked) is) (λ n p bad. absurd bad) (λ n one. inl one) r })
+  pub seed_driven : options.table ≡ None → IsTurnsReport (λ s. s ≡ seeded (composition plan) options) (λ n p. ⊥) IsMemory options kept (ends plan) report → IsDriveReport has lacks source steps options kept wrote cut report
+  seed_driven none r = inr (seed_meant has lacks source options kept ends report plan meant none r)
 
   -- a plan with the turns of a table
   pub named_driven : (name : List ℕ) → table_of options ≡ Some name
-      → IsTurnsReport (λ s. HasSmall (has name) (IsTabled (composition plan) options.ticks s)) (λ n p. HasSmall (has name) (λ table. IsRefused (composition plan) table n p)) (IsFileFault (has name) (lacks name)) options kept ends report
+      → IsTurnsReport (λ s. HasSmall (has name) (IsTabled (composition plan) options.ticks s)) (λ n p. HasSmall (has name) (λ table. IsRefused (composition plan) table n p)) (IsFileFault (has name) (lacks name)) options kept (ends plan) report
       → IsDriveReport has lacks source steps options kept wrote cut report
-  named_driven name asked r = inr (record {
-    plan = plan;
-    meant = meant;
-    holds =
-        turns_otherwise options kept ends report _ _ _ _ _ _ (λ s is. subst (λ t. HasTurns has (composition plan) options t s) (sym asked) is) (λ n p bad. record { name = name; asked = asked; refused = bad })
-        (λ n one. inr (record { name = name; asked = asked; unread = one })) r;
-  })
+  named_driven name asked r = inr (named_meant has lacks source options kept ends report plan meant name asked r)
 
 module _ (has : List ℕ → Type 0) (lacks : Type 0) (plan : Plan) (system : System) (lines : Lines) (kept : Type 0) (wrote : List ℕ → Type 0) (cut : List ℕ → ℕ → Type 0) (bytes : List ℕ) (is : has bytes) (small : length bytes ≤ most_bytes) where
   -- the steps were done

@@ -1,14 +1,8 @@
-pub mod Ahead
 pub mod Checked
-pub mod Chunked
+pub mod CrewReports
 pub mod DriveReports
-pub mod Faults
-pub mod Floors
 pub mod Pieces
 pub mod Printings
 pub mod Reporting
-pub mod Ringed
-pub mod Seen
 pub mod Simulated
-pub mod Texts
 pub mod Told

@@ -1,5 +1,5 @@
 -- Reports of refusals, by their numbers.
-use Rattle.std.proofs.Common.{◌≡◌, ◌≢◌, ◌≤◌, ◌⊎◌, inl, inr, ℕ, List, take, refl, subst, sym, arith, false}
+use Rattle.std.proofs.Common.{◌≡◌, ◌≤◌, ◌⊎◌, inl, inr, ℕ, List, take, refl, subst, sym, arith, false}
 use Rattle.std.specs.Prelude.{Option, if◌then◌else◌}
 use Rattle.std.proofs.lemmas.Bool.Decides.{nat_tests}
 use Rattle.plans.specs.declared.plan.Plan.{Plan}
@@ -8,7 +8,7 @@ use Rattle.sources.specs.Composed.{IsComposed, IsRefused}
 use Rattle.sources.specs.Refusals.{source_number, source_place}
 use Rattle.service.specs.declared.report.Report.{Report}
 use Rattle.service.specs.declared.report.Report.TheVariants.{Refused, Fault}
-use Rattle.service.specs.Compositions.{HasBadSource, HasNoPlan, HasPlan}
+use Rattle.service.specs.Compositions.{HasNoPlan, HasPlan}
 use Rattle.service.specs.Reading.{IsReadOf}
 use Rattle.service.specs.Reports.{is_fault, report_of}
 

@@ -8,6 +8,7 @@ use Rattle.service.specs.declared.report.Report.{Report}
 use Rattle.service.specs.declared.report.Report.TheVariants.{Done, No, Driven, Refused, Fault, Misused}
 use Rattle.service.specs.Reports.{IsReportOn, line_of}
 use Rattle.service.specs.Told.{IsTold, IsWarned}
+use Rattle.service.proofs.CrewReports.{run_not_misused}
 use Rattle.service.proofs.DriveReports.{drive_not_misused}
 use Rattle.service.specs.Written.{IsSaid}
 
@@ -21,8 +22,8 @@ module _ {E : Type 0} (known : E → Option (List ℕ)) where
   asked_not_warned has lacks kept wrote cut old what (Refused number place) on = refl
   asked_not_warned has lacks kept wrote cut old what (Fault number) on = refl
   asked_not_warned has lacks kept wrote cut old (asked.Print source) Misused on = absurd on
-  asked_not_warned has lacks kept wrote cut old (asked.First table) Misused on = absurd on
   asked_not_warned has lacks kept wrote cut old (asked.Reference source options) Misused on = absurd on
+  asked_not_warned has lacks kept wrote cut old (asked.Run source options crew) Misused on = absurd (run_not_misused has lacks source.now options kept wrote cut on)
   asked_not_warned has lacks kept wrote cut old (asked.Check source trace) Misused on = absurd on
   asked_not_warned has lacks kept wrote cut old (asked.Drive source steps options) Misused on = absurd (drive_not_misused has lacks source.now steps.now options kept wrote cut on)
 

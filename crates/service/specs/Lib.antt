@@ -1,9 +1,7 @@
-pub mod Answers
 pub mod Checks
 pub mod Compositions
+pub mod Crews
 pub mod Drives
-pub mod First
-pub mod Gathered
 pub mod Parts
 pub mod PrintRefusals
 pub mod Printing

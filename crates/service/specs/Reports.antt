@@ -6,15 +6,13 @@ use Rattle.command_line.specs.declared.Asked.TheVariants as asked
 use Rattle.command_line.specs.Words.{AskNothing, HasFault, IsAsked, IsWrong}
 use Rattle.service.specs.declared.report.Report.{Report}
 use Rattle.service.specs.declared.report.Report.TheVariants.{Done, No, Driven, Refused, Fault, Misused}
-use Rattle.ring_source.specs.Ring.{ring_of_two}
 use Rattle.commands.specs.declared.driving.RefusedStep.{RefusedStep}
 use Rattle.service.specs.Checks.{IsCheckReport}
+use Rattle.service.specs.Crews.{IsRunFileReport}
 use Rattle.service.specs.Drives.{IsDriveReport}
-use Rattle.service.specs.Unread.{HasSmall, IsFileFault, IsUnread}
+use Rattle.service.specs.Unread.{IsUnread}
 use Rattle.service.specs.Printing.{IsPrinted, IsRefusedSource}
 use Rattle.service.specs.Simulations.{IsSimulateReport}
-use Rattle.service.specs.Tables.{IsAccepted, IsRefused}
-use Rattle.service.specs.First.{HasText}
 use Rattle.service.specs.Written.{SomeText}
 
 abbrev pub status_of : Report → ℕ
@@ -39,37 +37,13 @@ line_of (Refused number (Some place)) = codes "refused " ++ decimal number ++ co
 line_of (Fault number) = codes "fault " ++ decimal number ++ codes "\n"
 line_of Misused = []
 
--- want of memory, 1, what befalls a run, 40 to 49, and what befalls writers and files, from 60 on, are faults
+-- want of memory, 1, what befalls a run, 40 to 49, and what befalls writers, workers and files, from 60 on, are faults
 abbrev pub is_fault : ℕ → Bool
 is_fault number = number == 1 || (nat_le 40 number && nat_le number 49 || nat_le 60 number)
 
 -- the report of a refusal with this number and place
 abbrev pub report_of : ℕ → Option ℕ → Report
 report_of number place = if is_fault number then Fault number else Refused number place
-
--- a write failed (60), and the table's text is cut after so many bytes
-pub record IsWriteFault (has : List ℕ → Type 0) (cut : List ℕ → ℕ → Type 0) (number : ℕ) : Type 0 where
-  pub number_is : number ≡ 60
-  pub written : ℕ
-  pub stopped : HasSmall has (λ table. HasText table (λ text. cut text written))
-
--- a lease was refused (40 or 41)
-abbrev pub IsMeetFault : ℕ → Type 0
-IsMeetFault number = (number ≡ 40) ⊎ (number ≡ 41)
-
--- a fault comes of the file or of a refused lease, and the output is kept, or of a failed write
-abbrev pub IsFault : (List ℕ → Type 0) → Type 0 → Type 0 → (List ℕ → ℕ → Type 0) → ℕ → Type 0
-IsFault has lacks kept cut number = ((IsFileFault has lacks number ⊎ IsMeetFault number) × kept) ⊎ IsWriteFault has cut number
-
--- The report on a table file that has these bytes, or can't be read, where the output was kept, a text was written to it, or a write failed
--- after so many bytes of a text.
-abbrev pub IsFirstReport : (List ℕ → Type 0) → Type 0 → Type 0 → (List ℕ → Type 0) → (List ℕ → ℕ → Type 0) → Report → Type 0
-IsFirstReport has lacks kept wrote cut Done = HasSmall has (λ table. IsAccepted ring_of_two table × HasText table wrote)
-IsFirstReport has lacks kept wrote cut No = ⊥
-IsFirstReport has lacks kept wrote cut (Driven refused) = ⊥
-IsFirstReport has lacks kept wrote cut (Refused number place) = HasSmall has (λ table. IsRefused ring_of_two table number place) × kept
-IsFirstReport has lacks kept wrote cut (Fault number) = IsFault has lacks kept cut number
-IsFirstReport has lacks kept wrote cut Misused = ⊥
 
 pub record IsSourceWith (has : List ℕ → Type 0) (Judged : List ℕ → Type 0) : Type 0 where
   pub source : List ℕ
@@ -94,8 +68,8 @@ IsPrintReport has lacks kept wrote cut Misused = ⊥
 -- the report on what is asked for
 abbrev pub IsReportOn : Asked → (List ℕ → List ℕ → Type 0) → (List ℕ → Type 0) → Type 0 → (List ℕ → Type 0) → (List ℕ → ℕ → Type 0) → Report → Type 0
 IsReportOn (asked.Print source) has lacks = IsPrintReport (has source.now) (lacks source.now)
-IsReportOn (asked.First table) has lacks = IsFirstReport (has table.now) (lacks table.now)
 IsReportOn (asked.Reference source options) has lacks = IsSimulateReport has lacks source.now options
+IsReportOn (asked.Run source options crew) has lacks = IsRunFileReport has lacks source.now options
 IsReportOn (asked.Check source trace) has lacks = IsCheckReport has lacks source.now trace.now
 IsReportOn (asked.Drive source steps options) has lacks = IsDriveReport has lacks source.now steps.now options
 

@@ -13,12 +13,6 @@ Spells table rows = lines_of table ≡ map spelled rows
 abbrev pub AreSound : List Instance → List Row → Type 0
 AreSound composition rows = All (λ row. (number : ℕ) → HasFault composition row number → ⊥) rows
 
--- each line of the file is the spelling of a row, and no row has a fault
-pub record IsAccepted (composition : List Instance) (table : List ℕ) : Type 0 where
-  pub rows : List Row
-  pub spelling : Spells table rows
-  pub sound : AreSound composition rows
-
 -- a line is no row
 pub record IsBadTable (table : List ℕ) (number : ℕ) (place : Option ℕ) : Type 0 where
   pub line : ℕ

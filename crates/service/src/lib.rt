@@ -2,12 +2,11 @@
 #![tactic(auto)]
 
 pub mod driving;
-mod exchanged;
 pub mod fault;
 pub mod files;
-pub mod first;
 pub mod printing;
 pub mod report;
+pub mod running;
 pub mod serve;
 pub mod simulation;
 mod writing;

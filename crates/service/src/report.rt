@@ -21,8 +21,8 @@ pub enum Report {
     Driven(Vec<RefusedStep>),
     /// A file was refused, with the refusal's number and its place, where it has one.
     Refused(u8, Option<usize>),
-    /// A run fault, or a file that couldn't be read: 1 for want of memory, 40 and 41 for a refused lease, 60 for a failed write, 63 and 64
-    /// for files.
+    /// A run fault, or a file that couldn't be read: 1 for want of memory, 40 and 41 for a refused lease, 60 for a failed write, 61 for a
+    /// worker that wasn't started, 62 for turns out of place, 63 and 64 for files.
     Fault(u8),
     /// The words aren't those of the program, which was said when they were read.
     Misused,
@@ -96,8 +96,8 @@ fn write_step<E: Write>(step: u64, number: u64, err: &mut Counted<E>) -> Result<
     write_line(b" refused ", number, err)
 }
 
-/// The report of a refusal. Want of memory (1), what befalls a run (40 to 49), and what befalls writers and files (from 60 on) are
-/// faults.
+/// The report of a refusal. Want of memory (1), what befalls a run (40 to 49), and what befalls writers, workers and files (from 60
+/// on) are faults.
 pub fn report_of<R: Refusal>(refusal: &R) -> Report
     ensures { result ≡ report_of (R.number_of refusal.now) (R.place_of refusal.now) }
 {

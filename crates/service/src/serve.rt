@@ -4,24 +4,27 @@ ghost use Rattle.clap.specs.declared.error.ErrorKind.TheVariants.{DisplayHelp};
 ghost use Rattle.command_line.specs.Words.{HasFault, IsRefused};
 ghost use Rattle.service.specs.declared.report.Report.{Report};
 ghost use Rattle.service.specs.Reading.{IsReadOf};
-ghost use Rattle.service.specs.Reports.{status_of, IsReport, IsReportOn, IsFirstReport, IsPrintReport, IsUnserved};
+ghost use Rattle.service.specs.Reports.{status_of, IsReport, IsReportOn, IsPrintReport, IsUnserved};
 ghost use Rattle.service.specs.Told.{IsTold, IsWarned};
 ghost use Rattle.service.specs.Unread.{IsFileFault, IsUnread, most_bytes};
 ghost use Rattle.trace.specs.Went.{IsStopped, IsWritten};
 
 use crate::driving::drive_file;
 use crate::files::{FileFault, Files};
-use crate::first::first_run;
 use crate::printing::print_source;
 use crate::report::{Report, report_of};
+use crate::running::run_file;
 use crate::simulation::{check_file, simulate_file};
 use crate::writing::say;
 use clap::error::Error;
 use command_line::{Asked, Refused, read_words};
 use std::alloc::{AllocError, Global};
 use std::io::Write;
+use std::sync::Wait;
+use std::thread::Threads;
 use terms::Refusal;
 use trace::{Counted, write_text};
+use workers::Unheld;
 
 /// The most bytes that a table, a file of actions or a file of steps may have.
 pub const MOST_BYTES: u64 = 16_777_216;
@@ -30,8 +33,9 @@ pub const MOST_BYTES: u64 = 16_777_216;
 pub(crate) const SOURCE_BYTES: u64 = ioa_front::MOST_BYTES as u64 + 1;
 
 /// Serves the words after the program's name: what is asked goes to `out`, as help does; faults and what is wrong with the words go to
-/// `err`, up to the first write that fails there, and the answer is the exit status.
-pub fn serve<F: Files, W: Write, E: Write>(
+/// `err`, up to the first write that fails there, and the answer is the exit status. It may wait where `run` is asked for.
+pub fn serve<F: Files, W: Write + Drop, E: Write, R: Threads + Wait + Sync>(
+    rt: &R,
     alloc: Global,
     words: &[String],
     files: &F,
@@ -40,12 +44,13 @@ pub fn serve<F: Files, W: Write, E: Write>(
 ) -> u8
     ensures status { (report : Report) × (result ≡ status_of report) × IsReport (map string_bytes words.now) (F.has files.now) (F.lacks files.now) (out.new ≡ out.old) (IsWritten W.contents out.old out.new) (IsStopped W.contents out.old out.new) report × IsTold E.contents err.old err.new report }
 {
-    let report = answer(alloc, words, files, out, err);
+    let report = answer(rt, alloc, words, files, out, err);
     report.tell(err);
     report.status()
 }
 
-fn answer<F: Files, W: Write, E: Write>(
+fn answer<F: Files, W: Write + Drop, E: Write, R: Threads + Wait + Sync>(
+    rt: &R,
     alloc: Global,
     words: &[String],
     files: &F,
@@ -56,13 +61,14 @@ fn answer<F: Files, W: Write, E: Write>(
     ensures warned { IsWarned E.contents err.old err.new result }
 {
     match read_words(alloc, words) {
-        Ok(asked) => do_asked(alloc, asked, files, out),
+        Ok(asked) => do_asked(rt, alloc, asked, files, out),
         Err(refused) => refuse(alloc, &refused, out, err),
     }
 }
 
 // What is asked for.
-fn do_asked<F: Files, W: Write>(
+fn do_asked<F: Files, W: Write + Drop, R: Threads + Wait + Sync>(
+    rt: &R,
     alloc: Global,
     asked: Asked,
     files: &F,
@@ -72,8 +78,12 @@ fn do_asked<F: Files, W: Write>(
 {
     match asked {
         Asked::Print { source } => print_file(alloc, source, files, out),
-        Asked::First { table } => judge(alloc, table, files, out),
         Asked::Reference { source, options } => simulate_file(alloc, source, options, files, out),
+        Asked::Run {
+            source,
+            options,
+            crew,
+        } => run_file(rt, alloc, source, options, crew, &Unheld, files, out),
         Asked::Check { source, trace } => check_file(alloc, source, trace, files, out),
         Asked::Drive {
             source,
@@ -129,19 +139,6 @@ fn help<W: Write>(alloc: Global, error: &Error, out: &mut Counted<W>) -> Report
     match write_text(text.as_str().as_bytes(), out) {
         Ok(()) => Report::Done,
         Err(fault) => Report::Fault(fault.number()),
-    }
-}
-
-fn judge<F: Files, W: Write>(alloc: Global, name: &str, files: &F, out: &mut Counted<W>) -> Report
-    ensures report { IsFirstReport (F.has files.now name.now) (F.lacks files.now name.now) (out.new ≡ out.old) (IsWritten W.contents out.old out.new) (IsStopped W.contents out.old out.new) result }
-{
-    let table = match read_whole(alloc, name, files) {
-        Ok(table) => table,
-        Err(number) => return Report::Fault(number),
-    };
-    match first_run(alloc, table.as_slice(), out) {
-        Ok(()) => Report::Done,
-        Err(fault) => report_of(&fault),
     }
 }
 

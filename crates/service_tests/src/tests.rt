@@ -1,33 +1,46 @@
 //! The command line's rows, served from memory.
+ghost use Rattle.std.specs.Prelude.{IfOk};
+ghost use Rattle.service.specs.Reading.{IsReadOf};
 
 use service::serve::serve;
 use service::{FileFault, Files};
 use std::alloc::{AllocGlobal, Global};
 use std::io::{self, Write};
 use std::process::Abort;
+use std::sync::Wait;
+use std::thread::Threads;
 use trace::Counted;
 
-// One file in memory.
+// Two files in memory, `source` and `table`.
 #[derive(Clone, Copy)]
-struct OneFile<'a> {
-    name: &'a str,
-    bytes: &'a [u8],
+struct TwoFiles<'a> {
+    source: &'a [u8],
+    table: &'a [u8],
 }
 
-impl<'a> Files for OneFile<'a> {
+impl<'a> Files for TwoFiles<'a> {
     ghost has = { λ _ _ _. Unit {0} };
 
     ghost lacks = { λ _ _. Unit {0} };
 
     fn read(&self, alloc: Global, name: &str, most: u64) -> Result<Vec<u8>, FileFault> {
-        if name != self.name {
-            return Err(FileFault::Failed);
+        if name == "source" {
+            return front(alloc, self.source, most);
         }
-        let count = (self.bytes.len() as u64).min(most) as usize;
-        match self.bytes[..count].to_vec(alloc) {
-            Ok(bytes) => Ok(bytes),
-            Err(_) => Err(FileFault::NoMemory),
+        if name == "table" {
+            return front(alloc, self.table, most);
         }
+        Err(FileFault::Failed)
+    }
+}
+
+fn front(alloc: Global, bytes: &[u8], most: u64) -> Result<Vec<u8>, FileFault>
+    ensures { IfOk result (λ read. IsReadOf (λ _. Unit {0}) most read.items) }
+{
+    let count = (bytes.len() as u64).min(most) as usize;
+    match bytes[..count].to_vec(alloc) {
+        Ok(bytes) => Ok(bytes),
+        Err(_) => Err(FileFault::NoMemory),
     }
 }
 
@@ -60,18 +73,39 @@ impl Write for Narrow {
     }
 }
 
-const RING: &str = "0 2 0 0\n0 2 0 0\n1 1 0 0\n1 2 0 0\n";
+// The ring of two, and a table of its turns with what all of them write.
+const RING: &str =
+    "type Id = 0..1\nautomaton Node(me: Id, nx: Id, first: Bool)\nsignature\ninput pass(const me)\noutput pass(const nx)\nstates has: Bool := first\ntransitions\ninput pass(const me)\neff has := true\noutput pass(const nx)\npre has\neff has := false\ntasks { pass }\nautomaton Ring\ncomponents a: Node(0, 1, true); b: Node(1, 0, false)\n";
+
+const ROWS: &str = "0 2 0 0\n0 2 0 0\n1 1 0 0\n1 2 0 0\n";
+
+const TURNS: &str = "1 1 0 idle\n2 0 0 pass(1)\n3 1 1 pass(0)\n4 0 1 pass(1)\n";
+
+const CUT: &str = "1 1 0 idle\n2 0 0 pass(1)\n3 1 1 pass(0)\n4 0 1 pass(1)";
+
+// The ring with this table.
+fn ring_with(table: &str) -> TwoFiles {
+    TwoFiles {
+        source: RING.as_bytes(),
+        table: table.as_bytes(),
+    }
+}
+
+// This source, with no table.
+fn alone(source: &[u8]) -> TwoFiles {
+    TwoFiles { source, table: b"" }
+}
 
 // The exit status of these words; what went out and what was said stay in the writers.
-fn status_of<W: Write>(
-    rt: &(impl Abort + AllocGlobal),
+fn status_of<W: Write + Drop, R: Abort + AllocGlobal + Threads + Wait + Sync>(
+    rt: &R,
     all: &[&str],
-    files: &OneFile,
+    files: &TwoFiles,
     out: &mut Counted<W>,
     err: &mut Counted<Vec<u8>>,
 ) -> u8 {
     let words = words(rt, all);
-    serve(rt.alloc(), words.as_slice(), files, out, err)
+    serve(rt, rt.alloc(), words.as_slice(), files, out, err)
 }
 
 fn assert_bytes(rt: &impl Abort, written: &[u8], wanted: &str, at: &str) {
@@ -83,10 +117,10 @@ fn assert_written(rt: &impl Abort, written: Counted<Vec<u8>>, wanted: &str, at: 
 }
 
 // What these words write where all of it can be written.
-fn assert_serves(
-    rt: &(impl Abort + AllocGlobal),
+fn assert_serves<R: Abort + AllocGlobal + Threads + Wait + Sync>(
+    rt: &R,
     all: &[&str],
-    files: &OneFile,
+    files: &TwoFiles,
     printed: &str,
     said: &str,
     status: u8,
@@ -100,10 +134,10 @@ fn assert_serves(
 }
 
 // What these words write where so many bytes can be written.
-fn assert_serves_narrow(
-    rt: &(impl Abort + AllocGlobal),
+fn assert_serves_narrow<R: Abort + AllocGlobal + Threads + Wait + Sync>(
+    rt: &R,
     all: &[&str],
-    files: &OneFile,
+    files: &TwoFiles,
     room: usize,
     printed: &str,
     said: &str,
@@ -118,19 +152,39 @@ fn assert_serves_narrow(
     assert_bytes(rt, out.into_inner().held.as_slice(), printed, said);
 }
 
+// The words that run the ring with its table.
+const RUN: [&str; 8] = [
+    "run",
+    "source",
+    "--table",
+    "table",
+    "--workers",
+    "3",
+    "--budget",
+    "1",
+];
+
 #[test]
 fn tables_are_run_or_refused(rt: HostRuntime) {
     let rows = [
-        (RING, 100, "1 1 0 idle\n", "", 0u8),
-        (RING, 11, "1 1 0 idle\n", "", 0),
-        (RING, 5, "1 1 0", "fault 60\n", 3),
-        (RING, 0, "", "fault 60\n", 3),
-        ("0 1 0 0\n1 1 0 0", 100, "", "", 0),
+        (ROWS, 100, TURNS, "", 0u8),
+        (ROWS, 53, TURNS, "", 0),
+        (ROWS, 52, CUT, "fault 60\n", 3),
+        (ROWS, 11, "1 1 0 idle\n", "fault 60\n", 3),
+        (ROWS, 5, "1 1 0", "fault 60\n", 3),
+        (ROWS, 0, "", "fault 60\n", 3),
+        (
+            "0 1 0 0\n1 1 0 0",
+            100,
+            "1 0 0 pass(1)\n1 1 0 pass(0)\n",
+            "",
+            0,
+        ),
         ("1 7 0 0\n", 100, "7 1 0 idle\n", "", 0),
         ("1 1001 0 0\n", 100, "", "", 0),
         ("", 100, "", "", 0),
         ("1 0 0 0\n", 100, "", "refused 27 at 1\n", 1),
-        ("1 1 1 0\n", 100, "", "refused 28 at 1\n", 1),
+        ("0 1 1 0\n", 100, "", "refused 28 at 1\n", 1),
         ("0 1 0\n", 100, "", "refused 29 at 1\n", 1),
         ("2 1 0 0\n", 100, "", "refused 30 at 1\n", 1),
         (
@@ -143,23 +197,40 @@ fn tables_are_run_or_refused(rt: HostRuntime) {
         ("2 0 1 0\n\n", 100, "", "refused 29 at 2\n", 1),
     ];
     for (table, room, printed, said, status) in rows {
-        let files = OneFile {
-            name: "table",
-            bytes: table.as_bytes(),
-        };
-        let words = ["first", "table"];
-        assert_serves_narrow(&rt, &words, &files, room, printed, said, status);
+        let files = ring_with(table);
+        assert_serves_narrow(&rt, &RUN, &files, room, printed, said, status);
+    }
+}
+
+#[test]
+fn options_of_a_run(rt: HostRuntime) {
+    let files = ring_with(ROWS);
+    let passes = "2 0 0 pass(1)\n3 1 1 pass(0)\n4 0 1 pass(1)\n";
+    let rows: [(&[&str], &str); 5] = [
+        (&["run", "source", "--table", "table"], TURNS),
+        (&["run", "source", "--table", "table", "--trace"], passes),
+        (
+            &["run", "source", "--table=table", "--ticks", "1"],
+            "1 1 0 idle\n",
+        ),
+        (&["run", "source", "--table=table", "--ticks", "0"], ""),
+        (&["run", "source", "--ticks", "0"], ""),
+    ];
+    for (words, printed) in rows {
+        assert_serves(&rt, words, &files, printed, "", 0);
     }
 }
 
 #[test]
 fn files_that_are_missing(rt: HostRuntime) {
-    let files = OneFile {
-        name: "table",
-        bytes: b"0 1 0 0",
-    };
-    for command in ["first", "print"] {
-        assert_serves(&rt, &[command, "missing"], &files, "", "fault 63\n", 3);
+    let files = ring_with(ROWS);
+    let rows: [&[&str]; 3] = [
+        &["run", "missing"],
+        &["run", "source", "--table", "missing"],
+        &["print", "missing"],
+    ];
+    for words in rows {
+        assert_serves(&rt, words, &files, "", "fault 63\n", 3);
     }
 }
 
@@ -172,10 +243,10 @@ fn assert_has(rt: &impl Abort, text: &str, part: &str) {
 }
 
 // Words that are wrong are said to be so, and help is printed; a part of what is written.
-fn assert_speaks(
-    rt: &(impl Abort + AllocGlobal),
+fn assert_speaks<R: Abort + AllocGlobal + Threads + Wait + Sync>(
+    rt: &R,
     all: &[&str],
-    files: &OneFile,
+    files: &TwoFiles,
     status: u8,
     part: &str,
 ) {
@@ -190,18 +261,18 @@ fn assert_speaks(
 
 #[test]
 fn wrong_words_and_help(rt: HostRuntime) {
-    let files = OneFile {
-        name: "table",
-        bytes: b"0 1 0 0",
-    };
-    let rows: [(&[&str], u8, &str); 9] = [
+    let files = ring_with(ROWS);
+    let rows: [(&[&str], u8, &str); 12] = [
         (&[], 2, "Usage: warp <COMMAND>"),
-        (&["first"], 2, "<TABLE>"),
+        (&["run"], 2, "<F>"),
         (&["print"], 2, "<F>"),
-        (&["last", "table"], 2, "last"),
-        (&["first", "table", "table"], 2, "table"),
-        (&["print", "table", "--loud"], 2, "--loud"),
+        (&["first", "table"], 2, "first"),
+        (&["run", "source", "table"], 2, "table"),
+        (&["run", "source", "--workers", "65"], 2, "65"),
+        (&["run", "source", "--budget", "0"], 2, "--budget"),
+        (&["print", "source", "--loud"], 2, "--loud"),
         (&["help"], 0, "Usage: warp <COMMAND>"),
+        (&["help"], 0, "run"),
         (&["--help"], 0, "Usage: warp <COMMAND>"),
         (&["print", "-h"], 0, "print <F>"),
     ];
@@ -212,10 +283,7 @@ fn wrong_words_and_help(rt: HostRuntime) {
 
 #[test]
 fn help_that_is_cut(rt: HostRuntime) {
-    let files = OneFile {
-        name: "table",
-        bytes: b"0 1 0 0",
-    };
+    let files = ring_with(ROWS);
     let held = Vec::new(rt.alloc());
     let mut out = Counted::new(Narrow { held, room: 5 });
     let mut err = Counted::new(Vec::new(rt.alloc()));
@@ -225,9 +293,6 @@ fn help_that_is_cut(rt: HostRuntime) {
     assert_eq!(rt; out.into_inner().held.len(), 5);
 }
 
-const RING_SOURCE: &str =
-    "type Id = 0..1\nautomaton Node(me: Id, nx: Id, first: Bool)\nsignature\ninput pass(const me)\noutput pass(const nx)\nstates has: Bool := first\ntransitions\ninput pass(const me)\neff has := true\noutput pass(const nx)\npre has\neff has := false\ntasks { pass }\nautomaton Ring\ncomponents a: Node(0, 1, true); b: Node(1, 0, false)\n";
-
 #[test]
 fn sources_are_printed_or_refused(rt: HostRuntime) {
     let counter =
@@ -235,7 +300,7 @@ fn sources_are_printed_or_refused(rt: HostRuntime) {
     let ten_lines =
         "automaton C\nsignature\ninternal up\nstates n: Int := 9223372036854775807\ntransitions\ninternal up\neff n := n + 1\ntasks { up }\nautomaton S\ncomponents c: C\n";
     let rows: [(&[u8], usize, &str, &str, u8); 6] = [
-        (RING_SOURCE.as_bytes(), 1000, RING_SOURCE, "", 0),
+        (RING.as_bytes(), 1000, RING, "", 0),
         (counter.as_bytes(), 1000, ten_lines, "", 0),
         (counter.as_bytes(), 5, "autom", "fault 60\n", 3),
         (counter.as_bytes(), 0, "", "fault 60\n", 3),
@@ -249,10 +314,7 @@ fn sources_are_printed_or_refused(rt: HostRuntime) {
         (b"typ\xc8 A = 0..1", 1000, "", "refused 2 at 3\n", 1),
     ];
     for (source, room, printed, said, status) in rows {
-        let files = OneFile {
-            name: "source",
-            bytes: source,
-        };
+        let files = alone(source);
         let words = ["print", "source"];
         assert_serves_narrow(&rt, &words, &files, room, printed, said, status);
     }
@@ -262,11 +324,11 @@ fn sources_are_printed_or_refused(rt: HostRuntime) {
 fn the_limit_of_a_source(rt: HostRuntime) {
     // Blanks up to the limit of 65,536 bytes, and one more.
     let mut bytes = Vec::new(rt.alloc());
-    extend(&rt, &mut bytes, RING_SOURCE.as_bytes());
+    extend(&rt, &mut bytes, RING.as_bytes());
     for _k in bytes.len()..65_536 {
         extend(&rt, &mut bytes, b" ");
     }
-    assert_source(&rt, bytes.as_slice(), RING_SOURCE, "", 0);
+    assert_source(&rt, bytes.as_slice(), RING, "", 0);
     extend(&rt, &mut bytes, b" ");
     assert_source(&rt, bytes.as_slice(), "", "refused 5\n", 1);
 }
@@ -277,17 +339,14 @@ fn extend(rt: &impl Abort, bytes: &mut Vec<u8>, more: &[u8]) {
         .expect(rt, "memory for more bytes");
 }
 
-fn assert_source(
-    rt: &(impl Abort + AllocGlobal),
+fn assert_source<R: Abort + AllocGlobal + Threads + Wait + Sync>(
+    rt: &R,
     bytes: &[u8],
     printed: &str,
     said: &str,
     status: u8,
 ) {
-    let files = OneFile {
-        name: "source",
-        bytes,
-    };
+    let files = alone(bytes);
     assert_serves(rt, &["print", "source"], &files, printed, said, status);
 }
 
@@ -304,10 +363,16 @@ fn the_limit_of_a_table(rt: HostRuntime) {
 }
 
 // A table of which nothing is printed.
-fn assert_table(rt: &(impl Abort + AllocGlobal), bytes: &[u8], said: &str, status: u8) {
-    let files = OneFile {
-        name: "table",
-        bytes,
+fn assert_table<R: Abort + AllocGlobal + Threads + Wait + Sync>(
+    rt: &R,
+    bytes: &[u8],
+    said: &str,
+    status: u8,
+) {
+    let files = TwoFiles {
+        source: RING.as_bytes(),
+        table: bytes,
     };
-    assert_serves(rt, &["first", "table"], &files, "", said, status);
+    let words = ["run", "source", "--table", "table", "--ticks", "0"];
+    assert_serves(rt, &words, &files, "", said, status);
 }

@@ -1,6 +1,6 @@
 //! What is asked for, by hand.
 
-use command_line::{Asked, Options, Refused, read_words};
+use command_line::{Asked, Crew, Options, Refused, read_words};
 use std::alloc::Global;
 use std::test::Fail;
 
@@ -37,8 +37,36 @@ fn a_subcommand_and_its_file(rt: HostRuntime) -> Result<(), Fail> {
     let rows: [(&[&str], Asked); 6] = [
         (&["print", "ring.ioa"], Asked::Print { source: "ring.ioa" }),
         (&["print", "--", "-x"], Asked::Print { source: "-x" }),
-        (&["first", "a.table"], Asked::First { table: "a.table" }),
-        (&["first", ""], Asked::First { table: "" }),
+        (
+            &["run", "ring.ioa"],
+            Asked::Run {
+                source: "ring.ioa",
+                options: PLAIN,
+                crew: Crew {
+                    workers: 2,
+                    budget: 64,
+                },
+            },
+        ),
+        (
+            &[
+                "run",
+                "--workers=64",
+                "",
+                "--seed",
+                "7",
+                "--budget",
+                "65535",
+            ],
+            Asked::Run {
+                source: "",
+                options: Options { seed: 7, ..PLAIN },
+                crew: Crew {
+                    workers: 64,
+                    budget: 65_535,
+                },
+            },
+        ),
         (
             &["drive", "ring.ioa", "ring.steps"],
             Asked::Drive {
@@ -73,17 +101,21 @@ fn a_subcommand_and_its_file(rt: HostRuntime) -> Result<(), Fail> {
 #[test]
 fn other_words_are_refused(rt: HostRuntime) -> Result<(), Fail> {
     let alloc = rt.alloc();
-    let rows: [&[&str]; 13] = [
+    let rows: [&[&str]; 17] = [
         &[],
         &["print"],
-        &["first"],
+        &["run"],
+        &["first", "a"],
         &["print", "a", "b"],
         &["print", "-x"],
         &["last", "a"],
         &["Print", "a"],
         &["--version"],
         &["print", "--seed", "1", "a"],
-        &["print", "a", "first", "b"],
+        &["print", "a", "run", "b"],
+        &["run", "a", "--workers", "0"],
+        &["run", "a", "--budget", "65536"],
+        &["reference", "a", "--workers", "2"],
         &["--", "print", "a"],
         &["drive", "a"],
         &["drive", "a", "b", "--gap", "0"],
@@ -123,6 +155,6 @@ fn the_texts(rt: HostRuntime) -> Result<(), Fail> {
     let text = format!(in alloc; "{error}")?;
     assert!(rt; text.as_str().contains("Usage: warp <COMMAND>"), "{text}");
     assert!(rt; text.as_str().contains("print"), "{text}");
-    assert!(rt; !text.as_str().contains("first"), "{text}");
+    assert!(rt; text.as_str().contains("run"), "{text}");
     Ok(())
 }

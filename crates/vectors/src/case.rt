@@ -7,8 +7,22 @@ use serde_json::{Error, Value};
 use service::serve::serve;
 use service::{FileFault, Files};
 use std::alloc::{AllocError, Global};
+use std::sync::Wait;
+use std::thread::Threads;
 use terms::Refusal;
 use trace::Counted;
+
+// The numbers of workers and the budgets with which each run that is done to its end has to come out the same.
+const CREWS: [(&str, &str); 8] = [
+    ("1", "1"),
+    ("1", "64"),
+    ("2", "1"),
+    ("2", "64"),
+    ("3", "1"),
+    ("3", "64"),
+    ("8", "1"),
+    ("8", "64"),
+];
 
 /// A case, read from its line.
 #[derive(Drop)]
@@ -55,14 +69,18 @@ impl Case {
         Ok(Case { value })
     }
 
-    /// Whether it comes out as it should.
-    pub fn comes_out(&self, alloc: Global) -> Result<bool, AllocError> {
+    /// Whether it comes out as it should. Where workers are asked for it may wait.
+    pub fn comes_out<R: Threads + Wait + Sync>(
+        &self,
+        rt: &R,
+        alloc: Global,
+    ) -> Result<bool, AllocError> {
         if let Some(source) = self.value.get("source").and_then(Value::as_str) {
             return self.is_checked(alloc, source);
         }
         match self.value.get("composed").and_then(Value::as_str) {
             Some(source) => self.is_composed(alloc, source),
-            None => self.is_served(alloc),
+            None => self.is_served(rt, alloc),
         }
     }
 
@@ -103,21 +121,51 @@ impl Case {
         wanted == Some(u64::from(number)) && wanted_place == place.map(|place| place as u64)
     }
 
-    // Whether the service answers with the wanted status and texts.
-    fn is_served(&self, alloc: Global) -> Result<bool, AllocError> {
+    // Whether the service answers with the wanted status and texts: to the words of the case, and to a run with every other crew.
+    fn is_served<R: Threads + Wait + Sync>(
+        &self,
+        rt: &R,
+        alloc: Global,
+    ) -> Result<bool, AllocError> {
         let words = self.words(alloc)?;
+        if !self.is_answered(rt, alloc, words.as_slice())? {
+            return Ok(false);
+        }
+        if !self.is_done_run(words.as_slice()) {
+            return Ok(true);
+        }
+        for (workers, budget) in CREWS {
+            let crewed = with_crew(alloc, words.as_slice(), workers, budget)?;
+            if !self.is_answered(rt, alloc, crewed.as_slice())? {
+                return Ok(false);
+            }
+        }
+        Ok(true)
+    }
+
+    fn is_answered<R: Threads + Wait + Sync>(
+        &self,
+        rt: &R,
+        alloc: Global,
+        words: &[String],
+    ) -> Result<bool, AllocError> {
         let Some(files) = self.value.get("files") else {
             return Ok(false);
         };
         let files = CaseFiles { files };
         let mut out = Counted::new(Vec::new(alloc));
         let mut err = Counted::new(Vec::new(alloc));
-        let status = serve(alloc, words.as_slice(), &files, &mut out, &mut err);
+        let status = serve(rt, alloc, words, &files, &mut out, &mut err);
         let status_is_right = self.value.get("status").and_then(Value::as_u64)
             == Some(u64::from(status));
         let out_is_right = self.has_text(alloc, "stdout", out.into_inner().as_slice())?;
         let err_is_right = self.has_text(alloc, "stderr", err.into_inner().as_slice())?;
         Ok(status_is_right && out_is_right && err_is_right)
+    }
+
+    fn is_done_run(&self, words: &[String]) -> bool {
+        let status = self.value.get("status").and_then(Value::as_u64);
+        status == Some(0) && words.first().is_some_and(|word| word.as_str() == "run")
     }
 
     fn words(&self, alloc: Global) -> Result<Vec<String>, AllocError> {
@@ -140,4 +188,29 @@ impl Case {
         let wanted = bytes_of(alloc, wanted)?;
         Ok(wanted.as_slice() == bytes)
     }
+}
+
+// The words of a run with another crew. The options stand before the others, since one after `--` would be a file.
+fn with_crew(
+    alloc: Global,
+    words: &[String],
+    workers: &str,
+    budget: &str,
+) -> Result<Vec<String>, AllocError> {
+    let mut crewed = Vec::new(alloc);
+    for word in ["run", "--workers", workers, "--budget", budget] {
+        crewed.push(String::from_str(alloc, word)?)?;
+    }
+    let mut is_value = false;
+    for word in words.iter().skip(1) {
+        let word = word.as_str();
+        if is_value {
+            is_value = false;
+        } else if word == "--workers" || word == "--budget" {
+            is_value = true;
+        } else if !word.starts_with("--workers=") && !word.starts_with("--budget=") {
+            crewed.push(String::from_str(alloc, word)?)?;
+        }
+    }
+    Ok(crewed)
 }

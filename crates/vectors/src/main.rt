@@ -12,6 +12,8 @@ mod case;
 use crate::case::Case;
 use std::alloc::Global;
 use std::process::ExitCode;
+use std::sync::Wait;
+use std::thread::Threads;
 use std::{env, fs};
 
 /// How many cases came out as they should, and how many didn't.
@@ -30,7 +32,7 @@ fn main(rt: HostRuntime) -> anyhow::Result<ExitCode> {
     for name in env::args(&rt)?.skip(1) {
         let text = fs::read_to_string(&rt, name.as_str())?;
         for (number, line) in text.as_str().lines().enumerate() {
-            if has_passed(alloc, line)? {
+            if has_passed(&rt, alloc, line)? {
                 count.passed = count.passed.saturating_add(1);
             } else {
                 count.failed = count.failed.saturating_add(1);
@@ -42,7 +44,7 @@ fn main(rt: HostRuntime) -> anyhow::Result<ExitCode> {
     Ok(ExitCode::from(if count.failed == 0 { 0 } else { 1 }))
 }
 
-fn has_passed(alloc: Global, line: &str) -> anyhow::Result<bool> {
+fn has_passed<R: Threads + Wait + Sync>(rt: &R, alloc: Global, line: &str) -> anyhow::Result<bool> {
     let case = Case::read(alloc, line)?;
-    Ok(case.comes_out(alloc)?)
+    Ok(case.comes_out(rt, alloc)?)
 }

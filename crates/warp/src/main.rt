@@ -20,7 +20,7 @@ fn main(rt: HostRuntime) -> io::Result<ExitCode> {
     let files = MachineFiles::new(&rt);
     let mut out = Counted::new(BufWriter::new(alloc, rt.stdout())?);
     let mut err = Counted::new(rt.stderr());
-    let status = serve(alloc, words.as_slice(), &files, &mut out, &mut err);
+    let status = serve(&rt, alloc, words.as_slice(), &files, &mut out, &mut err);
     Ok(ExitCode::from(flush(status, &mut out, &mut err)))
 }
 

@@ -5,6 +5,7 @@ mod crew;
 pub mod fault;
 pub mod gate;
 pub mod laws;
+mod lead;
 pub mod places;
 pub mod pool;
 pub mod rule;

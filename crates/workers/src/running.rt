@@ -14,6 +14,7 @@ use crate::crew::Worker;
 use crate::fault::{RunFault, WorkFault};
 use crate::gate::Gate;
 use crate::laws::distinct_numbers_law;
+use crate::lead::Lead;
 use crate::places::{Pass, Pool};
 use crate::shared::{Shared, end, note};
 use crate::working::work;
@@ -90,6 +91,7 @@ fn start<T: Turns, R: Wait>(
     ensures seat { IfOk result (λ begun. IsSeatOf begun.shared.published begun.seat) }
 {
     let (exchange, leases) = start_exchange(alloc, setup)?;
+    let leads = all_leads(alloc, leases.len())?;
     let (pool, passes) = Pool::new(rt, alloc, leases, workers)?;
     let (published, mut seats) = Published::new(alloc, workers + 1)?;
     let Some(seat) = seats.pop() else {
@@ -102,8 +104,18 @@ fn start<T: Turns, R: Wait>(
         ends: AtomicBool::new(false),
         pool,
         published,
+        leads,
     };
     Ok(Begun { shared, crew, seat })
+}
+
+// A lead for each component.
+fn all_leads(alloc: Global, count: usize) -> Result<Vec<Lead>, NoMemory> {
+    let mut leads = Vec::new(alloc);
+    for _ in 0..count {
+        leads.push(Lead::new())?;
+    }
+    Ok(leads)
 }
 
 // The exchange of a setup at its start, with its leases, of which no two have one number.

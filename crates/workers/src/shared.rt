@@ -1,6 +1,7 @@
 //! What the threads of a run share.
 
 use crate::fault::WorkFault;
+use crate::lead::Lead;
 use crate::places::Pool;
 use exchange::{Exchange, Lease};
 use gvt::Published;
@@ -8,7 +9,8 @@ use std::sync::atomic::{AtomicBool, Ordering};
 use std::sync::{Mutex, Wait};
 use task_seed::Turns;
 
-// The exchange under its lock, the first fault, whether a worker has ended, the leases that wait for a worker, and the count of committed turns.
+// The exchange under its lock, the first fault, whether a worker has ended, the leases that wait for a worker, the count of committed turns, and
+// of each component how far it is ahead.
 #[derive(Drop)]
 pub(crate) struct Shared<T: Turns> {
     pub(crate) exchange: Mutex<Exchange<T>>,
@@ -16,6 +18,7 @@ pub(crate) struct Shared<T: Turns> {
     pub(crate) ends: AtomicBool,
     pub(crate) pool: Pool<Lease<T>>,
     pub(crate) published: Published,
+    pub(crate) leads: Vec<Lead>,
 }
 
 // Whether a worker has ended, or is to end: the exchange has finished, or a fault was noted.

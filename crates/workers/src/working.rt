@@ -66,7 +66,8 @@ fn work_on<T: Turns, G: Gate<T>, R: Wait>(
     let goes_on = match meet(rt, shared, &mut lease) {
         Ok(committed) => {
             shared.published.publish(&mut worker.seat, committed.count);
-            !committed.is_last && advance(rt, alloc, shared, gate, &mut lease, budget)
+            let allowed = allowed(shared, &lease, committed.count, budget);
+            !committed.is_last && advance(rt, alloc, shared, gate, &mut lease, allowed)
         }
         Err(refused) => {
             note(rt, shared, WorkFault::Meeting(refused));
@@ -92,6 +93,14 @@ fn meet<T: Turns, R: Wait>(
     Ok(Committed { count, is_last })
 }
 
+// How many entries a lease may run ahead now, where so many turns are committed.
+fn allowed<T: Turns>(shared: &Shared<T>, lease: &Lease<T>, count: u64, budget: u32) -> u32 {
+    match shared.leads.get(usize::from(lease.number())) {
+        Some(lead) => lead.allowed(count, shared.leads.len(), budget),
+        None => budget,
+    }
+}
+
 // Without the lock: a lease delivers what came to it, and runs ahead as the gate lets it. False where memory was refused, which is noted.
 fn advance<T: Turns, G: Gate<T>, R: Wait>(
     rt: &R,
@@ -105,7 +114,12 @@ fn advance<T: Turns, G: Gate<T>, R: Wait>(
 {
     lease.settle();
     match gate.ahead(alloc, lease, budget) {
-        Ok(_) => true,
+        Ok(entries) => {
+            if let Some(lead) = shared.leads.get(usize::from(lease.number())) {
+                lead.ran(entries);
+            }
+            true
+        }
         Err(_refused) => {
             note(rt, shared, WorkFault::NoMemory);
             false

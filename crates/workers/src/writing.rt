@@ -23,6 +23,9 @@ use task_seed::laws::equal_setup_law;
 use task_seed::{Setup, Turns};
 use trace::{Counted, Lines, WriteFault, append_turns};
 
+// How often other threads are let go at most between two looks at the exchange.
+const MOST_PAUSE: u32 = 256;
+
 // Turns that no chunk has given before, how many were given before them and with them, and whether they are the last ones.
 #[derive(Drop)]
 pub(crate) struct Portion {
@@ -97,6 +100,14 @@ fn put_portion<W: Write>(
     append_turns(plan, turns.iter(), lines, before, out)
 }
 
+// Lets other threads go before the lock is taken in vain once more, so many times; the answer is how often next time.
+fn rest(pause: u32) -> u32 {
+    for _ in 0..pause {
+        thread::yield_now();
+    }
+    pause.saturating_mul(2).min(MOST_PAUSE)
+}
+
 // Writes portions until the last. What was written is a beginning of the text of all turns.
 pub(crate) fn write_all<T: Turns, W: Write, R: Wait>(
     rt: &R,
@@ -112,6 +123,7 @@ pub(crate) fn write_all<T: Turns, W: Write, R: Wait>(
 {
     let mut written = 0;
     let mut bytes = 0;
+    let mut pause = 1;
     for _ in rt.forever() {
         let portion = match next_portion(rt, shared, own, seat, written) {
             Ok(Some(portion)) => portion,
@@ -128,11 +140,15 @@ pub(crate) fn write_all<T: Turns, W: Write, R: Wait>(
             Ok(after) => bytes = after,
             Err(fault) => return Err(RunFault::Write(fault)),
         }
+        pause = if portion.given == written {
+            rest(pause)
+        } else {
+            1
+        };
         written = portion.given;
         if portion.is_last {
             return Ok(Summary { turns: written });
         }
-        thread::yield_now();
     }
     unreachable!()
 }

@@ -1,9 +1,6 @@
 use Rattle.std.proofs.Common.{subst}
 use Rattle.sources.specs.Composed.{IsComposed}
-use Rattle.service.proofs.Reporting.{no_plan, plan_found}
-use Rattle.sources.specs.Composed.{IsRefused}
-use Rattle.sources.specs.Refusals.{source_number, source_place}
-use Rattle.service.specs.Compositions.{HasNoPlan}
+use Rattle.service.proofs.Reporting.{plan_found}
 use Rattle.service.proofs.simulation.plan_of.Goals as goal
 
 pub returns-in-Ok-compose_source-clause-ok : goal.returns-in-Ok-compose_source-clause-ok

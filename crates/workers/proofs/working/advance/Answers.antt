@@ -3,8 +3,13 @@ use Rattle.rollback.specs.Held.{machine_of}
 use Rattle.workers.proofs.Settled.{number_stays}
 use Rattle.workers.proofs.working.advance.Goals as goal
 
-pub returns-in-Ok : goal.returns-in-Ok
-returns-in-Ok g c =
+pub returns-in-Some : goal.returns-in-Some
+returns-in-Some g c =
+    let lease = c.args.lease.now in
+    c.ahead.ensures.same.number ∙ number_stays (machine_of g.T.Turns.turn_of lease.component.setup) lease lease.tray c.settle.new.self c.settle.ensures.delivered
+
+pub returns-in_default : goal.returns-in_default
+returns-in_default g c =
     let lease = c.args.lease.now in
     c.ahead.ensures.same.number ∙ number_stays (machine_of g.T.Turns.turn_of lease.component.setup) lease lease.tray c.settle.new.self c.settle.ensures.delivered
 
