@@ -43,21 +43,33 @@ fn assert_both(rt: &impl Abort, first: &Held, second: &Held) {
     assert!(rt; numbers == (0, 1) || numbers == (1, 0));
 }
 
+// Both passes take a lease, there is no third, and both give theirs back.
+fn take_both<R: Wait + Abort>(
+    rt: &R,
+    pool: &Pool<Held>,
+    one: &mut Pass<Held>,
+    two: &mut Pass<Held>,
+)
+    requires { IsOf pool.now one.old × IsOf pool.now two.old }
+    ensures { IsOf pool.now one.new × IsOf pool.now two.new }
+{
+    let first = take(rt, pool, one);
+    let second = take(rt, pool, two);
+    assert_both(rt, &first, &second);
+    let None = pool.take(rt, one) else {
+        panic!(rt; "a third lease")
+    };
+    pool.give_back(rt, one, first);
+    pool.give_back(rt, two, second);
+}
+
 #[test]
 fn each_lease_is_in_one_place(rt: HostRuntime) -> Result<(), Fail> {
     let (pool, mut passes) = Pool::new(&rt, rt.alloc(), leases(rt.alloc())?, 2)?;
     let (Some(mut one), Some(mut two)) = (passes.pop(), passes.pop()) else {
         panic!(rt; "two passes are wanted")
     };
-    for _ in 0..2 {
-        let first = take(&rt, &pool, &mut one);
-        let second = take(&rt, &pool, &mut two);
-        assert_both(&rt, &first, &second);
-        if pool.take(&rt, &mut one).is_some() {
-            panic!(rt; "a third lease")
-        }
-        pool.give_back(&rt, &mut one, first);
-        pool.give_back(&rt, &mut two, second);
-    }
+    take_both(&rt, &pool, &mut one, &mut two);
+    take_both(&rt, &pool, &mut one, &mut two);
     Ok(())
 }
