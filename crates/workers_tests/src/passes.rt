@@ -44,12 +44,7 @@ fn assert_both(rt: &impl Abort, first: &Held, second: &Held) {
 }
 
 // Both passes take a lease, there is no third, and both give theirs back.
-fn take_both<R: Wait + Abort>(
-    rt: &R,
-    pool: &Pool<Held>,
-    one: &mut Pass<Held>,
-    two: &mut Pass<Held>,
-)
+fn take_both<R: Wait + Abort>(rt: &R, pool: &Pool<Held>, one: &mut Pass<Held>, two: &mut Pass<Held>)
     requires { IsOf pool.now one.old × IsOf pool.now two.old }
     ensures { IsOf pool.now one.new × IsOf pool.now two.new }
 {
