@@ -8,6 +8,7 @@ use Rattle.event_keys.specs.declared.message.Sign.TheVariants.{Plus, Minus}
 use Rattle.event_keys.specs.declared.outcome.Turned.{Turned}
 use Rattle.event_keys.specs.declared.key.Key.{Key}
 use Rattle.event_keys.specs.Ranks.{rank, rank_of_bound}
+use Rattle.raw_events.specs.Around.{is_nonempty}
 use Rattle.antimessage.specs.Bags.{least_of}
 use Rattle.antimessage.specs.Counts.{Each}
 use Rattle.antimessage.specs.Order.{IsInOrder}
@@ -66,6 +67,11 @@ pub record IsShared {P : Type 0} (s : System) (e : Shared P) : Type 0 where
   pub sound : IsSound (machine s) (length s.composition) (exchange_of (machine s) e)
   pub many : length e.stubs ≡ length s.composition
   pub stubs : (j : ℕ) (stub : Stub) → slice_get e.stubs j ≡ Some stub → IsStub s (rank_of_bound e.bound) j stub
+
+-- messages wait in the inbox of the stub, if there is one
+abbrev pub has_mail : Option Stub → Bool
+has_mail None = false
+has_mail (Some stub) = is_nonempty stub.inbox
 
 -- the earlier of two bounds
 abbrev pub earlier : Bound → Bound → Bound

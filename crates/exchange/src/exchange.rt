@@ -17,7 +17,7 @@ ghost use Rattle.rollback.specs.Held.{machine_of};
 ghost use Rattle.gvt.specs.Least.{IsLeast};
 ghost use Rattle.exchange.specs.declared.stub.Stub.{Stub as StubValue};
 ghost use Rattle.exchange.specs.Core.{Leads};
-ghost use Rattle.exchange.specs.Shared.{exchange_of, clear_until, is_end, is_ended, passing, IsPassing, IsShared};
+ghost use Rattle.exchange.specs.Shared.{exchange_of, clear_until, has_mail, is_end, is_ended, passing, IsPassing, IsShared};
 ghost use Rattle.std.specs.List.{list_all};
 
 use crate::stub::Stub;
@@ -95,6 +95,16 @@ impl<T: Turns> Exchange<T> {
         ensures { result ≡ self.now.given }
     {
         self.given
+    }
+
+    /// Whether messages wait for a component. For one that there isn't none do.
+    pub fn has_mail(&self, number: u16) -> bool
+        ensures { result ≡ has_mail (slice_get self.now.stubs number) }
+    {
+        match self.stubs.get(usize::from(number)) {
+            None => false,
+            Some(stub) => !stub.inbox.is_empty(),
+        }
     }
 
     /// Whether every base is the end: then all turns that there are lie below the bases.

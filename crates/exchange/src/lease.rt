@@ -75,6 +75,20 @@ impl<T: Turns> Lease<T> {
         self.tray.least()
     }
 
+    /// The least key that it had to do when it last met the exchange: that of its next entry, or of a message in its tray.
+    pub fn floor(&self) -> Bound
+        ensures { result ≡ self.now.floor }
+    {
+        self.floor
+    }
+
+    /// How many entries are done since the base, and can be taken back.
+    pub fn depth(&self) -> usize
+        ensures { result ≡ length self.now.component.history.done }
+    {
+        self.component.depth()
+    }
+
     /// Every lease is sound: its record is proper and grounded, and no key that is next, waits in its tray or is outgoing lies below its floor.
     /// The call does nothing.
     pub fn is_sound(&self)

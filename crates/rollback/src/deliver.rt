@@ -141,8 +141,8 @@ impl<T: Turns> Component<T> {
         count as u64
     }
 
-    // The number of done entries.
-    pub(crate) fn depth(&self) -> usize
+    /// How many entries are done since the base, and can be taken back.
+    pub fn depth(&self) -> usize
         ensures { result ≡ length self.now.history.done }
     {
         self.store.marks()

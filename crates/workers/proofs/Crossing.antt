@@ -17,7 +17,7 @@ use Rattle.exchange.proofs.judging.MeetRefused.TheSendSync as meet_refused
 use Rattle.gvt.proofs.word.Published.TheSendSync as published
 use Rattle.gvt.proofs.word.Seat.TheSendSync as seat
 use Rattle.workers.proofs.places.Pass.TheSendSync as pass
-use Rattle.workers.proofs.lead.Lead.TheSendSync as lead
+use Rattle.workers.proofs.pace.Pace.TheSendSync as pace
 use Rattle.workers.proofs.places.Pool.TheSendSync as pool
 use Rattle.antimessage.proofs.bag.Bag.TheSendSync as bag
 use Rattle.event_keys.proofs.key.Bound.TheSendSync as bound
@@ -67,4 +67,4 @@ module _ (T : RattleType) (g : turns.Ghosts T.Denot) (e : equal.Ghosts T.Denot) 
   Worker-send s y = search (Lease-send, seat.the_field_send, pass.the_field_send, crossing.crosses, value.crosses, effect.crosses, shape.crosses, term.crosses, sendable) depth 60 fits 20000
 
   pub Shared-sync : (q : whole_equal.Ghosts T.Denot) → IsSend T → IsSync T → IsSync (Shared.the_row T g q e)
-  Shared-sync q s y = search (Exchange-send, Lease-send, atomic_bool.the_field_sync, option.the_field_send, option.the_send, mutex.the_sync, meet_refused.the_field_send, published.the_field_sync, arc.the_send, pool.the_field_sync, lead.the_sync, lead.the_field_sync, atomic_count.the_sync, vec.the_sync, crossing.crosses, value.crosses, effect.crosses, shape.crosses, term.crosses, sendable) depth 60 fits 20000
+  Shared-sync q s y = search (Exchange-send, Lease-send, atomic_bool.the_field_sync, option.the_field_send, option.the_send, mutex.the_sync, meet_refused.the_field_send, published.the_field_sync, arc.the_send, pool.the_field_sync, pace.the_sync, pace.the_field_sync, atomic_count.the_sync, vec.the_sync, crossing.crosses, value.crosses, effect.crosses, shape.crosses, term.crosses, sendable) depth 60 fits 20000

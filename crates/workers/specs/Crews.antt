@@ -1,5 +1,5 @@
 -- What a worker has for itself.
-use Rattle.std.specs.Prelude.{ℕ}
+use Rattle.std.specs.Prelude.{ℕ, ◌<◌}
 use Rattle.gvt.specs.Seats.{IsSeatOf}
 use Rattle.gvt.specs.declared.word.Published.{Published}
 use Rattle.exchange.specs.Holding.{Holding}
@@ -7,7 +7,8 @@ use Rattle.task_seed.specs.declared.setup.Setup.{Setup}
 use Rattle.workers.specs.declared.crew.Worker.{Worker}
 use Rattle.workers.specs.declared.places.Pool.{Pool}
 use Rattle.workers.specs.declared.shared.Shared.{Shared}
-use Rattle.workers.specs.Passes.{IsOf as IsOfPool}
+use Rattle.workers.specs.Passes.{holding, IsOf as IsOfPool}
+use Rattle.workers.specs.Places.{times}
 
 module _ {T : Type 0} where
   -- the number of a lease is that of its component
@@ -21,3 +22,7 @@ module _ {T : Type 0} where
   -- the worker is of these threads
   abbrev pub IsOf : Shared T → Worker T → Type 0
   IsOf shared worker = IsOfBoth shared.pool shared.published worker
+
+  -- this lease is out with the worker's pass
+  abbrev pub Holds : Worker T → Holding (Setup T) → Type 0
+  Holds worker lease = 0 < times (number_of lease) (holding worker.pass).held

@@ -1,4 +1,8 @@
 //! What stands between a worker and the lease that it runs ahead.
+ghost use Rattle.std.specs.Prelude.{◌≡◌, ◌≤◌, ◌⊎◌, None, IfOk, OnErr};
+ghost use Rattle.virtual_time.specs.Records.{next_of};
+ghost use Rattle.rollback.specs.Held.{machine_of};
+ghost use Rattle.exchange.specs.Holding.{IsAhead};
 ghost use Rattle.workers.specs.Gates.{StaysItself};
 
 use exchange::Lease;
@@ -7,8 +11,8 @@ use task_seed::{SeedTurns, TableTurns, Turns};
 use terms::NoMemory;
 
 /// What a worker asks before it is started and each time that it runs a lease ahead. A gate may hold a lease up, run fewer entries or none,
-/// or look on; it is called by many workers at once, without the lock round what they share. A gate that holds nothing up has
-/// `lease.run_ahead(alloc, budget)` for its body, as [`Unheld`] has.
+/// or look on; it is called by many workers at once, without the lock round what they share. A gate that holds nothing up calls [`run_ahead`],
+/// as [`Unheld`] does.
 pub trait Gate<T: Turns>: Sync {
     /// Runs a lease ahead by at most `budget` entries, and answers how many. The lease stays that of its component: its number, setup, base,
     /// floor, taken messages and standing sends stay.
@@ -53,13 +57,22 @@ impl Gate<TableTurns> for Unheld {
     }
 }
 
-/// Runs a lease ahead: what the body of a gate's `ahead` does where nothing is held up. It is `Lease::run_ahead`, with what a gate owes.
+/// Runs a lease ahead: what the body of a gate's `ahead` does where nothing is held up. It is `Lease::run_ahead`, with what a gate owes: at most
+/// `budget` entries are done, and answered, fewer where no more are there or where memory is refused.
+///
+/// # Errors
+///
+/// `NoMemory` where memory was refused for the first entry; then the lease hasn't changed.
 pub fn run_ahead<T: Turns>(
     alloc: Global,
     lease: &mut Lease<T>,
     budget: u32,
 ) -> Result<u32, NoMemory>
-    ensures { StaysItself T.turn_of lease.old lease.new }
+    ensures same { StaysItself T.turn_of lease.old lease.new }
+    ensures ahead { IfOk result (λ count. IsAhead (machine_of T.turn_of lease.old.component.setup) lease.old lease.new count) }
+    ensures most { IfOk result (λ count. count ≤ budget) }
+    ensures none { IfOk result (λ count. count ≡ 0 → (budget ≡ 0) ⊎ (next_of (machine_of T.turn_of lease.old.component.setup) lease.old.component.number lease.old.component.history ≡ None)) }
+    ensures kept { OnErr result (lease.new ≡ lease.old) }
 {
     lease.run_ahead(alloc, budget)
 }

@@ -5,7 +5,7 @@ mod crew;
 pub mod fault;
 pub mod gate;
 pub mod laws;
-mod lead;
+mod pace;
 pub mod places;
 pub mod pool;
 pub mod rule;

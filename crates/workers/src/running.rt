@@ -14,7 +14,7 @@ use crate::crew::Worker;
 use crate::fault::{RunFault, WorkFault};
 use crate::gate::Gate;
 use crate::laws::distinct_numbers_law;
-use crate::lead::Lead;
+use crate::pace::Pace;
 use crate::places::{Pass, Pool};
 use crate::shared::{Shared, end, note};
 use crate::working::work;
@@ -65,7 +65,7 @@ pub fn run<T: Turns, W: Write + Drop, G: Gate<T>, R: Threads + Wait + Sync>(
     ensures whole { IfOk result (λ summary. IsWhole (plan_of (arc_value setup)) (system T.turn_of (arc_value setup)) lines (IsWritten W.contents out.old out.new) summary.turns) }
     ensures unfinished { IfErr result (IsUnfinished (plan_of (arc_value setup)) (system T.turn_of (arc_value setup)) lines (IsWritten W.contents out.old out.new) (Stops W.contents out.old out.new 0)) }
 {
-    match start(rt, alloc, &setup, workers) {
+    match start(rt, alloc, &setup, workers, budget) {
         Ok(begun) => run_begun(rt, alloc, &setup, begun, budget, gate, lines, out),
         Err(_refused) => Err(RunFault::NoMemory),
     }
@@ -85,13 +85,14 @@ fn start<T: Turns, R: Wait>(
     alloc: Global,
     setup: &Arc<Setup<T>>,
     workers: u16,
+    budget: u32,
 ) -> Result<Begun<T>, NoMemory>
     requires workers { (1 ≤ workers) × (workers ≤ 64) }
     ensures crew { IfOk result (λ begun. All (IsOf begun.shared) begun.crew.items) }
     ensures seat { IfOk result (λ begun. IsSeatOf begun.shared.published begun.seat) }
 {
     let (exchange, leases) = start_exchange(alloc, setup)?;
-    let leads = all_leads(alloc, leases.len())?;
+    let paces = all_paces(alloc, leases.len(), budget)?;
     let (pool, passes) = Pool::new(rt, alloc, leases, workers)?;
     let (published, mut seats) = Published::new(alloc, workers + 1)?;
     let Some(seat) = seats.pop() else {
@@ -104,18 +105,18 @@ fn start<T: Turns, R: Wait>(
         ends: AtomicBool::new(false),
         pool,
         published,
-        leads,
+        paces,
     };
     Ok(Begun { shared, crew, seat })
 }
 
-// A lead for each component.
-fn all_leads(alloc: Global, count: usize) -> Result<Vec<Lead>, NoMemory> {
-    let mut leads = Vec::new(alloc);
+// A pace for each component.
+fn all_paces(alloc: Global, count: usize, budget: u32) -> Result<Vec<Pace>, NoMemory> {
+    let mut paces = Vec::new(alloc);
     for _ in 0..count {
-        leads.push(Lead::new())?;
+        paces.push(Pace::new(budget))?;
     }
-    Ok(leads)
+    Ok(paces)
 }
 
 // The exchange of a setup at its start, with its leases, of which no two have one number.

@@ -1,16 +1,19 @@
 //! What the threads of a run share.
 
 use crate::fault::WorkFault;
-use crate::lead::Lead;
+use crate::pace::Pace;
 use crate::places::Pool;
+use crossbeam_utils::Backoff;
 use exchange::{Exchange, Lease};
 use gvt::Published;
 use std::sync::atomic::{AtomicBool, Ordering};
-use std::sync::{Mutex, Wait};
+use std::sync::{Mutex, MutexGuard, Wait};
+use std::thread::Parker;
+use std::time::Duration;
 use task_seed::Turns;
 
 // The exchange under its lock, the first fault, whether a worker has ended, the leases that wait for a worker, the count of committed turns, and
-// of each component how far it is ahead.
+// of each component how far it may be ahead.
 #[derive(Drop)]
 pub(crate) struct Shared<T: Turns> {
     pub(crate) exchange: Mutex<Exchange<T>>,
@@ -18,7 +21,27 @@ pub(crate) struct Shared<T: Turns> {
     pub(crate) ends: AtomicBool,
     pub(crate) pool: Pool<Lease<T>>,
     pub(crate) published: Published,
-    pub(crate) leads: Vec<Lead>,
+    pub(crate) paces: Vec<Pace>,
+}
+
+// Waits for the exchange by looking again and again: what is done under the lock is short, and a thread that slept would come late.
+pub(crate) fn hold<'a, T: Turns, R: Wait>(
+    rt: &R,
+    shared: &'a Shared<T>,
+) -> MutexGuard<'a, Exchange<T>> {
+    let backoff = Backoff::new();
+    for _ in rt.forever() {
+        if let Some(exchange) = shared.exchange.try_lock() {
+            return exchange;
+        }
+        backoff.snooze();
+    }
+    unreachable!()
+}
+
+// Sleeps for so many microseconds, where there is nothing to do and a thread that looked again and again would take a processor from one that works.
+pub(crate) fn nap<R: Wait>(rt: &R, micros: u64) {
+    Parker::new().park_timeout(rt, Duration::from_micros(micros));
 }
 
 // Whether a worker has ended, or is to end: the exchange has finished, or a fault was noted.

@@ -10,7 +10,7 @@ ghost use Rattle.workers.specs.Runs.{IsUnfinished, IsWhole};
 
 use crate::fault::{RunFault, WorkFault, run_fault};
 use crate::running::Summary;
-use crate::shared::{Shared, ends, noted};
+use crate::shared::{Shared, ends, hold, nap, noted};
 use event_keys::Turned;
 use exchange::{Exchange, MeetRefused};
 use gvt::Seat;
@@ -18,13 +18,17 @@ use plans::Plan;
 use raw_events::EventList;
 use std::io::Write;
 use std::sync::Wait;
-use std::thread;
 use task_seed::laws::equal_setup_law;
 use task_seed::{Setup, Turns};
 use trace::{Counted, Lines, WriteFault, append_turns};
 
-// How often other threads are let go at most between two looks at the exchange.
-const MOST_PAUSE: u32 = 256;
+// How many microseconds the calling thread sleeps between two looks at what was committed.
+const LEAST_PAUSE: u64 = 10;
+
+const MOST_PAUSE: u64 = 200;
+
+// How many turns are worth a look.
+const MANY_TURNS: u64 = 64;
 
 // Turns that no chunk has given before, how many were given before them and with them, and whether they are the last ones.
 #[derive(Drop)]
@@ -78,7 +82,7 @@ fn next_portion<T: Turns, R: Wait>(
     if let Some(fault) = noted(rt, shared) {
         return Err(fault);
     }
-    let mut exchange = shared.exchange.lock(rt);
+    let mut exchange = hold(rt, shared);
     match take_portion(&mut exchange, own) {
         Ok(portion) => Ok(Some(portion)),
         Err(refused) => Err(WorkFault::Meeting(refused)),
@@ -100,12 +104,20 @@ fn put_portion<W: Write>(
     append_turns(plan, turns.iter(), lines, before, out)
 }
 
-// Lets other threads go before the lock is taken in vain once more, so many times; the answer is how often next time.
-fn rest(pause: u32) -> u32 {
-    for _ in 0..pause {
-        thread::yield_now();
+// Sleeps, unless a worker has ended: then what is left can be had at once.
+fn rest<T: Turns, R: Wait>(rt: &R, shared: &Shared<T>, pause: u64) {
+    if !ends(shared) {
+        nap(rt, pause);
     }
-    pause.saturating_mul(2).min(MOST_PAUSE)
+}
+
+// How long to sleep next time, where so many turns came: longer where they were few.
+fn next_pause(pause: u64, turns: u64) -> u64 {
+    if turns < MANY_TURNS {
+        pause.saturating_mul(2).min(MOST_PAUSE)
+    } else {
+        (pause / 2).max(LEAST_PAUSE)
+    }
 }
 
 // Writes portions until the last. What was written is a beginning of the text of all turns.
@@ -123,12 +135,12 @@ pub(crate) fn write_all<T: Turns, W: Write, R: Wait>(
 {
     let mut written = 0;
     let mut bytes = 0;
-    let mut pause = 1;
+    let mut pause = LEAST_PAUSE;
     for _ in rt.forever() {
         let portion = match next_portion(rt, shared, own, seat, written) {
             Ok(Some(portion)) => portion,
             Ok(None) => {
-                thread::yield_now();
+                rest(rt, shared, pause);
                 continue;
             }
             Err(fault) => return Err(run_fault(fault)),
@@ -140,15 +152,13 @@ pub(crate) fn write_all<T: Turns, W: Write, R: Wait>(
             Ok(after) => bytes = after,
             Err(fault) => return Err(RunFault::Write(fault)),
         }
-        pause = if portion.given == written {
-            rest(pause)
-        } else {
-            1
-        };
+        let turns = portion.given.saturating_sub(written);
         written = portion.given;
         if portion.is_last {
             return Ok(Summary { turns: written });
         }
+        pause = next_pause(pause, turns);
+        rest(rt, shared, pause);
     }
     unreachable!()
 }
