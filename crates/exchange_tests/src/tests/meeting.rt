@@ -159,3 +159,37 @@ fn a_fresh_lease_is_known_at_the_start_and_a_stranger_later(rt: HostRuntime) {
     );
     assert_met(&rt, &mut exchange, &mut first, at(2, 0, 0));
 }
+
+// Where nothing happened, no mail waits, and nothing is done.
+fn assert_untouched(rt: &impl Abort, exchange: &Shared, first: &Held, second: &Held) {
+    for number in 0..3 {
+        assert!(rt; !exchange.has_mail(number));
+    }
+    assert!(rt; first.depth() == 0 && second.depth() == 0);
+}
+
+#[test]
+fn mail_depth_and_floor_are_told(rt: HostRuntime) {
+    let (mut exchange, mut first, mut second) = two_leased(&rt, 4);
+    assert_untouched(&rt, &exchange, &first, &second);
+    run_and_meet(&rt, &mut exchange, &mut first, &mut second);
+    assert!(rt; first.depth() == 1 && first.floor() == at(4, 0, 1));
+    assert!(rt; second.depth() == 2 && second.floor() == at(2, 0, 0));
+    assert_commits(&rt, &mut exchange, 1);
+    // The token takes the turn at tick 3 back, and that at tick 1 is below the bound.
+    assert_settles(&rt, &mut second, 1);
+    assert!(rt; second.depth() == 1);
+    assert_met(&rt, &mut exchange, &mut second, at(2, 0, 0));
+    assert!(rt; second.depth() == 0);
+}
+
+#[test]
+fn mail_waits_until_its_receiver_meets(rt: HostRuntime) {
+    let (mut exchange, mut first, mut second) = two_leased(&rt, 4);
+    assert_ahead(&rt, &mut first, 1);
+    assert!(rt; !exchange.has_mail(1));
+    assert_met(&rt, &mut exchange, &mut first, at(0, 0, 0));
+    assert!(rt; exchange.has_mail(1) && !exchange.has_mail(0));
+    assert_met(&rt, &mut exchange, &mut second, at(0, 0, 0));
+    assert!(rt; !exchange.has_mail(1));
+}
