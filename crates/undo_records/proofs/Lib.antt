@@ -1,4 +1,5 @@
 mod Cells
+mod Covering
 mod Earliest
 mod Likeness
 mod Sameness

@@ -1,5 +1,5 @@
 -- What writes replaced, and how it is put back.
-use Rattle.std.specs.Prelude.{◌≡◌, List, [], ◌∷◌, ◌++◌, slice_set, refl}
+use Rattle.std.specs.Prelude.{◌≡◌, ◌==◌, ◌&&◌, Bool, false, List, [], ◌∷◌, ◌++◌, slice_set, refl}
 use Rattle.std.specs.declared.vec.Vec.{Vec}
 use Rattle.std.proofs.Common.{ap}
 use Rattle.terms.specs.Datum.{Datum}
@@ -29,16 +29,15 @@ pub unwound-append : (changes : List Change) (last : Change) (state : List Datum
 unwound-append [] last state = refl
 unwound-append (change ∷ changes) last state = ap (restored change) (unwound-append changes last state)
 
--- the changes at the newest mark grow by one; with no mark nothing is kept
-abbrev pub noted : Change → List (List Change) → List (List Change)
-noted change [] = []
-noted change (changes ∷ marks) = (changes ++ change ∷ []) ∷ marks
+-- a change replaced all that a later one did: the whole of its variable, or the same item
+abbrev pub covers : Change → Change → Bool
+covers (Cell at old) (Cell cell later) = at == cell
+covers (Cell at old) (Item cell index later) = at == cell
+covers (Item at place old) (Cell cell later) = false
+covers (Item at place old) (Item cell index later) = at == cell && place == index
 
--- below a state in which a noted change is made are the states below the one before it
-pub states_below-noted : (change : Change) (marks : List (List Change)) (state : List Datum) → states_below (noted change marks) state ≡ states_below marks (restored change state)
-states_below-noted change [] state = refl
-states_below-noted change (changes ∷ marks) state =
-    let same = unwound-append changes change state in
-    λ i. same i ∷ states_below marks (same i)
+-- what was written since each mark takes in one more change: going back from a state now is going back from the one before that change
+abbrev pub IsNoted : Change → List (List Change) → List (List Change) → Type 0
+IsNoted change old new = (state : List Datum) → states_below new state ≡ states_below old (restored change state)
 
 pub ruleset unwound_more = (unwound-append)

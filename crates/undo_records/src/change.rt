@@ -1,4 +1,7 @@
 //! What a write replaced.
+ghost use Rattle.std.specs.Prelude.{◌≡◌, true, List};
+ghost use Rattle.terms.specs.Datum.{Datum};
+ghost use Rattle.undo_records.specs.Changes.{covers, restored, unwound};
 
 use terms::Value;
 
@@ -7,4 +10,39 @@ use terms::Value;
 pub(crate) enum Change {
     Cell(usize, Value),
     Item(usize, usize, Value),
+}
+
+// How many changes back a covered one is looked for: a loop writes few places in turn, and a write has to stay cheap.
+const RECENT: usize = 8;
+
+impl Change {
+    // Whether it replaced all that a later change did.
+    fn covers(&self, later: &Change) -> bool
+        ensures { result ≡ covers self.now later.now }
+    {
+        match self {
+            Change::Cell(at, _) => match later {
+                Change::Cell(cell, _) => *at == *cell,
+                Change::Item(cell, _, _) => *at == *cell,
+            },
+            Change::Item(at, place, _) => match later {
+                Change::Cell(_, _) => false,
+                Change::Item(cell, index, _) => *at == *cell && *place == *index,
+            },
+        }
+    }
+
+    /// Whether one of the last few changes replaced all that this one did, so that it need not be kept: it is the same whether it
+    /// is put back.
+    pub(crate) fn is_covered(&self, earlier: &[Change]) -> bool
+        ensures { result ≡ true → (state : List Datum) → unwound earlier.now (restored self.now state) ≡ unwound earlier.now state }
+    {
+        let count = earlier.len();
+        for at in count.saturating_sub(RECENT)..count {
+            if earlier[at].covers(self) {
+                return true;
+            }
+        }
+        false
+    }
 }

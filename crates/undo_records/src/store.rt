@@ -1,6 +1,6 @@
 //! A state with marks.
-ghost use Rattle.std.specs.Prelude.{◌≡◌, ◌<◌, ◌+◌, [], ◌∷◌, IfOk, IfErr, OnOk, OnErr, length, map, slice_set};
-ghost use Rattle.undo_records.specs.Changes.{restored, unwound, noted, changes_in};
+ghost use Rattle.std.specs.Prelude.{◌≡◌, ◌<◌, ◌+◌, [], IfOk, IfErr, OnOk, OnErr, length, map, slice_set};
+ghost use Rattle.undo_records.specs.Changes.{restored, unwound, IsNoted, changes_in};
 ghost use Rattle.terms.specs.Shapes.{set_item};
 
 use crate::change::Change;
@@ -12,7 +12,7 @@ use std::mem;
 use terms::{Cells, NoMemory, State, Value};
 
 /// A nonempty list of whole states, the last one current. Kept are the current state and, since each mark, what the
-/// writes replaced, so that no state is copied.
+/// writes replaced, so that no state is copied; a loop that writes few places keeps few records, however often it writes them.
 #[derive(Drop)]
 pub struct Store {
     current: Vec<Value>,
@@ -156,7 +156,7 @@ fn keep(
     marks: &mut VecDeque<Vec<Change>>,
     change: Change,
 ) -> Result<(), NoMemory>
-    ensures ok { OnOk result ((current.new.items ≡ current.old.items) × (map changes_in marks.new.items ≡ noted change (map changes_in marks.old.items))) }
+    ensures ok { OnOk result ((current.new.items ≡ current.old.items) × IsNoted change (map changes_in marks.old.items) (map changes_in marks.new.items)) }
     ensures err { OnErr result ((current.new.items ≡ restored change current.old.items) × (map changes_in marks.new.items ≡ map changes_in marks.old.items)) }
 {
     match note(marks, change) {
@@ -168,17 +168,22 @@ fn keep(
     }
 }
 
-// Notes a change at the newest mark, if there is one.
+// Notes a change at the newest mark, if there is one, and if it isn't covered by what was noted there just before.
 fn note(marks: &mut VecDeque<Vec<Change>>, change: Change) -> Result<(), Change>
-    ensures ok { OnOk result (map changes_in marks.new.items ≡ noted change (map changes_in marks.old.items)) }
+    ensures ok { OnOk result (IsNoted change (map changes_in marks.old.items) (map changes_in marks.new.items)) }
     ensures err { IfErr result (λ back. (back ≡ change) × (map changes_in marks.new.items ≡ map changes_in marks.old.items)) }
 {
     match marks.front_mut() {
         None => Ok(()),
-        Some(changes) => match changes.push(change) {
-            Ok(()) => Ok(()),
-            Err(refused) => Err(refused.value),
-        },
+        Some(changes) => {
+            if change.is_covered(changes.as_slice()) {
+                return Ok(());
+            }
+            match changes.push(change) {
+                Ok(()) => Ok(()),
+                Err(refused) => Err(refused.value),
+            }
+        }
     }
 }
 

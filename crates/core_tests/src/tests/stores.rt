@@ -166,6 +166,38 @@ fn undoes_an_item_of_an_array(rt: HostRuntime) -> Result<(), Fail> {
     Ok(())
 }
 
+// The same places again and again, in turn, as a loop writes them: a number, both items, then the whole array.
+const IN_TURN: [Step; 22] = [
+    Mark,
+    Set(6),
+    Put(1, 1, 7),
+    Set(8),
+    Put(1, 0, 9),
+    Put(1, 1, 3),
+    Set(4),
+    Mark,
+    Put(1, 1, 6),
+    SetTwice(1, 2),
+    Put(1, 1, 5),
+    Put(1, 0, 4),
+    SetTwice(1, 8),
+    Set(9),
+    Set(1),
+    Pair(8, 8),
+    Undo(true),
+    Number(4),
+    Pair(9, 3),
+    Undo(true),
+    Number(5),
+    Pair(1, 2),
+];
+
+#[test]
+fn undoes_what_was_written_again_and_again(rt: HostRuntime) -> Result<(), Fail> {
+    assert!(rt; all_run(rt.alloc(), &IN_TURN)?);
+    Ok(())
+}
+
 #[test]
 fn a_state_takes_an_item(rt: HostRuntime) -> Result<(), Fail> {
     let mut state = mixed(rt.alloc(), START)?;
