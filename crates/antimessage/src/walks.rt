@@ -22,6 +22,9 @@ pub(crate) fn take_next(events: &mut EventList<Signed>) -> Option<EventCell<Sign
 pub(crate) fn rewind(events: &mut EventList<Signed>)
     ensures { events.new ≡ record { before = []; after = reverse events.old.before ++ events.old.after } }
 {
+    if events.peek_last().is_none() {
+        return;
+    }
     let mut rewound = EventList::new();
     rewound.append_all(events);
     *events = rewound;
