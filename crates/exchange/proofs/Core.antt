@@ -2,7 +2,6 @@
 use Rattle.std.proofs.Common.{◌≡◌, ℕ, ◌==◌, ◌⊎◌, inl, inr, Bool, cond, List, [], ◌∷◌, Result, Ok, Err, refl, ap, sym, subst, ◌∙◌}
 use Rattle.std.specs.Prelude.{IfOk, OnErr}
 use Rattle.std.proofs.lemmas.Bool.{eq-eqb, ne_eqb, cases_eq}
-use Rattle.virtual_time.specs.Bags.{times}
 use Rattle.virtual_time.specs.Inverses.{meets_of}
 use Rattle.virtual_time.specs.Machine.{Lawful, Machine}
 use Rattle.virtual_time.specs.Reference.{Turn}
@@ -12,7 +11,7 @@ use Rattle.virtual_time.specs.Exchange.Stubs.{Exchange, IsSound, Stub}
 use Rattle.virtual_time.specs.Exchange.Leases.{Does, IsLease, Lease, Matches, alone, lease_of}
 use Rattle.virtual_time.specs.Exchange.Meetings.{IsChunk, IsCommit, Met}
 use Rattle.virtual_time.specs.Exchange.Wholes.{IsWhole, put_lease}
-use Rattle.exchange.specs.Core.{AreMeetings, Leads, Moves, StandFor, StaysKnown}
+use Rattle.exchange.specs.Core.{AreMeetings, Leads, Moves, StaysKnown}
 
 module _ {S A : Type 0} (m : Machine S A) (law : Lawful m) where
   -- what the theory says of each call

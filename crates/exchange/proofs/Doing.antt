@@ -1,21 +1,19 @@
 -- What a lease does alone: it processes, and what is in its tray comes, one after the other.
-use Rattle.std.proofs.Common.{◌≡◌, ℕ, zero, suc, ◌<◌, ◌+◌, ◌++◌, ◌==◌, ◌⊎◌, inl, inr, cond, true, Option, None, Some, List, [], ◌∷◌, length, refl, ap, sym, subst, ◌∙◌}
+use Rattle.std.proofs.Common.{◌≡◌, ℕ, zero, suc, ◌++◌, ◌==◌, ◌⊎◌, inl, inr, cond, Option, Some, List, [], ◌∷◌, length, refl, ap, sym, subst, ◌∙◌}
 use Rattle.std.specs.Prelude.{replicate}
 use Rattle.std.proofs.lemmas.Bool.{eq-eqb, ne_eqb, cases_eq}
 use Rattle.terms.specs.Datum.{Datum}
 use Rattle.terms.specs.Named.{Named}
-use Rattle.event_keys.specs.declared.message.Sign.{Sign}
 use Rattle.event_keys.specs.declared.message.Sign.TheVariants.{Plus, Minus}
 use Rattle.event_keys.specs.declared.message.Signed.{Signed}
 use Rattle.event_keys.specs.Ranks.{rank_of_bound}
-use Rattle.virtual_time.specs.Bags.{times}
 use Rattle.virtual_time.specs.Machine.{HasCount, Lawful, Machine}
 use Rattle.virtual_time.specs.Entries.{Entry, Item}
 use Rattle.virtual_time.specs.Records.{Processes, Record, after_entry, next_of, sent_all, sent_by}
 use Rattle.virtual_time.specs.Worlds.{Commit, DeliverAntimessage, DeliverMessage, Meet, Process, RollBack, Step, World, process, process_entry, put_back, record_of, same}
 use Rattle.virtual_time.specs.Exchange.Leases.{Does, Lease, alone, lease_after}
 use Rattle.rollback.specs.Flight.{in_flight, item_of}
-use Rattle.rollback.specs.Held.{back_by, comes}
+use Rattle.rollback.specs.Held.{comes}
 use Rattle.exchange.specs.Core.{Moves, StaysKnown, deliveries, delivery}
 use Rattle.exchange.specs.Holding.{AllDelivered, Holding, IsAhead, IsDelivered, IsHolding, lease_of}
 use Rattle.exchange.proofs.Core.{MovesLaw, WorldLaw, own_known, own_moves}

@@ -1,5 +1,5 @@
 -- What workers share, and the exchange of the theory that it is.
-use Rattle.std.specs.Prelude.{◌≡◌, ℕ, ◌<◌, ◌≤◌, Bool, true, false, Option, None, Some, List, [], IfSome, if◌then◌else◌, nat_lt, map, length, slice_get}
+use Rattle.std.specs.Prelude.{◌≡◌, ℕ, ◌<◌, ◌≤◌, Bool, true, false, Option, None, Some, List, IfSome, if◌then◌else◌, nat_lt, length, slice_get}
 use Rattle.terms.specs.Datum.{Datum}
 use Rattle.terms.specs.Named.{Named}
 use Rattle.event_keys.specs.declared.key.Bound.{Bound}

@@ -1,5 +1,6 @@
 //! Whether a lease can meet what workers share.
-ghost use Rattle.std.specs.Prelude.{◌≡◌, ◌==◌, ◌↔◌, true, false, IsOk, IsErrOf, None};
+ghost use Rattle.std.specs.Prelude.{◌≡◌, ◌==◌, ◌↔◌, true, false, IfErr, IsOk, IsErrOf, None};
+ghost use Rattle.task_seed.specs.Setups.{system};
 ghost use Rattle.event_keys.specs.Ranks.{rank_of_bound};
 ghost use Rattle.virtual_time.specs.Exchange.Leases.{Matches};
 ghost use Rattle.rollback.specs.Held.{machine_of};
@@ -83,6 +84,15 @@ impl<T: Turns> Exchange<T> {
         if *self.setup != *setup {
             return Err(MeetRefused::OtherSetup);
         }
+        self.judge_own(lease)
+    }
+
+    // The same of a lease whose setup means what the exchange's does.
+    pub(crate) fn judge_own(&self, lease: &Lease<T>) -> Result<(), MeetRefused>
+        requires same { system T.turn_of self.now.setup ≡ system T.turn_of lease.now.component.setup }
+        ensures ok { IsOk result ↔ Matches (machine_of T.turn_of self.now.setup) lease.now.component.number ((exchange_of (machine_of T.turn_of self.now.setup) self.now).stub lease.now.component.number) (lease_of lease.now) }
+        ensures stranger { IfErr result (λ refused. refused ≡ MeetRefused.Stranger) }
+    {
         let Some(stub) = self.stubs.get(usize::from(lease.component.number())) else {
             return Err(MeetRefused::Stranger);
         };

@@ -8,17 +8,18 @@ use Rattle.exchange.specs.contracts.exchange.Exchange as Exchange
 use Rattle.exchange.specs.contracts.lease.Lease as Lease
 use Rattle.rollback.specs.contracts.component.Component as Component
 use Rattle.std.specs.declared.cmp.Eq as whole_equal
+use Rattle.workers.specs.contracts.crew.Lent as Lent
+use Rattle.workers.specs.contracts.crew.Paced as Paced
 use Rattle.workers.specs.contracts.crew.Worker as Worker
 use Rattle.workers.specs.contracts.shared.Shared as Shared
 use Rattle.core.proofs.atomic.AtomicBool.TheSendSync as atomic_bool
-use Rattle.core.proofs.atomic.AtomicU64.TheSendSync as atomic_count
 use Rattle.core.proofs.sync.Mutex.TheSendSync as mutex
 use Rattle.exchange.proofs.judging.MeetRefused.TheSendSync as meet_refused
 use Rattle.gvt.proofs.word.Published.TheSendSync as published
 use Rattle.gvt.proofs.word.Seat.TheSendSync as seat
-use Rattle.workers.proofs.places.Pass.TheSendSync as pass
+use Rattle.pools.proofs.places.Pass.TheSendSync as pass
 use Rattle.workers.proofs.pace.Pace.TheSendSync as pace
-use Rattle.workers.proofs.places.Pool.TheSendSync as pool
+use Rattle.pools.proofs.places.Pool.TheSendSync as pool
 use Rattle.antimessage.proofs.bag.Bag.TheSendSync as bag
 use Rattle.event_keys.proofs.key.Bound.TheSendSync as bound
 use Rattle.event_keys.proofs.key.Key.TheSendSync as key
@@ -63,8 +64,14 @@ module _ (T : RattleType) (g : turns.Ghosts T.Denot) (e : equal.Ghosts T.Denot) 
   pub Exchange-send : IsSend T → IsSync T → IsSend (Exchange.the_row T g e)
   Exchange-send s y = search (Setup-send, Setup-sync, crossing.Arc-send, bound.the_field_send, turned.the_send, stub.the_send, event_list.the_send, arc.the_send, vec.the_send, crossing.crosses, effect.crosses, shape.crosses, term.crosses, sendable) depth 60 fits 20000
 
+  pub Paced-send : IsSend T → IsSync T → IsSend (Paced.the_row T g e)
+  Paced-send s y = search (Lease-send, pace.the_field_send, pace.the_send, crossing.crosses, value.crosses, effect.crosses, shape.crosses, term.crosses, sendable) depth 60 fits 20000
+
+  pub Lent-send : IsSend T → IsSync T → IsSend (Lent.the_row T g e)
+  Lent-send s y = search (Exchange-send, crossing.crosses, effect.crosses, shape.crosses, term.crosses, sendable) depth 60 fits 20000
+
   pub Worker-send : IsSend T → IsSync T → IsSend (Worker.the_row T g e)
-  Worker-send s y = search (Lease-send, seat.the_field_send, pass.the_field_send, crossing.crosses, value.crosses, effect.crosses, shape.crosses, term.crosses, sendable) depth 60 fits 20000
+  Worker-send s y = search (Setup-send, Paced-send, Lent-send, seat.the_field_send, pass.the_field_send, crossing.crosses, value.crosses, effect.crosses, shape.crosses, term.crosses, sendable) depth 60 fits 20000
 
   pub Shared-sync : (q : whole_equal.Ghosts T.Denot) → IsSend T → IsSync T → IsSync (Shared.the_row T g q e)
-  Shared-sync q s y = search (Exchange-send, Lease-send, atomic_bool.the_field_sync, option.the_field_send, option.the_send, mutex.the_sync, meet_refused.the_field_send, published.the_field_sync, arc.the_send, pool.the_field_sync, pace.the_sync, pace.the_field_sync, atomic_count.the_sync, vec.the_sync, crossing.crosses, value.crosses, effect.crosses, shape.crosses, term.crosses, sendable) depth 60 fits 20000
+  Shared-sync q s y = search (Setup-send, Paced-send, Lent-send, atomic_bool.the_field_sync, option.the_field_send, option.the_send, mutex.the_sync, meet_refused.the_field_send, published.the_field_sync, pool.the_field_sync, crossing.crosses, value.crosses, effect.crosses, shape.crosses, term.crosses, sendable) depth 60 fits 20000

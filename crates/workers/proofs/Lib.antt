@@ -1,9 +1,7 @@
 mod Crossing
 mod Ended
 mod Growing
-mod Moves
 mod Portioned
 mod Settled
 mod Started
-mod Sums
 mod Written

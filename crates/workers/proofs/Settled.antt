@@ -16,6 +16,10 @@ pub number_stays : {P : Type 0} (m : Machine (List Datum) Named) (old : Holding 
 number_stays m old [] new h = ap (λ l. l.component.number) h
 number_stays m old (s ∷ ss) new h = number_stays m h.0 ss new h.2 ∙ ap (λ l. l.component.number) h.1.rest
 
+pub setup_stays : {P : Type 0} (m : Machine (List Datum) Named) (old : Holding P) (tray : List Signed) (new : Holding P) → AllDelivered m old tray new → new.component.setup ≡ old.component.setup
+setup_stays m old [] new h = ap (λ l. l.component.setup) h
+setup_stays m old (s ∷ ss) new h = setup_stays m h.0 ss new h.2 ∙ ap (λ l. l.component.setup) h.1.rest
+
 module _ {T E : Type 0} (turn_of : T → ℕ → ℕ → Option Turn) (old new : Holding (Setup T)) where
   pub ahead_stays : (result : Result ℕ E) → IfOk result (λ count. IsAhead (machine_of turn_of old.component.setup) old new count) → OnErr result (new ≡ old)
       → StaysKnown (machine_of turn_of old.component.setup) old.component.number (lease_of old) (lease_of new) → StaysItself turn_of old new

@@ -1,18 +1,47 @@
-//! What one worker has for itself, and the number of a lease.
-use crate::places::Pass;
-use crate::rule::Numbered;
-use exchange::Lease;
+//! What waits in the pools, and what a thread has for itself.
+use crate::pace::Pace;
+use exchange::{Exchange, Lease};
 use gvt::Seat;
-use task_seed::Turns;
+use pools::{Numbered, Pass};
+use task_seed::{Setup, Turns};
 
-// A worker's number, from 0, its pass of the pool and its seat of the published count.
+// A lease, and how far its component is let run ahead.
+#[derive(Drop)]
+pub(crate) struct Paced<T: Turns> {
+    pub(crate) lease: Lease<T>,
+    pub(crate) pace: Pace,
+}
+
+impl<T: Turns> Numbered<Setup<T>> for Paced<T> {
+    ghost number_of = { λ paced. paced.lease.component.number };
+
+    ghost kind_of = { λ paced. paced.lease.component.setup };
+}
+
+// The exchange, which one thread at a time has.
+#[derive(Drop)]
+pub(crate) struct Lent<T: Turns> {
+    pub(crate) exchange: Exchange<T>,
+}
+
+impl<T: Turns> Numbered<Setup<T>> for Lent<T> {
+    ghost number_of = { λ lent. 0 };
+
+    ghost kind_of = { λ lent. lent.exchange.setup };
+}
+
+// A worker's number, from 0, its pass of the leases, its pass of the exchange, and its seat of the published count.
 #[derive(Drop)]
 pub(crate) struct Worker<T: Turns> {
     pub(crate) number: u16,
-    pub(crate) pass: Pass<Lease<T>>,
+    pub(crate) pass: Pass<Paced<T>, Setup<T>>,
+    pub(crate) lock: Pass<Lent<T>, Setup<T>>,
     pub(crate) seat: Seat,
 }
 
-impl<T: Turns> Numbered for Lease<T> {
-    ghost number_of = { λ lease. lease.component.number };
+// The calling thread's pass of the exchange, and its seat of the published count.
+#[derive(Drop)]
+pub(crate) struct Caller<T: Turns> {
+    pub(crate) lock: Pass<Lent<T>, Setup<T>>,
+    pub(crate) seat: Seat,
 }

@@ -4,7 +4,7 @@ ghost use Rattle.std.specs.List.{range_with_len};
 ghost use Rattle.task_seed.specs.declared.setup.Setup.{Setup as SetupValue};
 ghost use Rattle.exchange.specs.Start.{start_holding};
 ghost use Rattle.workers.specs.Crews.{number_of};
-ghost use Rattle.workers.specs.Places.{AreOnce};
+ghost use Rattle.pools.specs.Places.{AreOnce};
 
 use task_seed::Turns;
 

@@ -6,9 +6,6 @@ pub mod fault;
 pub mod gate;
 pub mod laws;
 mod pace;
-pub mod places;
-pub mod pool;
-pub mod rule;
 pub mod running;
 mod shared;
 mod working;
@@ -16,6 +13,5 @@ mod writing;
 
 pub use fault::RunFault;
 pub use gate::{Gate, Unheld};
-pub use places::{Pass, Pool};
-pub use rule::{Hand, Numbered};
+pub use pools::{Hand, Numbered, Pass, Pool};
 pub use running::{Summary, run};

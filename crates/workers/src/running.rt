@@ -5,23 +5,23 @@ ghost use Rattle.gvt.specs.Seats.{IsSeatOf};
 ghost use Rattle.task_seed.specs.Setups.{plan_of, system};
 ghost use Rattle.trace.specs.Puts.{Stops};
 ghost use Rattle.trace.specs.Went.{IsWritten};
-ghost use Rattle.workers.specs.Crews.{IsOf, IsOfBoth, number_of};
-ghost use Rattle.workers.specs.Passes.{IsOf as IsOfPool};
-ghost use Rattle.workers.specs.Places.{AreOnce};
+ghost use Rattle.pools.specs.Passes.{IsOf as IsOfPool, holding};
+ghost use Rattle.pools.specs.Places.{AreOnce};
+ghost use Rattle.workers.specs.Crews.{AreOfOne, IsCallerOf, IsOf, IsOfAll, lease_in, number_of, setup_of};
 ghost use Rattle.workers.specs.Runs.{IsUnfinished, IsWhole};
 
-use crate::crew::Worker;
+use crate::crew::{Caller, Lent, Paced, Worker};
 use crate::fault::{RunFault, WorkFault};
 use crate::gate::Gate;
 use crate::laws::distinct_numbers_law;
 use crate::pace::Pace;
-use crate::places::{Pass, Pool};
 use crate::shared::{Shared, end, note};
 use crate::working::work;
 use crate::writing::write_all;
 use core::mem::replace_with;
 use exchange::{Exchange, Lease};
 use gvt::{Published, Seat};
+use pools::{Pass, Pool};
 use std::alloc::Global;
 use std::io::Write;
 use std::sync::atomic::AtomicBool;
@@ -71,15 +71,15 @@ pub fn run<T: Turns, W: Write + Drop, G: Gate<T>, R: Threads + Wait + Sync>(
     }
 }
 
-// What the threads share, the workers, and the calling thread's seat.
+// What the threads share, the workers, and what the calling thread has.
 #[derive(Drop)]
 struct Begun<T: Turns> {
     shared: Shared<T>,
     crew: Vec<Worker<T>>,
-    seat: Seat,
+    caller: Caller<T>,
 }
 
-// Makes what the threads share, and gives each worker its pass and its seat.
+// Makes what the threads share, and gives each worker its passes and its seat.
 fn start<T: Turns, R: Wait>(
     rt: &R,
     alloc: Global,
@@ -89,34 +89,48 @@ fn start<T: Turns, R: Wait>(
 ) -> Result<Begun<T>, NoMemory>
     requires workers { (1 ≤ workers) × (workers ≤ 64) }
     ensures crew { IfOk result (λ begun. All (IsOf begun.shared) begun.crew.items) }
-    ensures seat { IfOk result (λ begun. IsSeatOf begun.shared.published begun.seat) }
+    ensures caller { IfOk result (λ begun. IsCallerOf begun.shared (arc_value setup.now) begun.caller) }
 {
     let (exchange, leases) = start_exchange(alloc, setup)?;
-    let paces = all_paces(alloc, leases.len(), budget)?;
-    let (pool, passes) = Pool::new(rt, alloc, leases, workers)?;
+    let components = leases.len();
+    let (pool, passes) = Pool::new(rt, alloc, pace_all(alloc, leases, budget)?, workers)?;
+    let lent = Vec::from_array(alloc, [Lent { exchange }])?;
+    let (exchange, mut locks) = Pool::new(rt, alloc, lent, workers + 1)?;
     let (published, mut seats) = Published::new(alloc, workers + 1)?;
-    let Some(seat) = seats.pop() else {
+    let (Some(lock), Some(seat)) = (locks.pop(), seats.pop()) else {
         unreachable!()
     };
-    let crew = gather(alloc, &pool, &published, passes, seats)?;
+    let crew = gather(alloc, &pool, &exchange, &published, passes, locks, seats)?;
     let shared = Shared {
-        exchange: Mutex::new(exchange),
+        exchange,
         fault: Mutex::new(None),
         ends: AtomicBool::new(false),
         pool,
         published,
-        paces,
+        components,
     };
-    Ok(Begun { shared, crew, seat })
+    let caller = Caller { lock, seat };
+    Ok(Begun {
+        shared,
+        crew,
+        caller,
+    })
 }
 
-// A pace for each component.
-fn all_paces(alloc: Global, count: usize, budget: u32) -> Result<Vec<Pace>, NoMemory> {
-    let mut paces = Vec::new(alloc);
-    for _ in 0..count {
-        paces.push(Pace::new(budget))?;
+// Each lease with a pace.
+fn pace_all<T: Turns>(
+    alloc: Global,
+    leases: Vec<Lease<T>>,
+    budget: u32,
+) -> Result<Vec<Paced<T>>, NoMemory>
+    ensures { IfOk result (λ paced. map lease_in paced.items ≡ leases.items) }
+{
+    let mut paced = Vec::with_capacity(alloc, leases.len())?;
+    for lease in leases {
+        let pace = Pace::new(budget);
+        paced.push(Paced { lease, pace })?;
     }
-    Ok(paces)
+    Ok(paced)
 }
 
 // The exchange of a setup at its start, with its leases, of which no two have one number.
@@ -124,32 +138,44 @@ fn start_exchange<T: Turns>(
     alloc: Global,
     setup: &Arc<Setup<T>>,
 ) -> Result<(Exchange<T>, Vec<Lease<T>>), NoMemory>
-    ensures { IfOk result (λ both. AreOnce (map number_of both.1.items)) }
+    ensures once { IfOk result (λ both. AreOnce (map number_of both.1.items)) }
+    ensures leases { IfOk result (λ both. All (λ lease. setup_of lease ≡ arc_value setup.now) both.1.items) }
+    ensures exchange { IfOk result (λ both. both.0.setup ≡ arc_value setup.now) }
 {
     distinct_numbers_law::<T>();
     Ok(Exchange::new(alloc, Arc::try_clone(setup)?)?)
 }
 
-// A worker for each pass, with a seat for each.
+// A worker for each pass of the leases, with a pass of the exchange and a seat for each.
 fn gather<T: Turns>(
     alloc: Global,
-    pool: &Pool<Lease<T>>,
+    pool: &Pool<Paced<T>, Setup<T>>,
+    exchange: &Pool<Lent<T>, Setup<T>>,
     published: &Published,
-    passes: Vec<Pass<Lease<T>>>,
+    passes: Vec<Pass<Paced<T>, Setup<T>>>,
+    mut locks: Vec<Pass<Lent<T>, Setup<T>>>,
     mut seats: Vec<Seat>,
 ) -> Result<Vec<Worker<T>>, NoMemory>
     requires passes { All (λ pass. IsOfPool pool.now pass) passes.items }
+    requires locks { All (λ lock. IsOfPool exchange.now lock) locks.items }
+    requires setups { All (λ lock. All (λ pass. AreOfOne (holding lock).kind (holding pass).kind) passes.items) locks.items }
     requires seats { All (λ seat. IsSeatOf published.now seat) seats.items }
-    requires many { length passes.items ≤ length seats.items }
-    ensures { IfOk result (λ crew. All (IsOfBoth pool.now published.now) crew.items) }
+    requires many_locks { length passes.items ≤ length locks.items }
+    requires many_seats { length passes.items ≤ length seats.items }
+    ensures { IfOk result (λ crew. All (IsOfAll pool.now exchange.now published.now) crew.items) }
 {
     let mut crew = Vec::with_capacity(alloc, passes.len())?;
     let mut number = 0u16;
     for pass in passes {
-        let Some(seat) = seats.pop() else {
+        let (Some(lock), Some(seat)) = (locks.pop(), seats.pop()) else {
             unreachable!()
         };
-        crew.push(Worker { number, pass, seat })?;
+        crew.push(Worker {
+            number,
+            pass,
+            lock,
+            seat,
+        })?;
         number = number.wrapping_add(1);
     }
     Ok(crew)
@@ -167,13 +193,17 @@ fn run_begun<T: Turns, W: Write + Drop, G: Gate<T>, R: Threads + Wait + Sync>(
     out: &mut Counted<W>,
 ) -> Result<Summary, RunFault>
     requires crew { All (IsOf begun.shared) begun.crew.items }
-    requires seat { IsSeatOf begun.shared.published begun.seat }
+    requires caller { IsCallerOf begun.shared own.now begun.caller }
     ensures whole { IfOk result (λ summary. IsWhole (plan_of own.now) (system T.turn_of own.now) lines (IsWritten W.contents out.old out.new) summary.turns) }
     ensures unfinished { IfErr result (IsUnfinished (plan_of own.now) (system T.turn_of own.now) lines (IsWritten W.contents out.old out.new) (Stops W.contents out.old out.new 0)) }
 {
-    let Begun { shared, crew, seat } = begun;
+    let Begun {
+        shared,
+        crew,
+        caller,
+    } = begun;
     lend(
-        rt, alloc, &shared, own, crew, seat, budget, gate, lines, out,
+        rt, alloc, &shared, own, crew, caller, budget, gate, lines, out,
     )
 }
 
@@ -184,25 +214,25 @@ fn lend<'x, T: Turns, W: Write + Drop, G: Gate<T>, R: Threads + Wait + Sync>(
     shared: &'x Shared<T>,
     own: &'x Setup<T>,
     crew: Vec<Worker<T>>,
-    seat: Seat,
+    caller: Caller<T>,
     budget: u32,
     gate: &'x G,
     lines: Lines,
     out: &mut Counted<W>,
 ) -> Result<Summary, RunFault>
     requires crew { All (IsOf shared.now) crew.items }
-    requires seat { IsSeatOf shared.now.published seat }
+    requires caller { IsCallerOf shared.now own.now caller }
     ensures whole { IfOk result (λ summary. IsWhole (plan_of own.now) (system T.turn_of own.now) lines (IsWritten W.contents out.old out.new) summary.turns) }
     ensures unfinished { IfErr result (IsUnfinished (plan_of own.now) (system T.turn_of own.now) lines (IsWritten W.contents out.old out.new) (Stops W.contents out.old out.new 0)) }
 {
     replace_with(
         out,
-        (crew, seat),
-        move |lent: Counted<W>, hands: (Vec<Worker<T>>, Seat)| -> (
+        (crew, caller),
+        move |lent: Counted<W>, hands: (Vec<Worker<T>>, Caller<T>)| -> (
             Counted<W>,
             Result<Summary, RunFault>,
         )
-            requires { All (IsOf shared.now) hands.0.items × IsSeatOf shared.now.published hands.1 }
+            requires { All (IsOf shared.now) hands.0.items × IsCallerOf shared.now own.now hands.1 }
             ensures whole { IfOk result.1 (λ summary. IsWhole (plan_of own.entry.now) (system T.turn_of own.entry.now) lines (IsWritten W.contents lent result.0) summary.turns) }
             ensures unfinished { IfErr result.1 (IsUnfinished (plan_of own.entry.now) (system T.turn_of own.entry.now) lines (IsWritten W.contents lent result.0) (Stops W.contents lent result.0 0)) }
         {
@@ -220,14 +250,14 @@ fn in_scope<'x, T: Turns, W: Write + Drop, G: Gate<T>, R: Threads + Wait + Sync>
     shared: &'x Shared<T>,
     own: &'x Setup<T>,
     crew: Vec<Worker<T>>,
-    seat: Seat,
+    caller: Caller<T>,
     budget: u32,
     gate: &'x G,
     lines: Lines,
     out: Counted<W>,
 ) -> (Counted<W>, Result<Summary, RunFault>)
     requires crew { All (IsOf shared.now) crew.items }
-    requires seat { IsSeatOf shared.now.published seat }
+    requires caller { IsCallerOf shared.now own.now caller }
     ensures whole { IfOk result.1 (λ summary. IsWhole (plan_of own.now) (system T.turn_of own.now) lines (IsWritten W.contents out result.0) summary.turns) }
     ensures unfinished { IfErr result.1 (IsUnfinished (plan_of own.now) (system T.turn_of own.now) lines (IsWritten W.contents out result.0) (Stops W.contents out result.0 0)) }
 {
@@ -235,7 +265,7 @@ fn in_scope<'x, T: Turns, W: Write + Drop, G: Gate<T>, R: Threads + Wait + Sync>
         thread::scope_env(),
         rt,
         move |scope| -> (Counted<W>, Result<Summary, RunFault>)
-            requires { All (IsOf shared.now) crew.items × IsSeatOf shared.now.published seat }
+            requires { All (IsOf shared.now) crew.items × IsCallerOf shared.now own.now caller }
             ensures whole { IfOk result.1 (λ summary. IsWhole (plan_of own.entry.now) (system T.turn_of own.entry.now) lines (IsWritten W.contents out result.0) summary.turns) }
             ensures unfinished { IfErr result.1 (IsUnfinished (plan_of own.entry.now) (system T.turn_of own.entry.now) lines (IsWritten W.contents out result.0) (Stops W.contents out result.0 0)) }
         {
@@ -254,9 +284,9 @@ fn in_scope<'x, T: Turns, W: Write + Drop, G: Gate<T>, R: Threads + Wait + Sync>
                     break;
                 }
             }
-            let mut seat = seat;
+            let mut caller = caller;
             let mut out = out;
-            let result = write_all(rt, shared, own, &mut seat, lines, &mut out);
+            let result = write_all(rt, shared, own, &mut caller, lines, &mut out);
             if result.is_err() {
                 end(shared);
             }

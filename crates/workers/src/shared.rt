@@ -1,38 +1,46 @@
 //! What the threads of a run share.
+ghost use Rattle.std.specs.Prelude.{◌≡◌};
+ghost use Rattle.pools.specs.Passes.{holding, IsOf};
+ghost use Rattle.workers.specs.Crews.{HasExchange};
 
+use crate::crew::{Lent, Paced};
 use crate::fault::WorkFault;
-use crate::pace::Pace;
-use crate::places::Pool;
 use crossbeam_utils::Backoff;
-use exchange::{Exchange, Lease};
 use gvt::Published;
+use pools::{Pass, Pool};
 use std::sync::atomic::{AtomicBool, Ordering};
-use std::sync::{Mutex, MutexGuard, Wait};
+use std::sync::{Mutex, Wait};
 use std::thread::Parker;
 use std::time::Duration;
-use task_seed::Turns;
+use task_seed::{Setup, Turns};
 
-// The exchange under its lock, the first fault, whether a worker has ended, the leases that wait for a worker, the count of committed turns, and
-// of each component how far it may be ahead.
+// The exchange, which one thread at a time has, the first fault, whether a worker has ended, the leases that wait for a worker, the count of
+// committed turns, and how many components there are.
 #[derive(Drop)]
 pub(crate) struct Shared<T: Turns> {
-    pub(crate) exchange: Mutex<Exchange<T>>,
+    pub(crate) exchange: Pool<Lent<T>, Setup<T>>,
     pub(crate) fault: Mutex<Option<WorkFault>>,
     pub(crate) ends: AtomicBool,
-    pub(crate) pool: Pool<Lease<T>>,
+    pub(crate) pool: Pool<Paced<T>, Setup<T>>,
     pub(crate) published: Published,
-    pub(crate) paces: Vec<Pace>,
+    pub(crate) components: usize,
 }
 
-// Waits for the exchange by looking again and again: what is done under the lock is short, and a thread that slept would come late.
-pub(crate) fn hold<'a, T: Turns, R: Wait>(
+// Waits for the exchange by looking again and again: who has it gives it back shortly, and a thread that slept would come late.
+pub(crate) fn hold<T: Turns, R: Wait>(
     rt: &R,
-    shared: &'a Shared<T>,
-) -> MutexGuard<'a, Exchange<T>> {
+    shared: &Shared<T>,
+    lock: &mut Pass<Lent<T>, Setup<T>>,
+) -> Lent<T>
+    requires { IsOf shared.now.exchange lock.old }
+    ensures lock { IsOf shared.now.exchange lock.new }
+    ensures kind { (holding lock.new).kind ≡ (holding lock.old).kind }
+    ensures held { HasExchange lock.new result }
+{
     let backoff = Backoff::new();
     for _ in rt.forever() {
-        if let Some(exchange) = shared.exchange.try_lock() {
-            return exchange;
+        if let Some(lent) = shared.exchange.take(rt, lock) {
+            return lent;
         }
         backoff.snooze();
     }

@@ -1,8 +1,9 @@
 //! What a worker does.
-ghost use Rattle.std.specs.Prelude.{◌≡◌, IfOk, IfSome};
+ghost use Rattle.std.specs.Prelude.{◌≡◌, IfOk, IfSome, Some};
+ghost use Rattle.pools.specs.Passes.{holding};
 ghost use Rattle.workers.specs.Crews.{Holds, IsOf};
 
-use crate::crew::Worker;
+use crate::crew::{Paced, Worker};
 use crate::fault::WorkFault;
 use crate::gate::Gate;
 use crate::shared::{Shared, end, ends, hold, nap, note};
@@ -17,10 +18,10 @@ use terms::NoMemory;
 // How many microseconds a worker sleeps that has found no lease to work on several times.
 const NAP: u64 = 50;
 
-// A lease that has met the exchange, and whether it held all others up then: nothing more is committed before it has run.
+// A lease to work on, and whether it held all others up when it was taken: nothing more is committed before it has run.
 #[derive(Drop)]
 pub(crate) struct Visit<T: Turns> {
-    pub(crate) lease: Lease<T>,
+    pub(crate) paced: Paced<T>,
     pub(crate) holds_up: bool,
 }
 
@@ -50,7 +51,7 @@ pub(crate) fn work<T: Turns, G: Gate<T>, R: Wait>(
         };
         let Some(
             Visit {
-                mut lease,
+                mut paced,
                 holds_up,
             },
         ) = visit
@@ -59,11 +60,11 @@ pub(crate) fn work<T: Turns, G: Gate<T>, R: Wait>(
             idle(rt, &backoff);
             continue;
         };
-        if advance(alloc, shared, gate, &mut lease, holds_up, budget).is_err() {
+        if advance(alloc, gate, &mut paced, holds_up, budget).is_err() {
             note(rt, shared, WorkFault::NoMemory);
             break;
         }
-        done = Some(lease);
+        done = Some(paced);
         backoff.reset();
     }
     end(shared);
@@ -78,53 +79,80 @@ fn idle<R: Wait>(rt: &R, backoff: &Backoff) {
     }
 }
 
-// Under the lock: what was done of a lease is shared and committed, and another one is taken.
+// With the exchange: what was done of a lease is shared and committed, and another one is taken.
 fn change<T: Turns, R: Wait>(
     rt: &R,
     shared: &Shared<T>,
     worker: &mut Worker<T>,
-    done: Option<Lease<T>>,
+    done: Option<Paced<T>>,
 ) -> Result<Option<Visit<T>>, MeetRefused>
     requires own { IsOf shared.now worker.old }
-    requires held { IfSome done (Holds worker.old) }
+    requires held { IfSome done (Holds worker.old.pass) }
     ensures own { IsOf shared.now worker.new }
-    ensures held { IfOk result (λ visit. IfSome visit (λ it. Holds worker.new it.lease)) }
+    ensures held { IfOk result (λ visit. IfSome visit (λ it. Holds worker.new.pass it.paced)) }
 {
-    let mut exchange = hold(rt, shared);
-    if let Some(lease) = done {
-        share(rt, shared, &mut exchange, worker, lease)?;
-    }
+    let mut lent = hold(rt, shared, &mut worker.lock);
+    let visit = go_round(rt, shared, &mut lent.exchange, worker, done);
+    shared.exchange.give_back(rt, &mut worker.lock, lent);
+    visit
+}
+
+fn go_round<T: Turns, R: Wait>(
+    rt: &R,
+    shared: &Shared<T>,
+    exchange: &mut Exchange<T>,
+    worker: &mut Worker<T>,
+    done: Option<Paced<T>>,
+) -> Result<Option<Visit<T>>, MeetRefused>
+    requires own { IsOf shared.now worker.old }
+    requires setup { (holding worker.old.lock).kind ≡ Some exchange.old.setup }
+    requires held { IfSome done (Holds worker.old.pass) }
+    ensures own { IsOf shared.now worker.new }
+    ensures setup { exchange.new.setup ≡ exchange.old.setup }
+    ensures lock { worker.new.lock ≡ worker.old.lock }
+    ensures held { IfOk result (λ visit. IfSome visit (λ it. Holds worker.new.pass it.paced)) }
+{
+    share(rt, shared, exchange, worker, done)?;
     let count = exchange.commit();
     shared.published.publish(&mut worker.seat, count);
     if exchange.finished() {
         end(shared);
         return Ok(None);
     }
-    take_due(rt, shared, &mut exchange, worker, count)
+    take_due(rt, shared, exchange, worker, count)
 }
 
-// A lease tells what was done of it, and goes back to the pool.
+// A lease tells what was done of it, and goes back to the pool, if there is one.
 fn share<T: Turns, R: Wait>(
     rt: &R,
     shared: &Shared<T>,
     exchange: &mut Exchange<T>,
     worker: &mut Worker<T>,
-    mut lease: Lease<T>,
+    done: Option<Paced<T>>,
 ) -> Result<(), MeetRefused>
     requires own { IsOf shared.now worker.old }
-    requires held { Holds worker.old lease }
-    ensures { IsOf shared.now worker.new }
+    requires setup { (holding worker.old.lock).kind ≡ Some exchange.old.setup }
+    requires held { IfSome done (Holds worker.old.pass) }
+    ensures own { IsOf shared.now worker.new }
+    ensures setup { exchange.new.setup ≡ exchange.old.setup }
+    ensures lock { worker.new.lock ≡ worker.old.lock }
 {
-    let met = meet(exchange, &mut lease);
-    shared.pool.give_back(rt, &mut worker.pass, lease);
+    let Some(mut paced) = done else {
+        return Ok(());
+    };
+    let met = meet(exchange, &mut paced.lease);
+    shared.pool.give_back(rt, &mut worker.pass, paced);
     met
 }
 
 // Each lease that comes back is still that of its component.
 fn meet<T: Turns>(exchange: &mut Exchange<T>, lease: &mut Lease<T>) -> Result<(), MeetRefused>
-    ensures { lease.new.component.number ≡ lease.old.component.number }
+    requires { lease.old.component.setup ≡ exchange.old.setup }
+    ensures number { lease.new.component.number ≡ lease.old.component.number }
+    ensures setup { lease.new.component.setup ≡ lease.old.component.setup }
+    ensures exchange { exchange.new.setup ≡ exchange.old.setup }
 {
-    exchange.meet(lease)?;
+    exchange.meet_own(lease)?;
     Ok(())
 }
 
@@ -137,93 +165,84 @@ fn take_due<T: Turns, R: Wait>(
     count: u64,
 ) -> Result<Option<Visit<T>>, MeetRefused>
     requires own { IsOf shared.now worker.old }
+    requires setup { (holding worker.old.lock).kind ≡ Some exchange.old.setup }
     ensures own { IsOf shared.now worker.new }
-    ensures held { IfOk result (λ visit. IfSome visit (λ it. Holds worker.new it.lease)) }
+    ensures setup { exchange.new.setup ≡ exchange.old.setup }
+    ensures lock { worker.new.lock ≡ worker.old.lock }
+    ensures held { IfOk result (λ visit. IfSome visit (λ it. Holds worker.new.pass it.paced)) }
 {
-    for _ in 0..shared.paces.len() {
-        let Some(lease) = shared.pool.take(rt, &mut worker.pass) else {
+    for _ in 0..shared.components {
+        let Some(mut paced) = shared.pool.take(rt, &mut worker.pass) else {
             return Ok(None);
         };
-        if is_due(shared, exchange, &lease, count) {
-            return Ok(Some(begin_visit(shared, exchange, lease, count)?));
+        if is_due(exchange, &mut paced, count, shared.components) {
+            return Ok(Some(begin_visit(exchange, paced, count)?));
         }
-        shared.pool.give_back(rt, &mut worker.pass, lease);
+        shared.pool.give_back(rt, &mut worker.pass, paced);
     }
     Ok(None)
 }
 
 // Whether there is something to do for a lease: it holds all others up, or messages wait for it, or it may run ahead.
 fn is_due<T: Turns>(
-    shared: &Shared<T>,
     exchange: &Exchange<T>,
-    lease: &Lease<T>,
+    paced: &mut Paced<T>,
     count: u64,
-) -> bool {
-    let number = lease.number();
-    if lease.floor() == exchange.bound() || exchange.has_mail(number) {
+    components: usize,
+) -> bool
+    ensures { paced.new.lease ≡ paced.old.lease }
+{
+    let lease = &paced.lease;
+    if lease.floor() == exchange.bound() || exchange.has_mail(lease.number()) {
         return true;
     }
     if lease.least_coming() != Bound::End {
         return true;
     }
-    match shared.paces.get(usize::from(number)) {
-        Some(pace) => {
-            let has_next = lease.floor() != Bound::End;
-            pace.is_due(lease.depth(), has_next, count, shared.paces.len())
-        }
-        None => true,
-    }
+    let has_next = lease.floor() != Bound::End;
+    paced
+        .pace
+        .is_due(lease.depth(), has_next, count, components)
 }
 
-// A lease meets the exchange before it is worked on.
+// A lease meets the exchange before it is worked on, if messages wait for it, or it is ahead so far that it has to drop what is committed.
 fn begin_visit<T: Turns>(
-    shared: &Shared<T>,
     exchange: &mut Exchange<T>,
-    mut lease: Lease<T>,
+    mut paced: Paced<T>,
     count: u64,
 ) -> Result<Visit<T>, MeetRefused>
-    ensures { IfOk result (λ visit. visit.lease.component.number ≡ lease.component.number) }
+    requires { paced.lease.component.setup ≡ exchange.old.setup }
+    ensures number { IfOk result (λ visit. visit.paced.lease.component.number ≡ paced.lease.component.number) }
+    ensures setup { IfOk result (λ visit. visit.paced.lease.component.setup ≡ paced.lease.component.setup) }
+    ensures exchange { exchange.new.setup ≡ exchange.old.setup }
 {
-    meet(exchange, &mut lease)?;
-    if let Some(pace) = shared.paces.get(usize::from(lease.number())) {
-        pace.visit(count);
+    let lease = &mut paced.lease;
+    if exchange.has_mail(lease.number()) || paced.pace.is_half_full(lease.depth()) {
+        meet(exchange, lease)?;
     }
     let holds_up = lease.floor() == exchange.bound();
-    Ok(Visit { lease, holds_up })
+    paced.pace.visit(count);
+    Ok(Visit { paced, holds_up })
 }
 
 // Without the lock: a lease delivers what came to it, and runs ahead as the gate lets it.
 fn advance<T: Turns, G: Gate<T>>(
     alloc: Global,
-    shared: &Shared<T>,
     gate: &G,
-    lease: &mut Lease<T>,
+    paced: &mut Paced<T>,
     holds_up: bool,
     budget: u32,
 ) -> Result<(), NoMemory>
-    ensures { lease.new.component.number ≡ lease.old.component.number }
+    ensures number { paced.new.lease.component.number ≡ paced.old.lease.component.number }
+    ensures setup { paced.new.lease.component.setup ≡ paced.old.lease.component.setup }
 {
+    let lease = &mut paced.lease;
     let before = lease.depth();
-    lease.settle();
-    let allowed = allowed(shared, lease, before, holds_up, budget);
-    gate.ahead(alloc, lease, allowed)?;
-    Ok(())
-}
-
-// How many entries a lease may run now, which had so many before its tray was delivered.
-fn allowed<T: Turns>(
-    shared: &Shared<T>,
-    lease: &Lease<T>,
-    before: usize,
-    holds_up: bool,
-    budget: u32,
-) -> u32 {
+    let came = lease.settle() > 0;
     let depth = lease.depth();
-    match shared.paces.get(usize::from(lease.number())) {
-        Some(pace) => {
-            pace.adapt(before.saturating_sub(depth), budget);
-            pace.allowed(depth, holds_up).min(budget)
-        }
-        None => budget,
-    }
+    paced.pace.adapt(came, before.saturating_sub(depth), budget);
+    let allowed = paced.pace.allowed(depth, holds_up).min(budget);
+    let count = gate.ahead(alloc, lease, allowed)?;
+    paced.pace.add(count);
+    Ok(())
 }

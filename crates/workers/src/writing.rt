@@ -1,24 +1,23 @@
 //! What the calling thread does: it writes the turns that are committed for good.
 ghost use Rattle.std.specs.Prelude.{◌≡◌, IfErr, IfOk, []};
-ghost use Rattle.gvt.specs.Seats.{IsSeatOf};
 ghost use Rattle.task_seed.specs.Setups.{plan_of, system};
 ghost use Rattle.trace.specs.Lines.{text_of};
 ghost use Rattle.trace.specs.Puts.{Puts, Stops};
 ghost use Rattle.trace.specs.Went.{IsWritten};
+ghost use Rattle.workers.specs.Crews.{IsCallerOf};
 ghost use Rattle.workers.specs.Portions.{IsPortion, IsDuePortion};
 ghost use Rattle.workers.specs.Runs.{IsUnfinished, IsWhole};
 
+use crate::crew::Caller;
 use crate::fault::{RunFault, WorkFault, run_fault};
 use crate::running::Summary;
 use crate::shared::{Shared, ends, hold, nap, noted};
 use event_keys::Turned;
-use exchange::{Exchange, MeetRefused};
-use gvt::Seat;
+use exchange::Exchange;
 use plans::Plan;
 use raw_events::EventList;
 use std::io::Write;
 use std::sync::Wait;
-use task_seed::laws::equal_setup_law;
 use task_seed::{Setup, Turns};
 use trace::{Counted, Lines, WriteFault, append_turns};
 
@@ -39,28 +38,21 @@ pub(crate) struct Portion {
     pub(crate) is_last: bool,
 }
 
-// The next chunk of an exchange of this setup.
-pub(crate) fn take_portion<T: Turns>(
-    exchange: &mut Exchange<T>,
-    own: &Setup<T>,
-) -> Result<Portion, MeetRefused>
-    ensures { IfOk result (IsPortion (system T.turn_of own.now)) }
+// The next chunk of an exchange.
+pub(crate) fn take_portion<T: Turns>(exchange: &mut Exchange<T>) -> Portion
+    ensures portion { IsPortion (system T.turn_of exchange.old.setup) result }
+    ensures setup { exchange.new.setup ≡ exchange.old.setup }
 {
-    let shared = exchange.setup();
-    equal_setup_law(shared, own);
-    if *shared != *own {
-        return Err(MeetRefused::OtherSetup);
-    }
     exchange.is_sound();
     let is_last = exchange.finished();
     let chunk = exchange.take_chunk();
     let given = exchange.given();
-    Ok(Portion {
+    Portion {
         turns: chunk.turns,
         first: chunk.first,
         given,
         is_last,
-    })
+    }
 }
 
 // The next portion, where the published count tells that there may be one, or a worker has ended. The lock isn't taken else.
@@ -68,25 +60,25 @@ fn next_portion<T: Turns, R: Wait>(
     rt: &R,
     shared: &Shared<T>,
     own: &Setup<T>,
-    seat: &mut Seat,
+    caller: &mut Caller<T>,
     written: u64,
 ) -> Result<Option<Portion>, WorkFault>
-    requires seat { IsSeatOf shared.now.published seat.old }
-    ensures seat { IsSeatOf shared.now.published seat.new }
+    requires { IsCallerOf shared.now own.now caller.old }
+    ensures caller { IsCallerOf shared.now own.now caller.new }
     ensures portion { IfOk result (IsDuePortion (system T.turn_of own.now)) }
 {
-    let count = shared.published.read(seat);
+    let _ = own;
+    let count = shared.published.read(&mut caller.seat);
     if count <= written && !ends(shared) {
         return Ok(None);
     }
     if let Some(fault) = noted(rt, shared) {
         return Err(fault);
     }
-    let mut exchange = hold(rt, shared);
-    match take_portion(&mut exchange, own) {
-        Ok(portion) => Ok(Some(portion)),
-        Err(refused) => Err(WorkFault::Meeting(refused)),
-    }
+    let mut lent = hold(rt, shared, &mut caller.lock);
+    let portion = take_portion(&mut lent.exchange);
+    shared.exchange.give_back(rt, &mut caller.lock, lent);
+    Ok(Some(portion))
 }
 
 // Writes the lines of a portion's turns, where so many bytes went out before.
@@ -125,11 +117,11 @@ pub(crate) fn write_all<T: Turns, W: Write, R: Wait>(
     rt: &R,
     shared: &Shared<T>,
     own: &Setup<T>,
-    seat: &mut Seat,
+    caller: &mut Caller<T>,
     lines: Lines,
     out: &mut Counted<W>,
 ) -> Result<Summary, RunFault>
-    requires seat { IsSeatOf shared.now.published seat.old }
+    requires { IsCallerOf shared.now own.now caller.old }
     ensures whole { IfOk result (λ summary. IsWhole (plan_of own.now) (system T.turn_of own.now) lines (IsWritten W.contents out.old out.new) summary.turns) }
     ensures unfinished { IfErr result (IsUnfinished (plan_of own.now) (system T.turn_of own.now) lines (IsWritten W.contents out.old out.new) (Stops W.contents out.old out.new 0)) }
 {
@@ -137,7 +129,7 @@ pub(crate) fn write_all<T: Turns, W: Write, R: Wait>(
     let mut bytes = 0;
     let mut pause = LEAST_PAUSE;
     for _ in rt.forever() {
-        let portion = match next_portion(rt, shared, own, seat, written) {
+        let portion = match next_portion(rt, shared, own, caller, written) {
             Ok(Some(portion)) => portion,
             Ok(None) => {
                 rest(rt, shared, pause);

@@ -18,7 +18,7 @@ due : {s : System} (p : Portion) (o : Option Portion) → o ≡ Some p → IsDue
 due {s} p o is h = subst (IsDuePortion s) is h
 
 pub loop-init : goal.loop-init
-loop-init g c = record { seat = c.requires.seat; sofar = starts c.args.out.now }
+loop-init g c = record { caller = c.requires; sofar = starts c.args.out.now }
 
 pub returns-in-Err-clause-unfinished : goal.returns-in-Err-clause-unfinished
 returns-in-Err-clause-unfinished g c =
@@ -52,4 +52,4 @@ loop-preserved g c =
     let portion = c.in-Ok-Some.portion in
     let first : portion.first ≡ c.loop.written = omega arith in
     let puts = subst (λ (p : Plan). Puts known c.loop.out c.put_portion.new.out c.loop.bytes c.in-Ok.after (text_of p c.args.lines portion.turns.after)) c.plan.ensures c.in-Ok.ensures.ok in
-    record { seat = c.next_portion.ensures.seat; sofar = more portion c.loop.invariant.sofar (due c.in-Ok-Some.portion c.in-Ok-Some.field-0 c.in-Ok-Some.field-0-is c.in-Ok-Some.ensures.portion) first puts }
+    record { caller = c.next_portion.ensures.caller; sofar = more portion c.loop.invariant.sofar (due c.in-Ok-Some.portion c.in-Ok-Some.field-0 c.in-Ok-Some.field-0-is c.in-Ok-Some.ensures.portion) first puts }

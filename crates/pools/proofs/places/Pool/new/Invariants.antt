@@ -1,8 +1,8 @@
 use Rattle.std.proofs.Common.{◌≡◌, ℕ, ◌+◌, ◌++◌, true, [], All, vec_len, length, map}
 use Rattle.crossbeam_queue.specs.Passes.{view, IsPassOf}
-use Rattle.workers.specs.Places.{times}
-use Rattle.workers.specs.Passes.{IsEmptyOf}
-use Rattle.workers.proofs.places.Pool.new.Given as goal
+use Rattle.pools.specs.Places.{common, times}
+use Rattle.pools.specs.Passes.{holding, IsEmptyOf}
+use Rattle.pools.proofs.places.Pool.new.Given as goal
 
 abbrev pub invariant-loop-lease : goal.invariant-loop-lease
 invariant-loop-lease g l = record {
@@ -12,6 +12,7 @@ invariant-loop-lease g l = record {
   pass : IsPassOf l.queue l.founder;
   alone : (view l.founder).alone ≡ true;
   held : (view l.founder).held ≡ [];
+  kind : (view l.founder).kind ≡ common g.L.Numbered.kind_of l.yielded;
   numbers : (x : ℕ) → times x (view l.founder).all ≡ times x (map g.L.Numbered.number_of l.yielded);
   count : length (view l.founder).all ≡ length l.yielded;
 }
@@ -24,6 +25,8 @@ invariant-loop g l = record {
   same : l.queue ≡ l.initial.queue;
   pass : IsPassOf l.queue l.founder;
   held : (view l.founder).held ≡ [];
+  kind : (view l.founder).kind ≡ common g.L.Numbered.kind_of l.fn.leases.items;
+  kinds : All (λ p. (holding p).kind ≡ common g.L.Numbered.kind_of l.fn.leases.items) l.places.items;
   sole : l.fn.passes ≡ 1 → (view l.founder).alone ≡ true;
   numbers : (x : ℕ) → times x (view l.founder).all ≡ times x (map g.L.Numbered.number_of l.fn.leases.items);
   length : length (view l.founder).all ≡ length (map g.L.Numbered.number_of l.fn.leases.items);

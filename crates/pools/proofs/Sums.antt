@@ -4,36 +4,37 @@ use mathlib.Core.Option.{some, some-injective, some-ne-none}
 use mathlib.Core.Logic.{dite}
 use native.Mathlib.Decide.{ℕ_discrete}
 use lib.ListN.{get_elem?}
-use Rattle.workers.specs.declared.rule.Hand.{Hand}
-use Rattle.workers.specs.Places.{one, times, without, total}
+use Rattle.pools.specs.declared.rule.Hand.{Hand}
+use Rattle.pools.specs.Places.{one, times, without, total}
 
-pub total_set : (f : Hand → ℕ) (views : List Hand) (pass : ℕ) (v w : Hand) → get_elem? views pass ≡ some v → total f (set views pass w) + f v ≡ total f views + f w
-total_set f [] pass v w e = absurd (some-ne-none v (sym e))
-total_set f (x ∷ xs) zero v w e = let same : f x ≡ f v = ap f (some-injective x v e) in omega arith
-total_set f (x ∷ xs) (suc pass) v w e = let h = total_set f xs pass v w e in omega arith
+module _ {K : Type 0} where
+  pub total_set : (f : Hand K → ℕ) (views : List (Hand K)) (pass : ℕ) (v w : Hand K) → get_elem? views pass ≡ some v → total f (set views pass w) + f v ≡ total f views + f w
+  total_set f [] pass v w e = absurd (some-ne-none v (sym e))
+  total_set f (x ∷ xs) zero v w e = let same : f x ≡ f v = ap f (some-injective x v e) in omega arith
+  total_set f (x ∷ xs) (suc pass) v w e = let h = total_set f xs pass v w e in omega arith
 
-pub total_more : (f : Hand → ℕ) (views : List Hand) (w : Hand) → total f (views ++ w ∷ []) ≡ total f views + f w
-total_more f [] w = omega arith
-total_more f (x ∷ xs) w = let h = total_more f xs w in omega arith
+  pub total_more : (f : Hand K → ℕ) (views : List (Hand K)) (w : Hand K) → total f (views ++ w ∷ []) ≡ total f views + f w
+  total_more f [] w = omega arith
+  total_more f (x ∷ xs) w = let h = total_more f xs w in omega arith
 
-pub below_total : (f : Hand → ℕ) (views : List Hand) (pass : ℕ) (v : Hand) → get_elem? views pass ≡ some v → f v ≤ total f views
-below_total f [] pass v e = absurd (some-ne-none v (sym e))
-below_total f (x ∷ xs) zero v e = let same : f x ≡ f v = ap f (some-injective x v e) in omega arith
-below_total f (x ∷ xs) (suc pass) v e = let h = below_total f xs pass v e in omega arith
+  pub below_total : (f : Hand K → ℕ) (views : List (Hand K)) (pass : ℕ) (v : Hand K) → get_elem? views pass ≡ some v → f v ≤ total f views
+  below_total f [] pass v e = absurd (some-ne-none v (sym e))
+  below_total f (x ∷ xs) zero v e = let same : f x ≡ f v = ap f (some-injective x v e) in omega arith
+  below_total f (x ∷ xs) (suc pass) v e = let h = below_total f xs pass v e in omega arith
 
--- in a list of one pass
-pub total_alone : (f : Hand → ℕ) (views : List Hand) (pass : ℕ) (v : Hand) → length views ≡ 1 → get_elem? views pass ≡ some v → total f views ≡ f v
-total_alone f [] pass v one e = absurd (omega arith)
-total_alone f (x ∷ []) zero v one e = let same : f x ≡ f v = ap f (some-injective x v e) in omega arith
-total_alone f (x ∷ []) (suc pass) v one e = absurd (some-ne-none v (sym e))
-total_alone f (x ∷ y ∷ ys) pass v one e = absurd (omega arith)
+  -- in a list of one pass
+  pub total_alone : (f : Hand K → ℕ) (views : List (Hand K)) (pass : ℕ) (v : Hand K) → length views ≡ 1 → get_elem? views pass ≡ some v → total f views ≡ f v
+  total_alone f [] pass v one e = absurd (omega arith)
+  total_alone f (x ∷ []) zero v one e = let same : f x ≡ f v = ap f (some-injective x v e) in omega arith
+  total_alone f (x ∷ []) (suc pass) v one e = absurd (some-ne-none v (sym e))
+  total_alone f (x ∷ y ∷ ys) pass v one e = absurd (omega arith)
 
-pub one_place : (views : List Hand) (pass other : ℕ) (v u : Hand) → length views ≡ 1 → get_elem? views pass ≡ some v → get_elem? views other ≡ some u → other ≡ pass
-one_place [] pass other v u one e d = absurd (omega arith)
-one_place (x ∷ []) zero zero v u one e d = refl
-one_place (x ∷ []) zero (suc other) v u one e d = absurd (some-ne-none u (sym d))
-one_place (x ∷ []) (suc pass) other v u one e d = absurd (some-ne-none v (sym e))
-one_place (x ∷ y ∷ ys) pass other v u one e d = absurd (omega arith)
+  pub one_place : (views : List (Hand K)) (pass other : ℕ) (v u : Hand K) → length views ≡ 1 → get_elem? views pass ≡ some v → get_elem? views other ≡ some u → other ≡ pass
+  one_place [] pass other v u one e d = absurd (omega arith)
+  one_place (x ∷ []) zero zero v u one e d = refl
+  one_place (x ∷ []) zero (suc other) v u one e d = absurd (some-ne-none u (sym d))
+  one_place (x ∷ []) (suc pass) other v u one e d = absurd (some-ne-none v (sym e))
+  one_place (x ∷ y ∷ ys) pass other v u one e d = absurd (omega arith)
 
 module _ {L : Type 0} (number : L → ℕ) where
   pub times_both : (x : ℕ) (items more : List L) → times x (map number (items ++ more)) ≡ times x (map number items) + times x (map number more)

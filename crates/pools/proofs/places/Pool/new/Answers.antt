@@ -1,16 +1,16 @@
-use Rattle.std.proofs.Common.{◌≡◌, ◌++◌, [], ap, sym, subst, ◌∙◌, refl, length, map, rules, arith, All, ◌≤◌, ◌∷◌, true, append_assoc, length-append}
+use Rattle.std.proofs.Common.{⊎_elim, inl, inr, ◌≡◌, ◌++◌, [], ap, sym, subst, ◌∙◌, refl, length, map, rules, arith, All, ◌≤◌, ◌∷◌, true, append_assoc, length-append}
 use Rattle.std.proofs.lemmas.List.{length-map, append-nil, nil_from_length}
 use Rattle.std.proofs.lemmas.List.Elements.{All-nil, All-push}
-use Rattle.workers.specs.declared.places.Pass.{Pass}
-use Rattle.workers.specs.Passes.{holding, IsEmptyOf}
+use Rattle.pools.specs.declared.places.Pass.{Pass}
+use Rattle.pools.specs.Passes.{holding, IsEmptyOf}
 use Rattle.crossbeam_queue.specs.Passes.{view, ruled_capacity}
-use Rattle.workers.specs.Places.{times}
-use Rattle.workers.proofs.Sums.{none_before, times_more}
-use Rattle.workers.proofs.Moves.{begins, founds, has_room, admits}
-use Rattle.workers.proofs.places.Pool.new.Goals as goal
+use Rattle.pools.specs.Places.{common, times}
+use Rattle.pools.proofs.Sums.{none_before, times_more}
+use Rattle.pools.proofs.Moves.{begins, founds, has_room, admits, next_kind}
+use Rattle.pools.proofs.places.Pool.new.Goals as goal
 
 pub ruled-requires-clause-rule : goal.ruled-requires-clause-rule
-ruled-requires-clause-rule g c = begins g.L.Numbered.number_of
+ruled-requires-clause-rule g c = begins g.L.Numbered.number_of g.L.Numbered.kind_of
 
 pub push_as-requires-clause-rule : goal.push_as-requires-clause-rule
 push_as-requires-clause-rule g c =
@@ -19,22 +19,26 @@ push_as-requires-clause-rule g c =
     let lease = c.in-Some.lease in
     let all = ap (λ l. c.loop-lease.yielded ++ l) (sym c.in-Some.ensures.steps.0) ∙ i.left in
     let once = subst (λ l. times (number lease) (map number l) ≤ 1) (sym all) (c.requires.once (number lease)) in
-    (founds _ _ _ _ _ i.alone (i.numbers (number lease) ∙ none_before number c.loop-lease.yielded lease _ once), has_room number _ _)
+    let alike = (next_kind g.L.Numbered.kind_of c.args.leases.items c.loop-lease.yielded lease c.next.new.self.rest.items c.requires.alike all).0 in
+    let of_kind = ⊎_elim (λ (none : c.loop-lease.yielded ≡ []). inl (nil_from_length (view c.loop-lease.founder).all (i.count ∙ ap length none))) (λ same. inr (i.kind ∙ same)) alike in
+    (founds _ _ _ _ _ _ i.alone (i.numbers (number lease) ∙ none_before number c.loop-lease.yielded lease _ once) of_kind, has_room number g.L.Numbered.kind_of _ _)
 
 pub another-pass-requires-clause-rule : goal.another-pass-requires-clause-rule
-another-pass-requires-clause-rule g c = admits g.L.Numbered.number_of _ _
+another-pass-requires-clause-rule g c = admits g.L.Numbered.number_of g.L.Numbered.kind_of _ _
 
 pub loop-lease-preserved : goal.loop-lease-preserved
 loop-lease-preserved g c =
     let i = c.loop-lease.invariant in
     let number = g.L.Numbered.number_of in
+    let at : c.loop-lease.yielded ++ c.in-Some.lease ∷ c.next.new.self.rest.items ≡ c.args.leases.items = ap (λ l. c.loop-lease.yielded ++ l) (sym c.in-Some.ensures.steps.0) ∙ i.left in
     let same = ap (λ v. v.all) c.in-Ok.ensures.rule in record {
       can = search rules;
       ends = search rules;
-      left = append_assoc c.loop-lease.yielded (c.in-Some.lease ∷ []) c.next.new.self.rest.items ∙ ap (λ l. c.loop-lease.yielded ++ l) (sym c.in-Some.ensures.steps.0) ∙ i.left;
+      left = append_assoc c.loop-lease.yielded (c.in-Some.lease ∷ []) c.next.new.self.rest.items ∙ at;
       pass = search rules;
       alone = search rules;
       held = search rules;
+      kind = ap (λ v. v.kind) c.in-Ok.ensures.rule ∙ sym (next_kind g.L.Numbered.kind_of c.args.leases.items c.loop-lease.yielded c.in-Some.lease c.next.new.self.rest.items c.requires.alike at).1;
       numbers = λ x. ap (times x) same ∙ (let h = times_more number x c.loop-lease.yielded c.in-Some.lease in let k = i.numbers x in omega arith);
       count = ap length same ∙ (let k = i.count in omega (arith, length-append c.loop-lease.yielded (c.in-Some.lease ∷ [])));
     }
@@ -53,6 +57,8 @@ loop-init g c =
       pass = i.pass;
       held = i.held;
       sole = λ _. i.alone;
+      kind = i.kind ∙ ap (common g.L.Numbered.kind_of) all;
+      kinds = subst (All (λ p. (holding p).kind ≡ common g.L.Numbered.kind_of c.args.leases.items)) (sym c.in_ok-places.ensures.items) (All-nil _);
       numbers = λ x. i.numbers x ∙ ap (λ l. times x (map number l)) all;
       length = i.count ∙ ap length all ∙ sym (length-map c.args.leases.items number);
     }
@@ -61,8 +67,9 @@ pub loop-preserved : goal.loop-preserved
 loop-preserved g c =
     let i = c.loop.invariant in
     let numbers = map g.L.Numbered.number_of c.args.leases.items in
-    let P : Pass g.row.L.Denot → Type 0 = IsEmptyOf (record { queue = c.in_ok-queue.queue }) numbers in
+    let P : Pass g.row.L.Denot g.row.K.Denot → Type 0 = IsEmptyOf (record { queue = c.in_ok-queue.queue }) numbers in
     let a = c.another-pass.ensures in
+    let Q : Pass g.row.L.Denot g.row.K.Denot → Type 0 = λ p. (holding p).kind ≡ common g.L.Numbered.kind_of c.args.leases.items in
     let known : (view c.another-pass.result).all ≡ (view c.loop.founder).all = ap (λ v. v.all) a.rule.1 in
     let fits : length (view c.another-pass.result).all ≤ ruled_capacity c.in_ok-queue.queue = let e = c.in_ok-queue.ensures.0 in let l = c.len.ensures in let k = ap length known ∙ i.length in omega (arith, length-map c.args.leases.items g.L.Numbered.number_of) in record {
       count = search rules;
@@ -72,6 +79,8 @@ loop-preserved g c =
       pass = search rules;
       held = search rules;
       sole = λ one. let n = c.loop-test.true in let m = c.loop.invariant.count in absurd (omega arith);
+      kind = ap (λ v. v.kind) a.rule.0 ∙ i.kind;
+      kinds = subst (All Q) (sym c.push_reserved.ensures.items) (All-push Q _ _ i.kinds (ap (λ v. v.kind) a.rule.1 ∙ i.kind));
       numbers = λ x. ap (λ v. times x v.all) a.rule.0 ∙ i.numbers x;
       length = ap (λ v. length v.all) a.rule.0 ∙ i.length;
     }
@@ -80,13 +89,19 @@ pub returns-clause-passes : goal.returns-clause-passes
 returns-clause-passes g c =
     let i = c.loop.invariant in
     let numbers = map g.L.Numbered.number_of c.args.leases.items in
-    let P : Pass g.row.L.Denot → Type 0 = IsEmptyOf (record { queue = c.in_ok-queue.queue }) numbers in
+    let P : Pass g.row.L.Denot g.row.K.Denot → Type 0 = IsEmptyOf (record { queue = c.in_ok-queue.queue }) numbers in
     let fits : length (view c.loop.founder).all ≤ ruled_capacity c.in_ok-queue.queue = let e = c.in_ok-queue.ensures.0 in let l = c.len.ensures in let k = i.length in omega (arith, length-map c.args.leases.items g.L.Numbered.number_of) in
     subst (All P) (sym c.push_reserved-2.ensures.items) (All-push P _ _ i.all ((i.pass, fits), i.held, i.numbers, i.length))
+
+pub returns-clause-kind : goal.returns-clause-kind
+returns-clause-kind g c =
+    let i = c.loop.invariant in
+    let Q : Pass g.row.L.Denot g.row.K.Denot → Type 0 = λ p. (holding p).kind ≡ common g.L.Numbered.kind_of c.args.leases.items in
+    subst (All Q) (sym c.push_reserved-2.ensures.items) (All-push Q _ _ i.kinds i.kind)
 
 pub returns-clause-alone : goal.returns-clause-alone
 returns-clause-alone g c only =
     let i = c.loop.invariant in
-    let P : Pass g.row.L.Denot → Type 0 = λ p. (holding p).alone ≡ true in
+    let P : Pass g.row.L.Denot g.row.K.Denot → Type 0 = λ p. (holding p).alone ≡ true in
     let none : c.loop.places.items ≡ [] = nil_from_length c.loop.places.items (let n = i.count in let e = c.loop.auto.counter-end in let o = c.loop.places.ok.0 in let p = only in omega arith) in
     subst (All P) (sym c.push_reserved-2.ensures.items) (All-push P _ _ (subst (All P) (sym none) (All-nil P)) (i.sole only))

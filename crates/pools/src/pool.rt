@@ -1,7 +1,7 @@
 //! What is done with a pool.
-ghost use Rattle.std.specs.Prelude.{◌≡◌, ℕ, ◌<◌, ◌≤◌, true, ◌∷◌, length, map, All, IfOk, IfNone, IfSome};
-ghost use Rattle.workers.specs.Places.{AreOnce, hand, times, without};
-ghost use Rattle.workers.specs.Passes.{holding, IsOf, IsEmptyOf};
+ghost use Rattle.std.specs.Prelude.{◌≡◌, ℕ, ◌<◌, ◌≤◌, true, ◌∷◌, length, map, All, IfOk, IfNone, IfSome, Some};
+ghost use Rattle.pools.specs.Places.{AreAlike, AreOnce, common, hand, times, without};
+ghost use Rattle.pools.specs.Passes.{holding, IsOf, IsEmptyOf};
 
 use crate::places::{Pass, Pool};
 use crate::rule::{Founds, Gives, Newcomer, Numbered, Takes};
@@ -10,8 +10,8 @@ use std::alloc::Global;
 use std::sync::Wait;
 use terms::NoMemory;
 
-impl<L: Numbered + Drop> Pool<L> {
-    /// Makes a pool of these leases, and its passes, which hold nothing. There may be no lease at all.
+impl<L: Numbered<K> + Drop, K> Pool<L, K> {
+    /// Makes a pool of these leases, of one kind, and its passes, which hold nothing. There may be no lease at all.
     ///
     /// It takes `Wait` because it fills the pool as `give_back` does, but no other thread has the pool yet.
     ///
@@ -23,11 +23,13 @@ impl<L: Numbered + Drop> Pool<L> {
         alloc: Global,
         leases: Vec<L>,
         passes: u16,
-    ) -> Result<(Pool<L>, Vec<Pass<L>>), NoMemory>
+    ) -> Result<(Pool<L, K>, Vec<Pass<L, K>>), NoMemory>
         requires some { 0 < passes }
         requires once { AreOnce (map L.number_of leases.items) }
+        requires alike { AreAlike L.kind_of leases.items }
         ensures count { IfOk result (λ both. length both.1.items ≡ passes) }
         ensures passes { IfOk result (λ both. All (IsEmptyOf both.0 (map L.number_of leases.items)) both.1.items) }
+        ensures kind { IfOk result (λ both. All (λ pass. (holding pass).kind ≡ common L.kind_of leases.items) both.1.items) }
         ensures alone { IfOk result (λ both. passes ≡ 1 → All (λ pass. (holding pass).alone ≡ true) both.1.items) }
     {
         let capacity = leases.len().max(1);
@@ -50,10 +52,11 @@ impl<L: Numbered + Drop> Pool<L> {
     ///
     /// It may wait for another thread that is inside a call. No order is promised: any lease in the pool may come.
     /// At `None` the pool was empty at one moment of the call. The clause `empty` says so for the only pass of a pool; with several passes it rests on the contract of the queue.
-    pub fn take<R: Wait>(&self, rt: &R, pass: &mut Pass<L>) -> Option<L>
+    pub fn take<R: Wait>(&self, rt: &R, pass: &mut Pass<L, K>) -> Option<L>
         requires { IsOf self.now pass.old }
         ensures pass { IsOf self.now pass.new }
-        ensures some { IfSome result (λ lease. holding pass.new ≡ hand (holding pass.old).alone (holding pass.old).all (L.number_of lease ∷ (holding pass.old).held)) }
+        ensures some { IfSome result (λ lease. holding pass.new ≡ hand (holding pass.old).alone (holding pass.old).all (L.number_of lease ∷ (holding pass.old).held) (holding pass.old).kind) }
+        ensures kind { IfSome result (λ lease. (holding pass.old).kind ≡ Some (L.kind_of lease)) }
         ensures none { IfNone result (holding pass.new ≡ holding pass.old) }
         ensures empty { IfNone result ((holding pass.old).alone ≡ true → length (holding pass.old).held ≡ length (holding pass.old).all) }
     {
@@ -63,11 +66,12 @@ impl<L: Numbered + Drop> Pool<L> {
     /// Gives back a lease that is out with the pass. It cannot fail, since the pool has room for all leases.
     ///
     /// It may wait for another thread that is inside a call. No order is promised: the lease may be taken again before or after the others.
-    pub fn give_back<R: Wait>(&self, rt: &R, pass: &mut Pass<L>, lease: L)
+    pub fn give_back<R: Wait>(&self, rt: &R, pass: &mut Pass<L, K>, lease: L)
         requires pass { IsOf self.now pass.old }
         requires held { 0 < times (L.number_of lease) (holding pass.old).held }
+        requires kind { (holding pass.old).kind ≡ Some (L.kind_of lease) }
         ensures pass { IsOf self.now pass.new }
-        ensures given { holding pass.new ≡ hand (holding pass.old).alone (holding pass.old).all (without (L.number_of lease) (holding pass.old).held) }
+        ensures given { holding pass.new ≡ hand (holding pass.old).alone (holding pass.old).all (without (L.number_of lease) (holding pass.old).held) (holding pass.old).kind }
     {
         let Ok(()) = self.queue.push_as::<Gives<L>, R>(rt, &mut pass.pass, lease) else {
             unreachable!()

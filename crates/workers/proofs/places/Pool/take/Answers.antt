@@ -1,5 +1,0 @@
-use Rattle.workers.proofs.Moves.{takes, holds_rest}
-use Rattle.workers.proofs.places.Pool.take.Goals as goal
-
-pub pop_as-requires-clause-rule : goal.pop_as-requires-clause-rule
-pop_as-requires-clause-rule g c = (takes _ _ _, holds_rest g.L.Numbered.number_of _ _)
