@@ -4,7 +4,7 @@
 const MOST_SKIPS: u64 = 256;
 
 // A component that is far ahead holds much, which every meeting walks along, and loses much to a straggler; one that is hardly ahead is visited
-// for little. So its window is half as much again as what it did between the last two arrivals of messages and could keep.
+// for little. So its window is twice what it did between the last two arrivals of messages and could keep, and grows where none come.
 #[derive(Drop)]
 pub(crate) struct Pace {
     // How many entries it may have done since its base.
@@ -59,13 +59,13 @@ impl Pace {
 
     // Messages came or not, and so many entries were taken back.
     pub(crate) fn adapt(&mut self, came: bool, lost: usize, budget: u32) {
-        let kept = self.ran.saturating_sub(lost as u64);
-        let next = if lost == 0 {
-            self.window
-        } else {
-            kept.saturating_add(kept / 2)
-        };
-        self.window = next.saturating_add(1).min(u64::from(budget));
+        if lost > 0 {
+            let kept = self.ran.saturating_sub(lost as u64);
+            self.window = kept.saturating_mul(2).saturating_add(1);
+        }
+        if lost > 0 || self.ran >= self.window.saturating_mul(2) {
+            self.window = self.window.saturating_add(1).min(u64::from(budget));
+        }
         if came {
             self.ran = 0;
         }

@@ -7,16 +7,19 @@ use crate::crew::{Paced, Worker};
 use crate::fault::WorkFault;
 use crate::gate::Gate;
 use crate::shared::{Shared, end, ends, hold, nap, note};
-use crossbeam_utils::Backoff;
 use event_keys::Bound;
 use exchange::{Exchange, Lease, MeetRefused};
 use std::alloc::Global;
 use std::sync::Wait;
+use std::thread;
 use task_seed::Turns;
 use terms::NoMemory;
 
-// How many microseconds a worker sleeps that has found no lease to work on several times.
+// How many microseconds a worker sleeps that has found no lease to work on, after so many looks. Each look takes the exchange from those that
+// work.
 const NAP: u64 = 50;
+
+const LOOKS: u32 = 2;
 
 // A lease to work on, and whether it held all others up when it was taken: nothing more is committed before it has run.
 #[derive(Drop)]
@@ -36,7 +39,7 @@ pub(crate) fn work<T: Turns, G: Gate<T>, R: Wait>(
 )
     requires { IsOf shared.now worker }
 {
-    let backoff = Backoff::new();
+    let mut looks = 0;
     let mut done = None;
     for _ in rt.forever() {
         if ends(shared) {
@@ -57,7 +60,7 @@ pub(crate) fn work<T: Turns, G: Gate<T>, R: Wait>(
         ) = visit
         else {
             done = None;
-            idle(rt, &backoff);
+            looks = idle(rt, looks);
             continue;
         };
         if advance(alloc, gate, &mut paced, holds_up, budget).is_err() {
@@ -65,18 +68,19 @@ pub(crate) fn work<T: Turns, G: Gate<T>, R: Wait>(
             break;
         }
         done = Some(paced);
-        backoff.reset();
+        looks = 0;
     }
     end(shared);
 }
 
-// Lets other threads go on, shortly at first.
-fn idle<R: Wait>(rt: &R, backoff: &Backoff) {
-    if backoff.is_completed() {
-        nap(rt, NAP);
+// Lets other threads go on, shortly at first, and answers how many looks in a row were in vain.
+fn idle<R: Wait>(rt: &R, looks: u32) -> u32 {
+    if looks < LOOKS {
+        thread::yield_now();
     } else {
-        backoff.snooze();
+        nap(rt, NAP);
     }
+    looks.saturating_add(1)
 }
 
 // With the exchange: what was done of a lease is shared and committed, and another one is taken.
