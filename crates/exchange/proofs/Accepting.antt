@@ -1,7 +1,7 @@
 -- What a meeting moves is what the theory says, and all stays sound.
 use Rattle.std.proofs.Common.{◌≡◌, ℕ, ◌+◌, ◌-◌, ◌<◌, ◌≤◌, ◌==◌, ◌⊎◌, inl, inr, cond, Option, None, Some, List, [], filter, length, refl, ap, sym, subst, ◌∙◌, arith}
 use Rattle.std.specs.Prelude.{nat_lt, slice_get, IfSome}
-use Rattle.std.proofs.lemmas.Bool.{eq-eqb, ne_eqb, cases_eq}
+use Rattle.std.proofs.lemmas.Bool.{eq-eqb, ne_eqb, cases_eq, cases_lt}
 use Rattle.std.proofs.lemmas.Option.{slice_get_past}
 use Rattle.std.specs.Option.{option_or}
 use Rattle.terms.specs.Datum.{Datum}
@@ -29,7 +29,7 @@ use Rattle.task_seed.specs.Turning.{System, key_of}
 use Rattle.task_seed.specs.Machines.{machine}
 use Rattle.exchange.specs.declared.stub.Stub.{Stub}
 use Rattle.exchange.specs.Holding.{Holding, IsHolding, lease_of, part_of}
-use Rattle.exchange.specs.Moving.{among, IsArrived, IsPassedOn}
+use Rattle.exchange.specs.Moving.{among, HasCome, IsArrived, IsPassedOn}
 use Rattle.exchange.specs.Shared.{Shared, IsShared, IsStub, stub_of, stub_or_start, turns_of, exchange_of}
 use Rattle.exchange.proofs.Committing.{slice_get_none}
 use Rattle.exchange.proofs.Receiving.{none_else, to_alone, To}
@@ -89,46 +89,99 @@ module _ (s : System) (to : ToLaw) where
       ap (λ ys. times (machine s) ys k a) none
 
   -- what came to the stub of component i, all of whose inbox is to it
-  module _ (law : Lawful (machine s)) (i : ℕ) (out copies : List Signed) (old new : Stub) (is : IsArrived (filter (is_to i) out) (filter (is_to i) copies) old new) where
-    pub still_to : To i old.inbox → To i new.inbox
-    still_to t = to_alone s law i new.inbox none
+  module _ (law : Lawful (machine s)) (i : ℕ) (out copies : List Signed) (old new : Stub) (come : HasCome (filter (is_to i) out) (filter (is_to i) copies) old new) where
+    abbrev IsApart : Stub → Type 0
+    IsApart stub = (k : ℕ) (a : Named) → (among s Plus i stub.inbox k a ≡ 0) ⊎ (among s Minus i stub.inbox k a ≡ 0)
+
+    nothing_came : (sign : Sign) (k : ℕ) (a : Named) → filter (is_to i) out ≡ [] → among s sign i out k a ≡ 0
+    nothing_came sign k a none = sym (filtered_here sign i k a out) ∙ ap (λ xs. among s sign i xs k a) none
+
+    pub rest_there : new ≡ record old { inbox = new.inbox; copies = new.copies }
+    rest_there = go come
       where
-        none : (sign : Sign) (l k : ℕ) (a : Named) → (l ≡ i → ⊥) → among s sign l new.inbox k a ≡ 0
-        none Plus l k a ne =
+        go : HasCome (filter (is_to i) out) (filter (is_to i) copies) old new → new ≡ record old { inbox = new.inbox; copies = new.copies }
+        go (inl is) = is.rest
+        go (inr none) = none.2 ∙ (λ v. record old { inbox = (sym none.2 v).inbox; copies = (sym none.2 v).copies })
+
+    pub order_there : IsInOrder old.inbox → IsInOrder new.inbox
+    order_there was = go come
+      where
+        go : HasCome (filter (is_to i) out) (filter (is_to i) copies) old new → IsInOrder new.inbox
+        go (inl is) = is.order
+        go (inr none) = subst (λ (x : Stub). IsInOrder x.inbox) (sym none.2) was
+
+    pub still_to : To i old.inbox → To i new.inbox
+    still_to t = go come
+      where
+        arrived : IsArrived (filter (is_to i) out) (filter (is_to i) copies) old new → (sign : Sign) (l k : ℕ) (a : Named) → (l ≡ i → ⊥) → among s sign l new.inbox k a ≡ 0
+        arrived is Plus l k a ne =
             let m = is.messages s l k a in
             let f = filtered_else Plus i l k a out ne in
             let o : among s Plus l old.inbox k a ≡ 0 = ap (λ ys. times (machine s) ys k a) (none_else Plus i l old.inbox ne t) in
             omega (arith, m, f, o)
-        none Minus l k a ne =
+        arrived is Minus l k a ne =
             let m = is.antimessages s l k a in
             let f = filtered_else Minus i l k a out ne in
             let o : among s Minus l old.inbox k a ≡ 0 = ap (λ ys. times (machine s) ys k a) (none_else Minus i l old.inbox ne t) in
             omega (arith, m, f, o)
 
-    pub messages_there : (k : ℕ) (a : Named) → among s Plus i new.inbox k a ≡ (among s Plus i old.inbox k a + among s Plus i out k a) - (among s Minus i old.inbox k a + among s Minus i out k a)
-    messages_there k a =
-        let m = is.messages s i k a in
-        let p = filtered_here Plus i k a out in
-        let n = filtered_here Minus i k a out in
-        omega (arith, m, p, n)
+        go : HasCome (filter (is_to i) out) (filter (is_to i) copies) old new → To i new.inbox
+        go (inl is) = to_alone s law i new.inbox (arrived is)
+        go (inr none) = subst (λ (x : Stub). To i x.inbox) (sym none.2) t
 
-    pub antimessages_there : (k : ℕ) (a : Named) → among s Minus i new.inbox k a ≡ (among s Minus i old.inbox k a + among s Minus i out k a) - (among s Plus i old.inbox k a + among s Plus i out k a)
-    antimessages_there k a =
-        let m = is.antimessages s i k a in
-        let p = filtered_here Plus i k a out in
-        let n = filtered_here Minus i k a out in
-        omega (arith, m, p, n)
+    pub messages_there : IsApart old → (k : ℕ) (a : Named) → among s Plus i new.inbox k a ≡ (among s Plus i old.inbox k a + among s Plus i out k a) - (among s Minus i old.inbox k a + among s Minus i out k a)
+    messages_there apart k a = go come
+      where
+        stays : among s Plus i new.inbox k a ≡ among s Plus i old.inbox k a → among s Plus i out k a ≡ 0 → among s Minus i out k a ≡ 0 → (among s Plus i old.inbox k a ≡ 0) ⊎ (among s Minus i old.inbox k a ≡ 0)
+            → among s Plus i new.inbox k a ≡ (among s Plus i old.inbox k a + among s Plus i out k a) - (among s Minus i old.inbox k a + among s Minus i out k a)
+        stays same p n (inl no_messages) = omega (arith, same, p, n, no_messages)
+        stays same p n (inr no_antimessages) = omega (arith, same, p, n, no_antimessages)
+
+        go : HasCome (filter (is_to i) out) (filter (is_to i) copies) old new → among s Plus i new.inbox k a ≡ (among s Plus i old.inbox k a + among s Plus i out k a) - (among s Minus i old.inbox k a + among s Minus i out k a)
+        go (inl is) =
+            let m = is.messages s i k a in
+            let p = filtered_here Plus i k a out in
+            let n = filtered_here Minus i k a out in
+            omega (arith, m, p, n)
+        go (inr none) = stays (ap (λ (x : Stub). among s Plus i x.inbox k a) none.2) (nothing_came Plus k a none.0) (nothing_came Minus k a none.0) (apart k a)
+
+    pub antimessages_there : IsApart old → (k : ℕ) (a : Named) → among s Minus i new.inbox k a ≡ (among s Minus i old.inbox k a + among s Minus i out k a) - (among s Plus i old.inbox k a + among s Plus i out k a)
+    antimessages_there apart k a = go come
+      where
+        stays : among s Minus i new.inbox k a ≡ among s Minus i old.inbox k a → among s Plus i out k a ≡ 0 → among s Minus i out k a ≡ 0 → (among s Plus i old.inbox k a ≡ 0) ⊎ (among s Minus i old.inbox k a ≡ 0)
+            → among s Minus i new.inbox k a ≡ (among s Minus i old.inbox k a + among s Minus i out k a) - (among s Plus i old.inbox k a + among s Plus i out k a)
+        stays same p n (inl no_messages) = omega (arith, same, p, n, no_messages)
+        stays same p n (inr no_antimessages) = omega (arith, same, p, n, no_antimessages)
+
+        go : HasCome (filter (is_to i) out) (filter (is_to i) copies) old new → among s Minus i new.inbox k a ≡ (among s Minus i old.inbox k a + among s Minus i out k a) - (among s Plus i old.inbox k a + among s Plus i out k a)
+        go (inl is) =
+            let m = is.antimessages s i k a in
+            let p = filtered_here Plus i k a out in
+            let n = filtered_here Minus i k a out in
+            omega (arith, m, p, n)
+        go (inr none) = stays (ap (λ (x : Stub). among s Minus i x.inbox k a) none.2) (nothing_came Plus k a none.0) (nothing_came Minus k a none.0) (apart k a)
+
+    pub apart_there : IsApart old → IsApart new
+    apart_there apart k a = go (cases_lt (among s Plus i old.inbox k a + among s Plus i out k a) (among s Minus i old.inbox k a + among s Minus i out k a)) (messages_there apart k a) (antimessages_there apart k a)
+      where
+        go : {x y p q : ℕ} → (x < y) ⊎ (y ≤ x) → p ≡ x - y → q ≡ y - x → (p ≡ 0) ⊎ (q ≡ 0)
+        go (inl l) e f = inl (omega (arith, l, e))
+        go (inr l) e f = inr (omega (arith, l, f))
 
     -- each message that is there has its copy, where each that was there and each that came had one
     pub copied_there : ((k : ℕ) (a : Named) → among s Plus i old.copies k a ≡ among s Plus i old.inbox k a) → in_flight Plus i copies ≡ in_flight Plus i out → (k : ℕ) (a : Named) → among s Plus i new.copies k a ≡ among s Plus i new.inbox k a
-    copied_there was came k a =
-        let c = is.copied s i k a in
-        let m = is.messages s i k a in
-        let f = filtered_here Plus i k a copies in
-        let p = filtered_here Plus i k a out in
-        let o = was k a in
-        let d : among s Plus i copies k a ≡ among s Plus i out k a = ap (λ l. times (machine s) l k a) came in
-        omega (arith, c, m, f, p, o, d)
+    copied_there was came k a = go come
+      where
+        go : HasCome (filter (is_to i) out) (filter (is_to i) copies) old new → among s Plus i new.copies k a ≡ among s Plus i new.inbox k a
+        go (inl is) =
+            let c = is.copied s i k a in
+            let m = is.messages s i k a in
+            let f = filtered_here Plus i k a copies in
+            let p = filtered_here Plus i k a out in
+            let o = was k a in
+            let d : among s Plus i copies k a ≡ among s Plus i out k a = ap (λ l. times (machine s) l k a) came in
+            omega (arith, c, m, f, p, o, d)
+        go (inr none) = ap (λ (x : Stub). among s Plus i x.copies k a) none.2 ∙ was k a ∙ ap (λ (x : Stub). among s Plus i x.inbox k a) (sym none.2)
 
 module _ {P Q : Type 0} (s : System) (law : Lawful (machine s)) (e : Shared P) (is : IsShared s e) (h : Holding Q) (holds : IsHolding (machine s) (length s.composition) h) (floor : Bound) (tray : List Signed) (stubs : List Stub)
     (passed : IsPassedOn h.component.number e.bound floor h.out h.copies.of_sender h.copies.of_receiver h.tray tray e.stubs stubs) (to : ToLaw) where
@@ -169,16 +222,22 @@ module _ {P Q : Type 0} (s : System) (law : Lawful (machine s)) (e : Shared P) (
   sent_copies : passed.sent.copies ≡ was.copies
   sent_copies = ap (λ (x : Stub). x.copies) passed.is_sent.rest
 
+  sent_apart : (k : ℕ) (a : Named) → (among s Plus i passed.sent.inbox k a ≡ 0) ⊎ (among s Minus i passed.sent.inbox k a ≡ 0)
+  sent_apart k a = subst (λ xs. (among s Plus i xs k a ≡ 0) ⊎ (among s Minus i xs k a ≡ 0)) (sym sent_inbox) (was_is.apart k a)
+
+  arrived_rest : arrived ≡ record passed.sent { inbox = arrived.inbox; copies = arrived.copies }
+  arrived_rest = rest_there s to law i h.out h.copies.of_receiver passed.sent arrived passed.has_come
+
   messages_here : (k : ℕ) (a : Named) → among s Plus i arrived.inbox k a ≡ (among s Plus i was.inbox k a + among s Plus i h.out k a) - (among s Minus i was.inbox k a + among s Minus i h.out k a)
   messages_here k a = subst (λ xs. among s Plus i arrived.inbox k a ≡ (among s Plus i xs k a + among s Plus i h.out k a) - (among s Minus i xs k a + among s Minus i h.out k a)) sent_inbox
-      (messages_there s to law i h.out h.copies.of_receiver passed.sent arrived passed.is_arrived k a)
+      (messages_there s to law i h.out h.copies.of_receiver passed.sent arrived passed.has_come sent_apart k a)
 
   antimessages_here : (k : ℕ) (a : Named) → among s Minus i arrived.inbox k a ≡ (among s Minus i was.inbox k a + among s Minus i h.out k a) - (among s Plus i was.inbox k a + among s Plus i h.out k a)
   antimessages_here k a = subst (λ xs. among s Minus i arrived.inbox k a ≡ (among s Minus i xs k a + among s Minus i h.out k a) - (among s Plus i xs k a + among s Plus i h.out k a)) sent_inbox
-      (antimessages_there s to law i h.out h.copies.of_receiver passed.sent arrived passed.is_arrived k a)
+      (antimessages_there s to law i h.out h.copies.of_receiver passed.sent arrived passed.has_come sent_apart k a)
 
   copies_here : (k : ℕ) (a : Named) → among s Plus i arrived.copies k a ≡ among s Plus i arrived.inbox k a
-  copies_here = copied_there s to law i h.out h.copies.of_receiver passed.sent arrived passed.is_arrived
+  copies_here = copied_there s to law i h.out h.copies.of_receiver passed.sent arrived passed.has_come
       (λ k a. ap (λ xs. among s Plus i xs k a) sent_copies ∙ was_is.copied k a ∙ sym (ap (λ xs. among s Plus i xs k a) sent_inbox)) (holds.of_receiver i)
 
   -- where there is no stub now there was none
@@ -209,7 +268,7 @@ module _ {P Q : Type 0} (s : System) (law : Lawful (machine s)) (e : Shared P) (
           omega (arith, p, o)
       other ne (Some x) q =
           let r = passed.others j x ne q in
-          messages_there s to law j h.out h.copies.of_receiver r.was x r.arrived k a ∙ ap (After j) (sym (ap (stub_or_start m j) r.there))
+          messages_there s to law j h.out h.copies.of_receiver r.was x r.come (is.stubs j r.was r.there).apart k a ∙ ap (After j) (sym (ap (stub_or_start m j) r.there))
 
       go : (j ≡ i) ⊎ (j ≡ i → ⊥) → times m (in_flight Plus j (inbox_at j)) k a ≡ After j (stub_or_start m j (slice_get e.stubs j))
       go (inl q) = subst (λ n. times m (in_flight Plus n (inbox_at n)) k a ≡ After n (stub_or_start m n (slice_get e.stubs n))) (sym q) own
@@ -233,7 +292,7 @@ module _ {P Q : Type 0} (s : System) (law : Lawful (machine s)) (e : Shared P) (
           omega (arith, p, o)
       other ne (Some x) q =
           let r = passed.others j x ne q in
-          antimessages_there s to law j h.out h.copies.of_receiver r.was x r.arrived k a ∙ ap (After j) (sym (ap (stub_or_start m j) r.there))
+          antimessages_there s to law j h.out h.copies.of_receiver r.was x r.come (is.stubs j r.was r.there).apart k a ∙ ap (After j) (sym (ap (stub_or_start m j) r.there))
 
       go : (j ≡ i) ⊎ (j ≡ i → ⊥) → times m (in_flight Minus j (inbox_at j)) k a ≡ After j (stub_or_start m j (slice_get e.stubs j))
       go (inl q) = subst (λ n. times m (in_flight Minus n (inbox_at n)) k a ≡ After n (stub_or_start m n (slice_get e.stubs n))) (sym q) own
@@ -258,7 +317,7 @@ module _ {P Q : Type 0} (s : System) (law : Lawful (machine s)) (e : Shared P) (
       go None q = ap (λ o. with_inbox (stub_or_start m j o) []) (sym (none_was j q))
       go (Some x) q =
           let r = passed.others j x ne q in
-          ap (λ (y : Stub). with_inbox (stub_of m j y) x.inbox) r.arrived.rest ∙ ap (λ o. with_inbox (stub_or_start m j o) x.inbox) (sym r.there)
+          ap (λ (y : Stub). with_inbox (stub_of m j y) x.inbox) (rest_there s to law j h.out h.copies.of_receiver r.was x r.come) ∙ ap (λ o. with_inbox (stub_or_start m j o) x.inbox) (sym r.there)
 
   handed_taken : (k : ℕ) (a : Named) → among s Plus i passed.handed.taken k a ≡ (among s Plus i was.taken k a + times m (in_flight Plus i (inbox_at i)) k a) - times m (in_flight Minus i (inbox_at i)) k a
   handed_taken k a =
@@ -266,7 +325,7 @@ module _ {P Q : Type 0} (s : System) (law : Lawful (machine s)) (e : Shared P) (
       let c = copies_here k a in
       let p : times m (in_flight Plus i (inbox_at i)) k a ≡ among s Plus i arrived.inbox k a = ap (λ xs. times m (in_flight Plus i xs) k a) inbox_here in
       let n : times m (in_flight Minus i (inbox_at i)) k a ≡ among s Minus i arrived.inbox k a = ap (λ xs. times m (in_flight Minus i xs) k a) inbox_here in
-      let w : among s Plus i arrived.taken k a ≡ among s Plus i was.taken k a = ap (λ (x : Stub). among s Plus i x.taken k a) passed.is_arrived.rest ∙ ap (λ (x : Stub). among s Plus i x.taken k a) passed.is_sent.rest in
+      let w : among s Plus i arrived.taken k a ≡ among s Plus i was.taken k a = ap (λ (x : Stub). among s Plus i x.taken k a) arrived_rest ∙ ap (λ (x : Stub). among s Plus i x.taken k a) passed.is_sent.rest in
       omega (arith, t, c, p, n, w)
 
   taken : (k : ℕ) (a : Named) → (stub_or_start m i (slice_get stubs i)).taken k a
@@ -279,7 +338,7 @@ module _ {P Q : Type 0} (s : System) (law : Lawful (machine s)) (e : Shared P) (
   handed_standing k a j =
       let t = passed.is_sent.standing s j k a in
       let c : among s Plus j h.copies.of_sender k a ≡ among s Plus j h.out k a = ap (λ l. times m l k a) (holds.of_sender j) in
-      let w : among s Plus j passed.handed.standing k a ≡ among s Plus j passed.sent.standing k a = ap (λ (x : Stub). among s Plus j x.standing k a) passed.is_handed.rest ∙ ap (λ (x : Stub). among s Plus j x.standing k a) passed.is_arrived.rest in
+      let w : among s Plus j passed.handed.standing k a ≡ among s Plus j passed.sent.standing k a = ap (λ (x : Stub). among s Plus j x.standing k a) passed.is_handed.rest ∙ ap (λ (x : Stub). among s Plus j x.standing k a) arrived_rest in
       omega (arith, t, c, w)
 
   standing : (k : ℕ) (a : Named) (j : ℕ) → (stub_or_start m i (slice_get stubs i)).standing k a j
@@ -353,6 +412,7 @@ module _ {P Q : Type 0} (s : System) (law : Lawful (machine s)) (e : Shared P) (
         own = record {
           inbox = subst (To i) (sym kept_inbox) tt;
           order = subst IsInOrder (sym kept_inbox) (record { sorted = tt; fits = tt });
+          apart = λ k a. inl (ap (λ xs. times m (in_flight Plus i xs) k a) kept_inbox);
           copied = λ k a. ap (λ xs. times m (in_flight Plus i xs) k a) (kept_copies ∙ sym kept_inbox);
           passed = same_passed ∙ was_is.passed;
           ahead = same_ahead ∙ was_is.ahead ∙ ap (key_of s i) (sym same_passed);
@@ -363,10 +423,10 @@ module _ {P Q : Type 0} (s : System) (law : Lawful (machine s)) (e : Shared P) (
           kept_copies = ap (λ (x : Stub). x.copies) passed.is_kept.rest ∙ ap (λ (x : Stub). x.copies) passed.is_handed.rest
 
           same_passed : passed.kept.passed ≡ was.passed
-          same_passed = ap (λ (x : Stub). x.passed) passed.is_kept.rest ∙ ap (λ (x : Stub). x.passed) passed.is_handed.rest ∙ ap (λ (x : Stub). x.passed) passed.is_arrived.rest ∙ ap (λ (x : Stub). x.passed) passed.is_sent.rest
+          same_passed = ap (λ (x : Stub). x.passed) passed.is_kept.rest ∙ ap (λ (x : Stub). x.passed) passed.is_handed.rest ∙ ap (λ (x : Stub). x.passed) arrived_rest ∙ ap (λ (x : Stub). x.passed) passed.is_sent.rest
 
           same_ahead : passed.kept.ahead ≡ was.ahead
-          same_ahead = ap (λ (x : Stub). x.ahead) passed.is_kept.rest ∙ ap (λ (x : Stub). x.ahead) passed.is_handed.rest ∙ ap (λ (x : Stub). x.ahead) passed.is_arrived.rest ∙ ap (λ (x : Stub). x.ahead) passed.is_sent.rest
+          same_ahead = ap (λ (x : Stub). x.ahead) passed.is_kept.rest ∙ ap (λ (x : Stub). x.ahead) passed.is_handed.rest ∙ ap (λ (x : Stub). x.ahead) arrived_rest ∙ ap (λ (x : Stub). x.ahead) passed.is_sent.rest
 
         each : (j : ℕ) (stub : Stub) → slice_get stubs j ≡ Some stub → (j ≡ i) ⊎ (j ≡ i → ⊥) → IsStub s g j stub
         each j stub q (inl same) =
@@ -376,12 +436,14 @@ module _ {P Q : Type 0} (s : System) (law : Lawful (machine s)) (e : Shared P) (
         each j stub q (inr ne) =
             let r = passed.others j stub ne q in
             let old = is.stubs j r.was r.there in
-            let same_passed : stub.passed ≡ r.was.passed = ap (λ (x : Stub). x.passed) r.arrived.rest in
-            let same_ahead : stub.ahead ≡ r.was.ahead = ap (λ (x : Stub). x.ahead) r.arrived.rest in
+            let rest = rest_there s to law j h.out h.copies.of_receiver r.was stub r.come in
+            let same_passed : stub.passed ≡ r.was.passed = ap (λ (x : Stub). x.passed) rest in
+            let same_ahead : stub.ahead ≡ r.was.ahead = ap (λ (x : Stub). x.ahead) rest in
             record {
-              inbox = still_to s to law j h.out h.copies.of_receiver r.was stub r.arrived old.inbox;
-              order = r.arrived.order;
-              copied = copied_there s to law j h.out h.copies.of_receiver r.was stub r.arrived old.copied (holds.of_receiver j);
+              inbox = still_to s to law j h.out h.copies.of_receiver r.was stub r.come old.inbox;
+              order = order_there s to law j h.out h.copies.of_receiver r.was stub r.come old.order;
+              apart = apart_there s to law j h.out h.copies.of_receiver r.was stub r.come old.apart;
+              copied = copied_there s to law j h.out h.copies.of_receiver r.was stub r.come old.copied (holds.of_receiver j);
               passed = same_passed ∙ old.passed;
               ahead = same_ahead ∙ old.ahead ∙ ap (key_of s j) (sym same_passed);
               small = subst (λ o. IfSome o (λ key. key.number < 4294967296)) (sym same_ahead) old.small;

@@ -211,7 +211,7 @@ module _ {P : Type 0} (s : System) (e : Shared P) (is : IsShared s e) (counted :
             let was = is.stubs j old there in
             let p = passing_all j stub h in
             subst (IsStub s b j) same
-            (record { inbox = was.inbox; order = was.order; copied = was.copied; passed = refl; ahead = refl; small = (subst (IsPassing s b j) (sym same) p).small; few = (subst (IsPassing s b j) (sym same) p).few })
+            (record { inbox = was.inbox; order = was.order; apart = was.apart; copied = was.copied; passed = refl; ahead = refl; small = (subst (IsPassing s b j) (sym same) p).small; few = (subst (IsPassing s b j) (sym same) p).few })
 
   -- the counted turns are below the new bound
   pub passing_before : ((i n : ℕ) → n < (point m (rank_of_bound e.bound)).next i → turn_rank s i n < rank_of_bound e.bound) → (j : ℕ) (stub : Stub) → slice_get e.stubs j ≡ Some stub → IsPassing s b j stub

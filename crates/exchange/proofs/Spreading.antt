@@ -7,7 +7,7 @@ use Rattle.event_keys.specs.declared.key.Bound.{Bound}
 use Rattle.event_keys.specs.declared.message.Signed.{Signed}
 use Rattle.antimessage.specs.Bags.{insert_all, is_to}
 use Rattle.exchange.specs.declared.stub.Stub.{Stub}
-use Rattle.exchange.specs.Moving.{IsArrived, IsForgotten, IsHandedOver, IsPassedOn, IsReached, IsSent}
+use Rattle.exchange.specs.Moving.{HasCome, IsForgotten, IsHandedOver, IsPassedOn, IsReached, IsSent}
 use Rattle.virtual_time.specs.Machine.{Lawful}
 use Rattle.task_seed.specs.Turning.{System}
 use Rattle.task_seed.specs.Machines.{machine}
@@ -39,7 +39,7 @@ pub spreading_starts : (out0 copies0 : List Signed) (old : List Stub) → IsSpre
 spreading_starts out0 copies0 old = record { done = λ j stub l. absurd (omega (arith, l)); rest = λ j l. refl; out_left = λ j l. refl; copies_left = λ j l. refl }
 
 module _ (out0 copies0 : List Signed) (old : List Stub) (i n : ℕ) (is_n : n ≡ i) (out copies : List Signed) (now : List Stub) (is : IsSpreading out0 copies0 old i out copies now) (short : i < length now) (d new : Stub)
-    (arrived : IsArrived (filter (is_to i) out) (filter (is_to i) copies) (slice_index_or now n d) new) where
+    (come : HasCome (filter (is_to i) out) (filter (is_to i) copies) (slice_index_or now n d) new) where
   pub spreading_steps : IsSpreading out0 copies0 old (i + 1) (filter (λ s. not (is_to i s)) out) (filter (λ s. not (is_to i s)) copies) (slice_set now n new)
   spreading_steps = record {
     done = λ j stub l h. done j stub h (cases_eq j i) l;
@@ -55,7 +55,7 @@ module _ (out0 copies0 : List Signed) (old : List Stub) (i n : ℕ) (is_n : n �
       reached = record {
         was = slice_index_or now n d;
         there = here;
-        arrived = subst (λ xs. IsArrived xs (filter (is_to i) copies0) (slice_index_or now n d) new) (is.out_left i (omega arith)) (subst (λ xs. IsArrived (filter (is_to i) out) xs (slice_index_or now n d) new) (is.copies_left i (omega arith)) arrived);
+        come = subst (λ xs. HasCome xs (filter (is_to i) copies0) (slice_index_or now n d) new) (is.out_left i (omega arith)) (subst (λ xs. HasCome (filter (is_to i) out) xs (slice_index_or now n d) new) (is.copies_left i (omega arith)) come);
       }
 
       done : (j : ℕ) (stub : Stub) → slice_get (slice_set now n new) j ≡ Some stub → (j ≡ i) ⊎ (j ≡ i → ⊥) → j < i + 1 → IsReached out0 copies0 old j stub
@@ -88,18 +88,18 @@ module _ (i n : ℕ) (is_n : n ≡ i) (bound floor : Bound) (out of_sender of_re
   at_mid : slice_get mid i ≡ Some (slice_index_or mid n e)
   at_mid = ap (slice_get mid) (sym is_n) ∙ slice_get-get_or mid n e short_mid
 
-  pub arrived_is : IsArrived (filter (is_to i) out) (filter (is_to i) of_receiver) sent (slice_index_or mid n e)
-  arrived_is =
+  pub come_is : HasCome (filter (is_to i) out) (filter (is_to i) of_receiver) sent (slice_index_or mid n e)
+  come_is =
       let r = each i (slice_index_or mid n e) at_mid in
       let one : Some sent ≡ Some r.was = sym (get_same old n sent (omega (arith, is_n, short))) ∙ ap (slice_get (slice_set old n sent)) is_n ∙ r.there in
       let same : r.was ≡ sent = cc in
-      subst (λ x. IsArrived (filter (is_to i) out) (filter (is_to i) of_receiver) x (slice_index_or mid n e)) same r.arrived
+      subst (λ x. HasCome (filter (is_to i) out) (filter (is_to i) of_receiver) x (slice_index_or mid n e)) same r.come
 
   -- what is then in its tray is to it
   pub tray_to : (s : System) → Lawful (machine s) → ToLaw → ((stub : Stub) → slice_get old i ≡ Some stub → To i stub.inbox) → To i tray → new_tray ≡ insert_all (slice_index_or mid n e).inbox tray → To i new_tray
   tray_to s law to inbox t in_tray =
       let same : sent.inbox ≡ (slice_index_or old n d).inbox = ap (λ (x : Stub). x.inbox) is_sent.rest in
-      let all = still_to s to law i out of_receiver sent (slice_index_or mid n e) arrived_is (subst (To i) (sym same) (inbox (slice_index_or old n d) there)) in
+      let all = still_to s to law i out of_receiver sent (slice_index_or mid n e) come_is (subst (To i) (sym same) (inbox (slice_index_or old n d) there)) in
       subst (To i) (sym in_tray) (to_all i (slice_index_or mid n e).inbox tray all t)
 
   module _ (handed : Stub) (is_handed : IsHandedOver (slice_index_or mid n e) handed) (kept : Stub) (is_kept : IsForgotten bound handed kept) (in_tray : new_tray ≡ insert_all (slice_index_or mid n e).inbox tray) where
@@ -108,13 +108,13 @@ module _ (i n : ℕ) (is_n : n ≡ i) (bound floor : Bound) (out of_sender of_re
       many = slice_set-length mid n (record kept { floor = floor }) ∙ many ∙ slice_set-length old n sent;
       others = λ j stub ne h.
           let r = each j stub (sym (get_other mid n (record kept { floor = floor }) j (λ q. ne (q ∙ is_n))) ∙ h) in
-          record { was = r.was; there = sym (get_other old n sent j (λ q. ne (q ∙ is_n))) ∙ r.there; arrived = r.arrived };
+          record { was = r.was; there = sym (get_other old n sent j (λ q. ne (q ∙ is_n))) ∙ r.there; come = r.come };
       was = slice_index_or old n d;
       there = there;
       sent = sent;
       is_sent = is_sent;
       arrived = slice_index_or mid n e;
-      is_arrived = arrived_is;
+      has_come = come_is;
       handed = handed;
       is_handed = is_handed;
       kept = kept;

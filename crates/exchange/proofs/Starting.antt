@@ -61,7 +61,7 @@ module _ (s : System) where
       go (Some key) e = let zero_number = number_is s i 0 key (sym e) in omega (arith, zero_number)
 
   stub_kept : (i : ℕ) → IsStub s 0 i (start_stub s i)
-  stub_kept i = record { inbox = tt; order = record { sorted = tt; fits = tt }; copied = λ k a. refl; passed = refl; ahead = refl; small = small i; few = omega arith }
+  stub_kept i = record { inbox = tt; order = record { sorted = tt; fits = tt }; apart = λ k a. inl refl; copied = λ k a. refl; passed = refl; ahead = refl; small = small i; few = omega arith }
 
   module _ {P : Type 0} (e : Shared P) (stubs : e.stubs ≡ map (start_stub s) (range_with_len 0 (length s.composition))) (bound : e.bound ≡ first) (held : e.held ≡ []) (given : e.given ≡ 0) where
     stub_at : (j : ℕ) → stub_or_start (machine s) j (slice_get e.stubs j) ≡ start_seen (machine s) j

@@ -1,5 +1,5 @@
 -- What a meeting moves from a lease to the stubs, and from its stub to the lease.
-use Rattle.std.specs.Prelude.{◌≡◌, ℕ, ◌+◌, ◌-◌, cond, nat_lt, Some, List, [], filter, length, slice_get}
+use Rattle.std.specs.Prelude.{◌≡◌, ℕ, ◌+◌, ◌-◌, ◌⊎◌, cond, nat_lt, Some, List, [], filter, length, slice_get}
 use Rattle.terms.specs.Named.{Named}
 use Rattle.event_keys.specs.declared.key.Bound.{Bound}
 use Rattle.event_keys.specs.declared.message.Sign.{Sign}
@@ -31,6 +31,10 @@ pub record IsArrived (came copies : List Signed) (old new : Stub) : Type 0 where
   pub order : IsInOrder new.inbox
   pub rest : new ≡ record old { inbox = new.inbox; copies = new.copies }
 
+-- these came, and copies of the messages: where nothing came the stub is as it was
+abbrev pub HasCome : List Signed → List Signed → Stub → Stub → Type 0
+HasCome came copies old new = IsArrived came copies old new ⊎ ((came ≡ []) × (copies ≡ []) × (new ≡ old))
+
 -- the inbox went: its messages are taken, and its antimessages take theirs out
 pub record IsHandedOver (old new : Stub) : Type 0 where
   pub taken : (s : System) (j k : ℕ) (a : Named) → among s Plus j new.taken k a ≡ (among s Plus j old.copies k a + among s Plus j old.taken k a) - among s Minus j old.inbox k a
@@ -46,7 +50,7 @@ pub record IsForgotten (bound : Bound) (old new : Stub) : Type 0 where
 pub record IsReached (out copies : List Signed) (old : List Stub) (j : ℕ) (new : Stub) : Type 0 where
   pub was : Stub
   pub there : slice_get old j ≡ Some was
-  pub arrived : IsArrived (filter (is_to j) out) (filter (is_to j) copies) was new
+  pub come : HasCome (filter (is_to j) out) (filter (is_to j) copies) was new
 
 -- what is outgoing of component i came to all stubs, and its own inbox to its tray
 pub record IsPassedOn (i : ℕ) (bound floor : Bound) (out of_sender of_receiver tray new_tray : List Signed) (old new : List Stub) : Type 0 where
@@ -58,7 +62,7 @@ pub record IsPassedOn (i : ℕ) (bound floor : Bound) (out of_sender of_receiver
   pub sent : Stub
   pub is_sent : IsSent of_sender out was sent
   pub arrived : Stub
-  pub is_arrived : IsArrived (filter (is_to i) out) (filter (is_to i) of_receiver) sent arrived
+  pub has_come : HasCome (filter (is_to i) out) (filter (is_to i) of_receiver) sent arrived
   pub handed : Stub
   pub is_handed : IsHandedOver arrived handed
   pub kept : Stub

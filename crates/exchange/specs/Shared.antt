@@ -1,5 +1,5 @@
 -- What workers share, and the exchange of the theory that it is.
-use Rattle.std.specs.Prelude.{◌≡◌, ℕ, ◌<◌, ◌≤◌, Bool, true, false, Option, None, Some, List, IfSome, if◌then◌else◌, nat_lt, length, slice_get}
+use Rattle.std.specs.Prelude.{◌≡◌, ℕ, ◌<◌, ◌≤◌, ◌⊎◌, Bool, true, false, Option, None, Some, List, IfSome, if◌then◌else◌, nat_lt, length, slice_get}
 use Rattle.terms.specs.Datum.{Datum}
 use Rattle.terms.specs.Named.{Named}
 use Rattle.event_keys.specs.declared.key.Bound.{Bound}
@@ -52,10 +52,12 @@ stub_or_start m j (Some s) = stub_of m j s
 abbrev pub exchange_of : {P : Type 0} → Machine (List Datum) Named → Shared P → ExchangeSeen Named
 exchange_of m e = record { stub = λ j. stub_or_start m j (slice_get e.stubs j); bound = rank_of_bound e.bound; held = turns_of e.held; given = e.given }
 
--- the inbox of component i goes to it, and has a copy of each message; its turns below the bound are counted, and the key of the one after them is there
+-- the inbox of component i goes to it, holds no message with its antimessage, and has a copy of each message; its turns below the bound are counted, and the key of the one after them is there
 pub record IsStub (s : System) (bound i : ℕ) (stub : Stub) : Type 0 where
   pub inbox : Each (λ x. x.message.to ≡ i) stub.inbox
   pub order : IsInOrder stub.inbox
+  -- no message of it has its antimessage beside it
+  pub apart : (k : ℕ) (a : Named) → (times (machine s) (in_flight Plus i stub.inbox) k a ≡ 0) ⊎ (times (machine s) (in_flight Minus i stub.inbox) k a ≡ 0)
   pub copied : (k : ℕ) (a : Named) → times (machine s) (in_flight Plus i stub.copies) k a ≡ times (machine s) (in_flight Plus i stub.inbox) k a
   pub passed : stub.passed ≡ (point (machine s) bound).next i
   pub ahead : stub.ahead ≡ key_of s i stub.passed

@@ -79,12 +79,20 @@ impl<T: Turns> Exchange<T> {
         ensures ok { IsOk result ↔ ((⟦<Setup<T> as PartialEq>⟧.eq self.now.setup lease.now.component.setup ≡ true) × Matches (machine_of T.turn_of self.now.setup) lease.now.component.number ((exchange_of (machine_of T.turn_of self.now.setup) self.now).stub lease.now.component.number) (lease_of lease.now)) }
         ensures other { IsErrOf result MeetRefused.OtherSetup ↔ (⟦<Setup<T> as PartialEq>⟧.eq self.now.setup lease.now.component.setup ≡ false) }
     {
-        let setup = lease.component.setup();
-        equal_setup_law(&self.setup, setup);
-        if *self.setup != *setup {
+        if !self.is_own(lease) {
             return Err(MeetRefused::OtherSetup);
         }
         self.judge_own(lease)
+    }
+
+    // Whether a lease's setup is the exchange's; then both mean the same.
+    pub(crate) fn is_own(&self, lease: &Lease<T>) -> bool
+        ensures answer { result ≡ ⟦<Setup<T> as PartialEq>⟧.eq self.now.setup lease.now.component.setup }
+        ensures same { result ≡ true → system T.turn_of self.now.setup ≡ system T.turn_of lease.now.component.setup }
+    {
+        let setup = lease.component.setup();
+        equal_setup_law(&self.setup, setup);
+        *self.setup == *setup
     }
 
     // The same of a lease whose setup means what the exchange's does.

@@ -15,7 +15,7 @@ ghost use Rattle.rollback.specs.Held.{machine_of};
 ghost use Rattle.exchange.specs.declared.stub.Stub.{Stub as StubValue};
 ghost use Rattle.exchange.specs.Holding.{part_of, lease_of};
 ghost use Rattle.exchange.specs.Shared.{exchange_of};
-ghost use Rattle.exchange.specs.Moving.{IsSent, IsArrived, IsHandedOver, IsForgotten, IsReached, IsPassedOn};
+ghost use Rattle.exchange.specs.Moving.{HasCome, IsSent, IsArrived, IsHandedOver, IsForgotten, IsReached, IsPassedOn};
 
 use crate::exchange::Exchange;
 use crate::judging::MeetRefused;
@@ -26,7 +26,7 @@ use antimessage::laws::order_law;
 use event_keys::Bound;
 use rollback::laws::{comparable_law, flight_law};
 use rollback::{Component, Copies};
-use task_seed::laws::{equal_setup_law, machine_is_lawful};
+use task_seed::laws::machine_is_lawful;
 use task_seed::{Setup, Turns};
 use terms::{Action, State};
 use turn_lists::merge;
@@ -59,6 +59,16 @@ impl Stub {
         order_law(&self.copies);
         self.inbox.meet_all();
         order_law(&self.inbox);
+    }
+
+    // Signed messages come, and copies of the messages. A stub to which nothing comes stays as it is.
+    fn come(&mut self, came: Bag, copies: Bag)
+        ensures { HasCome came copies self.old self.new }
+    {
+        if came.is_empty() && copies.is_empty() {
+            return;
+        }
+        self.arrive(came, copies);
     }
 
     // The inbox goes into the tray: its messages are taken, and its antimessages take theirs out.
@@ -97,7 +107,7 @@ fn spread(stubs: &mut [Stub], count: u16, out: &mut Bag, copies: &mut Bag)
 {
     for i in 0..count {
         let came = out.split_to(i);
-        stubs[usize::from(i)].arrive(came, copies.split_to(i));
+        stubs[usize::from(i)].come(came, copies.split_to(i));
     }
 }
 
@@ -162,20 +172,17 @@ impl<T: Turns> Exchange<T> {
         ensures same { OnOk result ((lease.new.component.setup ≡ lease.old.component.setup) × (lease.new.component.number ≡ lease.old.component.number)) }
         ensures kept { OnErr result ((self.new ≡ self.old) × (lease.new ≡ lease.old)) }
     {
-        machine_is_lawful(self.setup());
-        exchange_is_core::<State, Action>();
-        exchange_is_sound::<State, Action>();
-        self.is_sound();
-        equal_setup_law(&self.setup, lease.component.setup());
-        self.judge(lease)?;
-        Ok(self.accept(lease))
+        if !self.is_own(lease) {
+            return Err(MeetRefused::OtherSetup);
+        }
+        self.meet_own(lease)
     }
 
-    /// Does the same as `meet` with a lease whose setup is known to be the exchange's. The setups, which may be long, aren't compared, so that the
-    /// time doesn't grow with them. It is refused exactly where base, floor, taken messages and standing sends aren't those that are kept of the
+    /// Does the same as `meet` with a lease whose setup is known to mean what the exchange's does. The setups, which may be long, aren't compared,
+    /// so that the time doesn't grow with them. It is refused exactly where base, floor, taken messages and standing sends aren't those that are kept of the
     /// lease's component (41); a refusal changes neither. It takes no memory.
     pub fn meet_own(&mut self, lease: &mut Lease<T>) -> Result<Bound, MeetRefused>
-        requires own { lease.old.component.setup ≡ self.old.setup }
+        requires own { system T.turn_of self.old.setup ≡ system T.turn_of lease.old.component.setup }
         ensures ok { IsOk result ↔ Matches (machine_of T.turn_of self.old.setup) lease.old.component.number ((exchange_of (machine_of T.turn_of self.old.setup) self.old).stub lease.old.component.number) (lease_of lease.old) }
         ensures stranger { IfErr result (λ refused. refused ≡ MeetRefused.Stranger) }
         ensures bound { IfOk result (λ bound. bound ≡ self.old.bound) }

@@ -1,5 +1,5 @@
 -- The far end of the items before the cursor.
-use Rattle.std.proofs.Common.{◌≡◌, List, [], ◌∷◌, ◌++◌, Some, reverse, refl, sym, ap, ◌∙◌}
+use Rattle.std.proofs.Common.{◌≡◌, ◌==◌, false, List, [], ◌∷◌, ◌++◌, Some, length, reverse, slice_index_or, refl, sym, ap, ◌∙◌}
 use Rattle.std.proofs.lemmas.List.{reverse-append}
 use Rattle.raw_events.specs.Around.{last, without_last, first_of, without_first_of}
 
@@ -30,3 +30,8 @@ module _ {X : Type 0} where
   -- the others are what is left
   pub but_farthest : (all one rest : List X) (x : X) (after : List X) → all ≡ one ++ rest → one ≡ x ∷ [] → record { before = reverse rest; after = after } ≡ without_first_of (reverse all) after
   but_farthest all one rest x after e f = sym (without_first_of_snoc (reverse rest) x after) ∙ ap (λ xs. without_first_of xs after) (sym (reversed all one rest x e f))
+
+  -- the first of a list that has one is the farthest of its reverse
+  pub farthest_at : (all : List X) (x : X) (after : List X) → (length all == 0) ≡ false → x ≡ slice_index_or all 0 x → Some x ≡ first_of (reverse all) after
+  farthest_at [] x after h e = cc
+  farthest_at (y ∷ all) x after h e = ap Some e ∙ farthest (y ∷ all) (y ∷ []) all y after refl refl

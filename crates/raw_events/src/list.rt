@@ -87,6 +87,17 @@ impl<T> EventList<T> {
         Some(self.before.last())
     }
 
+    /// The first item of all: the farthest before the cursor, or the next where there is none before it. `None` where the list has no
+    /// item.
+    pub fn peek_first(&self) -> Option<&T>
+        ensures { option_copied result ≡ first_of self.now.before self.now.after }
+    {
+        if self.before.is_empty() {
+            return self.peek_next();
+        }
+        Some(self.before.first())
+    }
+
     /// Takes the item directly before the cursor; `None` where there is none.
     pub fn take_last(&mut self) -> Option<EventCell<T>>
         ensures taken { result ≡ head self.old.before }

@@ -48,7 +48,7 @@ parts_length c (d ∷ ds) = go (parts_length c ds) (is_done_below c d)
     go rest true = omega arith
     go rest false = omega (arith, rest)
 
-length_entries : (ds : List Done) → length (entries_of ds) ≡ length ds
+pub length_entries : (ds : List Done) → length (entries_of ds) ≡ length ds
 length_entries [] = refl
 length_entries (d ∷ ds) = let rest = length_entries ds in omega (arith, rest)
 

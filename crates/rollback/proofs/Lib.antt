@@ -6,6 +6,7 @@ mod Falling
 mod Keeping
 mod Stepping
 mod Unwinding
+mod Oldest
 mod Dropping
 mod Returning
 mod Nearest

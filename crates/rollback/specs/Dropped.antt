@@ -1,5 +1,5 @@
 -- What a component gives up below a bound.
-use Rattle.std.specs.Prelude.{ℕ, ◌+◌, Bool, false, not, cond, nat_lt, List, [], ◌∷◌, Option, None, Some}
+use Rattle.std.specs.Prelude.{ℕ, ◌+◌, Bool, cond, nat_lt, List, [], ◌∷◌, Option, None, Some}
 use Rattle.terms.specs.Named.{Named}
 use Rattle.event_keys.specs.declared.key.Key.{Key}
 use Rattle.event_keys.specs.declared.outcome.Turned.{Turned}
@@ -29,10 +29,17 @@ abbrev pub dones_from : ℕ → List Done → List Done
 dones_from c [] = []
 dones_from c (d ∷ ds) = cond (is_done_below c d) [] (d ∷ dones_from c ds)
 
--- there is a last entry, and it is not below the bound
-abbrev pub is_last_from : ℕ → List Done → Bool
-is_last_from c [] = false
-is_last_from c (d ∷ ds) = not (is_done_below c d)
+-- the oldest entry, where it is below a bound
+abbrev pub oldest_below : ℕ → List Done → Option Done
+oldest_below c [] = None
+oldest_below c (d ∷ []) = cond (is_done_below c d) (Some d) None
+oldest_below c (d ∷ e ∷ ds) = oldest_below c (e ∷ ds)
+
+-- all entries but the oldest, where that one is below a bound
+abbrev pub without_oldest_below : ℕ → List Done → List Done
+without_oldest_below c [] = []
+without_oldest_below c (d ∷ []) = cond (is_done_below c d) [] (d ∷ [])
+without_oldest_below c (d ∷ e ∷ ds) = d ∷ without_oldest_below c (e ∷ ds)
 
 abbrev pub turn_in : Done → List Turned → List Turned
 turn_in (Turn turned antimessages) ts = turned ∷ ts
@@ -51,10 +58,6 @@ key_in (Input signed) key = key
 abbrev pub newest_key : List Done → Option Key
 newest_key [] = None
 newest_key (d ∷ ds) = key_in d (newest_key ds)
-
-abbrev pub or_else : Option Key → Option Key → Option Key
-or_else None other = other
-or_else (Some key) other = Some key
 
 -- the number of the turn after the one of this key, or n where there is none
 abbrev pub number_after : Option Key → ℕ → ℕ

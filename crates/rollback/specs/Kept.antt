@@ -37,10 +37,19 @@ entry_of (Input signed) = Received (item_of signed)
 abbrev pub entries_of : List Done → List (Entry Named)
 entries_of = map entry_of
 
+-- the components that receive what came of a turn of component i
+abbrev pub turn_receivers : System → ℕ → Outcome → List ℕ
+turn_receivers s i Idle = []
+turn_receivers s i (Did action) = receivers_of s.composition action i
+
+-- what came of a turn as a message to each of these, with a sign
+abbrev pub signed_by : Sign → Key → Outcome → List ℕ → List Signed
+signed_by sign key Idle js = []
+signed_by sign key (Did action) js = map (signed_to sign key action) js
+
 -- the messages of a turn of component i with this outcome, one for each receiver, with a sign
 abbrev pub signed_of : System → Sign → ℕ → Key → Outcome → List Signed
-signed_of s sign i key Idle = []
-signed_of s sign i key (Did action) = map (signed_to sign key action) (receivers_of s.composition action i)
+signed_of s sign i key outcome = signed_by sign key outcome (turn_receivers s i outcome)
 
 -- the number and the rank of a turn's key
 abbrev pub IsSmall : Key → Type 0

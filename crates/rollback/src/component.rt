@@ -15,12 +15,12 @@ ghost use Rattle.task_seed.specs.Machines.{end_rank};
 ghost use Rattle.task_seed.specs.Setups.{system};
 ghost use Rattle.task_seed.specs.Turning.{key_of};
 ghost use Rattle.rollback.specs.Held.{machine_of, processed, sent_next, next_key, last_key, last_of, is_receiving, is_turning, start_record};
-ghost use Rattle.rollback.specs.Kept.{IsSmall};
+ghost use Rattle.rollback.specs.Kept.{IsSmall, turn_receivers};
 ghost use Rattle.rollback.specs.Post.{IsPosted};
 ghost use Rattle.rollback.specs.Stepped.{next_entry, HasNextKey, stepped, IsNextSent, IsNextTurn};
 
 use crate::done::Done;
-use crate::growth::{outcome_at, post_all, take_input, take_turn};
+use crate::growth::{outcome_at, post_all, receivers_of_turn, take_input, take_turn};
 use crate::keys::{fits, is_below, key_of};
 use crate::refused::ProcessRefused;
 use antimessage::Bag;
@@ -220,7 +220,8 @@ impl<T: Turns> Component<T> {
         ensures out_kept { OnErr result (out.new ≡ out.old) }
     {
         let turned = self.next_turned(alloc)?;
-        self.do_turned(alloc, turned, out)
+        let receivers = receivers_of_turn(alloc, &self.setup, self.number, &turned.outcome)?;
+        self.do_turned(alloc, turned, &receivers, out)
     }
 
     // The own turn that comes next, with what comes of it.
@@ -235,14 +236,16 @@ impl<T: Turns> Component<T> {
         Ok(Turned { key, outcome })
     }
 
-    // Does the own turn that comes next.
+    // Does the own turn that comes next. What came of it goes to these components.
     pub(crate) fn do_turned(
         &mut self,
         alloc: Global,
         turned: Turned,
+        receivers: &[u16],
         out: &mut Bag,
     ) -> Result<Key, NoMemory>
-        requires { IsNextTurn T.turn_of self.old turned }
+        requires next { IsNextTurn T.turn_of self.old turned }
+        requires receivers { receivers.now ≡ turn_receivers (system T.turn_of self.old.setup) self.old.number turned.outcome }
         ensures key { IfOk result (HasNextKey T.turn_of self.old) }
         ensures record { OnOk result (self.new ≡ stepped T.turn_of self.old) }
         ensures sent { OnOk result (IsNextSent T.turn_of self.old out.old out.new) }
@@ -255,6 +258,7 @@ impl<T: Turns> Component<T> {
             &self.setup,
             self.number,
             turned,
+            receivers,
             &mut self.store,
             &mut self.done,
             out,

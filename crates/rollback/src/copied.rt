@@ -9,7 +9,7 @@ ghost use Rattle.rollback.specs.Post.{IsPosted};
 ghost use Rattle.rollback.specs.Stepped.{next_entry, HasNextKey, stepped, IsNextSent};
 
 use crate::component::Component;
-use crate::growth::{messages_of, post_all};
+use crate::growth::{messages_to, post_all, receivers_of_turn};
 use crate::keys::fits;
 use crate::refused::ProcessRefused;
 use antimessage::Bag;
@@ -89,15 +89,10 @@ impl<T: Turns> Component<T> {
         receivers_law();
         let turned = self.next_turned(alloc)?;
         fits(turned.key);
-        let signs = (Sign::Plus, Sign::Plus);
-        let (of_sender, of_receiver) = messages_of(
-            alloc,
-            &self.setup,
-            self.number,
-            &turned,
-            signs,
-        )?;
-        let key = self.do_turned(alloc, turned, out)?;
+        let receivers = receivers_of_turn(alloc, &self.setup, self.number, &turned.outcome)?;
+        let of_sender = messages_to(alloc, &turned, Sign::Plus, &receivers)?;
+        let of_receiver = messages_to(alloc, &turned, Sign::Plus, &receivers)?;
+        let key = self.do_turned(alloc, turned, &receivers, out)?;
         post_all(&mut copies.of_sender, of_sender);
         post_all(&mut copies.of_receiver, of_receiver);
         Ok(key)

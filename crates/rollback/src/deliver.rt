@@ -311,8 +311,8 @@ fn has_input(done: &mut EventList<Done>, antimessage: &Signed) -> bool
     found
 }
 
-/// Moves the cursor behind all entries.
-pub(crate) fn pass_to_end(done: &mut EventList<Done>)
+// Moves the cursor behind all entries.
+fn pass_to_end(done: &mut EventList<Done>)
     ensures { done.new ≡ record { before = onto done.old.after done.old.before; after = [] } }
 {
     while done.pass_next() {}

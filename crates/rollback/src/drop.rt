@@ -1,18 +1,18 @@
 //! What a component gives up when it can't be taken back any more.
-ghost use Rattle.std.specs.Prelude.{◌≡◌, ◌<◌, ◌^◌, [], None, IfSome, map, length};
+ghost use Rattle.std.specs.Prelude.{◌≡◌, ◌<◌, ◌^◌, [], ◌++◌, IfSome, map, length, reverse};
 ghost use Rattle.event_keys.specs.Ranks.{rank_of_bound};
 ghost use Rattle.virtual_time.specs.Entries.{below};
 ghost use Rattle.virtual_time.specs.Records.{cut_of, turns_among};
 ghost use Rattle.rollback.specs.Held.{machine_of};
-ghost use Rattle.rollback.specs.Kept.{onto};
-ghost use Rattle.rollback.specs.Dropped.{turn_of, dones_below, dones_from, is_last_from, key_in, newest_key, number_after, or_else, turn_in, turns_in};
+ghost use Rattle.rollback.specs.Falling.{Falls};
+ghost use Rattle.rollback.specs.Kept.{entries_of, onto};
+ghost use Rattle.rollback.specs.Dropped.{turn_of, dones_below, dones_from, key_in, newest_key, number_after, oldest_below, turn_in, turns_in, without_oldest_below};
 
 use crate::component::Component;
-use crate::deliver::pass_to_end;
 use crate::done::Done;
 use crate::keys::{is_below_bound, key_of};
 use event_keys::{Bound, Key, Turned};
-use raw_events::EventList;
+use raw_events::{EventCell, EventList};
 use task_seed::Turns;
 
 // What the dropped entries leave.
@@ -33,13 +33,11 @@ impl<T: Turns> Component<T> {
         ensures front { result.before ≡ [] }
     {
         let _depth = self.depth();
-        pass_back_to(&mut self.done, bound);
-        let dropped = take_all(&mut self.done);
+        let dropped = take_below(&mut self.done, bound);
         self.store.forget_first(dropped.count);
         self.first = number_after(dropped.newest, self.first);
-        pass_to_end(&mut self.done);
         self.base = bound;
-        dropped.turns
+        from_front(dropped.turns)
     }
 }
 
@@ -53,58 +51,59 @@ fn number_after(newest: Option<Key>, first: u64) -> u64
     }
 }
 
-fn is_last_from(done: &EventList<Done>, bound: Bound) -> bool
-    ensures { result ≡ is_last_from (rank_of_bound bound) done.now.before }
-{
-    match done.peek_last() {
-        None => false,
-        Some(last) => !is_below_bound(key_of(last), bound),
-    }
-}
-
-// Moves the cursor back over the entries at or above the bound.
-fn pass_back_to(done: &mut EventList<Done>, bound: Bound)
+// Takes the oldest entry, where it is below the bound.
+fn take_oldest_below(done: &mut EventList<Done>, bound: Bound) -> Option<EventCell<Done>>
     requires { done.old.after ≡ [] }
-    ensures before { done.new.before ≡ dones_below (rank_of_bound bound) done.old.before }
-    ensures after { onto done.new.after [] ≡ dones_from (rank_of_bound bound) done.old.before }
+    ensures taken { result ≡ oldest_below (rank_of_bound bound) done.old.before }
+    ensures rest { done.new ≡ record done.old { before = without_oldest_below (rank_of_bound bound) done.old.before } }
 {
-    while is_last_from(done, bound) {
-        done.pass_back();
+    let oldest = done.peek_first()?;
+    if !is_below_bound(key_of(oldest), bound) {
+        return None;
     }
+    done.take_first()
 }
 
-// Takes the entries before the cursor.
-fn take_all(done: &mut EventList<Done>) -> Dropped
-    requires { length done.old.before < 2 ^ 64 }
-    ensures rest { done.new ≡ record { before = []; after = done.old.after } }
-    ensures turns { result.turns ≡ record { before = []; after = onto (turns_in done.old.before) [] } }
-    ensures count { result.count ≡ length done.old.before }
-    ensures newest { result.newest ≡ newest_key done.old.before }
+// Takes the entries below the bound, the oldest first. Each later entry's key is not less, so that no other is looked at but the first
+// that stays.
+fn take_below(done: &mut EventList<Done>, bound: Bound) -> Dropped
+    requires end { done.old.after ≡ [] }
+    requires falling { Falls (entries_of done.old.before) }
+    requires few { length done.old.before < 2 ^ 64 }
+    ensures rest { done.new ≡ record { before = dones_from (rank_of_bound bound) done.old.before; after = [] } }
+    ensures turns { result.turns ≡ record { before = turns_in (dones_below (rank_of_bound bound) done.old.before); after = [] } }
+    ensures count { result.count ≡ length (dones_below (rank_of_bound bound) done.old.before) }
+    ensures newest { result.newest ≡ newest_key (dones_below (rank_of_bound bound) done.old.before) }
 {
     let mut dropped = Dropped {
         turns: EventList::new(),
         count: 0,
         newest: None,
     };
-    while let Some(cell) = done.take_last() {
+    while let Some(cell) = take_oldest_below(done, bound) {
         dropped.count += 1;
         add_turn(&mut dropped, cell.into_value());
     }
     dropped
 }
 
-// Puts the turn of an entry before all that were taken.
+// Puts the turn of an entry behind all that were taken.
 fn add_turn(dropped: &mut Dropped, done: Done)
-    requires { dropped.old.turns.before ≡ [] }
-    ensures turns { dropped.new.turns ≡ record { before = []; after = turn_in done dropped.old.turns.after } }
+    ensures turns { dropped.new.turns ≡ record dropped.old.turns { before = turn_in done dropped.old.turns.before } }
     ensures count { dropped.new.count ≡ dropped.old.count }
-    ensures newest { dropped.new.newest ≡ or_else dropped.old.newest (key_in done None) }
+    ensures newest { dropped.new.newest ≡ key_in done dropped.old.newest }
 {
     if let Done::Turn(turned, _) = done {
-        if dropped.newest.is_none() {
-            dropped.newest = Some(turned.value().key);
-        }
+        dropped.newest = Some(turned.value().key);
         dropped.turns.push_last(turned);
-        dropped.turns.pass_back();
     }
+}
+
+// The same list with its cursor before all items.
+fn from_front(mut turns: EventList<Turned>) -> EventList<Turned>
+    ensures { result ≡ record { before = []; after = reverse turns.before ++ turns.after } }
+{
+    let mut front = EventList::new();
+    front.append_all(&mut turns);
+    front
 }

@@ -13,7 +13,7 @@ ghost use Rattle.task_seed.specs.Setups.{system, plan_of};
 ghost use Rattle.task_seed.specs.Turning.{key_of};
 ghost use Rattle.task_seed.specs.Machines.{turn_outcome};
 ghost use Rattle.rollback.specs.Held.{machine_of};
-ghost use Rattle.rollback.specs.Kept.{signed_of, IsGivenBack};
+ghost use Rattle.rollback.specs.Kept.{signed_by, signed_of, turn_receivers, IsGivenBack};
 ghost use Rattle.rollback.specs.Post.{signed_to, post_all, IsPosted};
 
 use crate::done::Done;
@@ -119,24 +119,34 @@ fn signed_cells(
     Ok(cells)
 }
 
-/// Two lists of the messages of a turn, each with its sign.
-pub(crate) fn messages_of<T: Turns>(
+/// The components that receive what came of a turn of component `i`.
+pub(crate) fn receivers_of_turn<T: Turns>(
     alloc: Global,
     setup: &Setup<T>,
     i: u16,
-    turned: &Turned,
-    signs: (Sign, Sign),
-) -> Result<(EventList<Signed>, EventList<Signed>), NoMemory>
-    ensures first { IfOk result (λ p. p.0 ≡ record { before = signed_of (system T.turn_of setup.now) signs.0 i turned.now.key turned.now.outcome; after = [] }) }
-    ensures second { IfOk result (λ p. p.1 ≡ record { before = signed_of (system T.turn_of setup.now) signs.1 i turned.now.key turned.now.outcome; after = [] }) }
+    outcome: &Outcome,
+) -> Result<Vec<u16>, NoMemory>
+    ensures { IfOk result (λ receivers. receivers.items ≡ turn_receivers (system T.turn_of setup.now) i outcome.now) }
 {
-    let Outcome::Did(action) = &turned.outcome else {
-        return Ok((EventList::new(), EventList::new()));
-    };
-    let receivers = setup.plan().receivers(alloc, action, i)?;
-    let first = signed_cells(alloc, turned.key, action, signs.0, &receivers)?;
-    let second = signed_cells(alloc, turned.key, action, signs.1, &receivers)?;
-    Ok((first, second))
+    match outcome {
+        Outcome::Idle => Ok(Vec::new(alloc)),
+        Outcome::Did(action) => Ok(setup.plan().receivers(alloc, action, i)?),
+    }
+}
+
+/// What came of a turn as one message for each receiver, the first nearest to the cursor.
+pub(crate) fn messages_to(
+    alloc: Global,
+    turned: &Turned,
+    sign: Sign,
+    receivers: &[u16],
+) -> Result<EventList<Signed>, NoMemory>
+    ensures { IfOk result (λ cells. cells ≡ record { before = signed_by sign turned.now.key turned.now.outcome receivers.now; after = [] }) }
+{
+    match &turned.outcome {
+        Outcome::Idle => Ok(EventList::new()),
+        Outcome::Did(action) => Ok(signed_cells(alloc, turned.key, action, sign, receivers)?),
+    }
 }
 
 /// Posts all that stands before the cursor, the nearest first.
@@ -198,17 +208,19 @@ pub(crate) fn take_input(
     }
 }
 
-/// Does a turn with what came of it.
+/// Does a turn with what came of it, and posts a message for each receiver of that.
 pub(crate) fn take_turn<T: Turns>(
     alloc: Global,
     setup: &Setup<T>,
     i: u16,
     turned: Turned,
+    receivers: &[u16],
     store: &mut Store,
     done: &mut EventList<Done>,
     out: &mut Bag,
 ) -> Result<(), NoMemory>
-    requires { i < length (composition (plan_of setup.now)) }
+    requires there { i < length (composition (plan_of setup.now)) }
+    requires receivers { receivers.now ≡ turn_receivers (system T.turn_of setup.now) i turned.outcome }
     ensures state { OnOk result (store.new ≡ record { current = by_own (machine_of T.turn_of setup.now) i (action_of turned.outcome) store.old.current; below = store.old.current ∷ store.old.below }) }
     ensures done { OnOk result (done.new ≡ record done.old { before = Done.Turn turned (record { before = signed_of (system T.turn_of setup.now) Minus i turned.key turned.outcome; after = [] }) ∷ done.old.before }) }
     ensures sent { OnOk result (IsPosted Plus (sent (machine_of T.turn_of setup.now) i (rank turned.key) (action_of turned.outcome)) out.old out.new) }
@@ -218,8 +230,8 @@ pub(crate) fn take_turn<T: Turns>(
 {
     receivers_law();
     fits(turned.key);
-    let signs = (Sign::Plus, Sign::Minus);
-    let (messages, antimessages) = messages_of(alloc, setup, i, &turned, signs)?;
+    let messages = messages_to(alloc, &turned, Sign::Plus, receivers)?;
+    let antimessages = messages_to(alloc, &turned, Sign::Minus, receivers)?;
     let turned = cell_of(alloc, turned)?;
     advance_turn(alloc, setup, i, &turned.value().outcome, store)?;
     match EventCell::new(alloc, Done::Turn(turned, antimessages)) {

@@ -49,6 +49,7 @@ fn row<R: AllocGlobal>(rt: &R) -> Result<EventList<u64>, Fail> {
 #[test]
 fn calls_on_a_row(rt: HostRuntime) -> Result<(), Fail> {
     let mut list = row(&rt)?;
+    assert_eq!(rt; list.peek_first().copied(), Some(1));
     assert_eq!(rt; list.peek_last().copied(), Some(3));
     assert_eq!(rt; list.peek_next().copied(), Some(5));
     list.insert_sorted(EventCell::new(rt.alloc(), 5)?);
@@ -60,8 +61,10 @@ fn calls_on_a_row(rt: HostRuntime) -> Result<(), Fail> {
     assert_eq!(rt; list.peek_next().copied(), Some(3));
     assert_eq!(rt; value_of(list.take_last()), Some(1));
     assert_eq!(rt; list.pass_back(), false);
+    assert_eq!(rt; list.peek_first().copied(), Some(3));
     assert_eq!(rt; value_of(list.take_last()), None);
     assert_eq!(rt; value_of(list.take_first()), Some(3));
+    assert_eq!(rt; list.peek_first().copied(), Some(5));
     assert_items(&rt, list, &[], &[5, 7]);
     Ok(())
 }
@@ -90,6 +93,7 @@ fn answers_where_there_is_nothing(rt: HostRuntime) -> Result<(), Fail> {
     assert_eq!(rt; list.pass_back(), false);
     assert_eq!(rt; list.peek_next().is_none(), true);
     assert_eq!(rt; list.peek_last().is_none(), true);
+    assert_eq!(rt; list.peek_first().is_none(), true);
     assert_eq!(rt; value_of(list.take_first()), None);
     assert_eq!(rt; value_of(list.take_last()), None);
     assert_eq!(rt; value_of(list.take_equal(&1)), None);

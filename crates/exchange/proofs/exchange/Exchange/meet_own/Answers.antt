@@ -1,15 +1,12 @@
-use Rattle.std.proofs.Common.{length, sym, ap, subst}
+use Rattle.std.proofs.Common.{length, subst}
 use Rattle.plans.specs.Plans.{composition}
 use Rattle.virtual_time.specs.Machine.{Lawful}
-use Rattle.task_seed.specs.Setups.{plan_of, system}
+use Rattle.task_seed.specs.Setups.{plan_of}
 use Rattle.rollback.specs.Held.{machine_of}
 use Rattle.exchange.specs.Holding.{lease_of}
 use Rattle.exchange.specs.Shared.{exchange_of}
 use Rattle.exchange.proofs.Core.{meet_leads}
 use Rattle.exchange.proofs.exchange.Exchange.meet_own.Goals as goal
-
-pub accept-requires-clause-same : goal.accept-requires-clause-same
-accept-requires-clause-same g c regions within = ap (system g.T.Turns.turn_of) (sym c.requires.own)
 
 pub returns-clause-core : goal.returns-clause-core
 returns-clause-core g c leases here =

@@ -1,4 +1,4 @@
-use Rattle.std.proofs.Common.{◌≡◌, ◌<◌, ◌+◌, [], length, map, IfSome, sym, ap, subst, ◌∙◌, arith}
+use Rattle.std.proofs.Common.{◌≡◌, ◌<◌, ◌+◌, ◌++◌, [], length, map, reverse, IfSome, sym, ap, subst, ◌∙◌, arith}
 use Rattle.std.specs.Arc.{arc_value}
 use Rattle.event_keys.specs.Ranks.{rank_of_bound}
 use Rattle.raw_events.specs.Around.{Around}
@@ -7,36 +7,35 @@ use Rattle.virtual_time.specs.Entries.{below, number}
 use Rattle.virtual_time.specs.Records.{cut_of, turns_among}
 use Rattle.task_seed.specs.Setups.{system}
 use Rattle.task_seed.specs.Machines.{machine}
-use Rattle.rollback.specs.declared.done.Done.{Done}
-use Rattle.rollback.specs.Dropped.{turn_of, dones_below, dones_from, newest_key, number_after, turns_in}
+use Rattle.rollback.specs.Dropped.{turn_of, dones_below, dones_from, number_after, turns_in}
 use Rattle.rollback.specs.Held.{Held, machine_of}
 use Rattle.rollback.specs.Kept.{entries_of, record_of, onto}
 use Rattle.rollback.proofs.Keeping.{depth_is}
-use Rattle.rollback.proofs.Dropping.{dropped_record, dropped_turns, few_dropped, kept_dropped, newest_number, newest_small, ready_below}
+use Rattle.rollback.proofs.Dropping.{dropped_record, dropped_turns, few_dropped, kept_dropped, length_entries, newest_number, newest_small, ready_below}
+use Rattle.rollback.proofs.Oldest.{onto_reverse}
 use Rattle.rollback.proofs.component.Component.drop_below.Goals as goal
 
-pub take_all-dropped-requires : goal.take_all-dropped-requires
-take_all-dropped-requires g c =
+pub take_below-dropped-requires-clause-end : goal.take_below-dropped-requires-clause-end
+take_below-dropped-requires-clause-end g c = c.self.invariant.ahead
+
+pub take_below-dropped-requires-clause-falling : goal.take_below-dropped-requires-clause-falling
+take_below-dropped-requires-clause-falling g c = c.self.invariant.falling.done
+
+pub take_below-dropped-requires-clause-few : goal.take_below-dropped-requires-clause-few
+take_below-dropped-requires-clause-few g c =
     let f = c.self.inside in
     let s = system g.T.Turns.turn_of (arc_value f.setup) in
-    let b = rank_of_bound c.args.bound in
-    let ds = f.done.before in
-    let is : c.pass_back_to.new.done.before ≡ dones_below b ds = c.pass_back_to.ensures.before in
-    let few = few_dropped s f.number f.first b f.store f.done f.pending f.owed f.coming c.self.invariant in
-    let same = ap (λ l. length l) is in
-    let all = depth_is s f.number f.store ds c.self.invariant.replayed ∙ ap (λ (h : Held _). length h.history.done) c.self.view_is in
-    omega (arith, few, same, all, c.depth-depth.ensures, c.depth-depth.type_inv)
+    let own = depth_is s f.number f.store f.done.before c.self.invariant.replayed in
+    let all = ap (λ (h : Held _). length h.history.done) c.self.view_is in
+    let count = length_entries f.done.before in
+    omega (arith, own, all, count, c.depth-depth.ensures, c.depth-depth.type_inv)
 
 pub forget_first-requires : goal.forget_first-requires
 forget_first-requires g c =
     let f = c.self.inside in
     let s = system g.T.Turns.turn_of (arc_value f.setup) in
     let b = rank_of_bound c.args.bound in
-    let ds = f.done.before in
-    let is : c.pass_back_to.new.done.before ≡ dones_below b ds = c.pass_back_to.ensures.before in
-    let count : c.take_all-dropped.result.count ≡ length (dones_below b ds) = c.take_all-dropped.ensures.count ∙ ap (λ l. length l) is in
-    let newest : c.take_all-dropped.result.newest ≡ newest_key (dones_below b ds) = c.take_all-dropped.ensures.newest ∙ ap newest_key is in
-    subst (λ n. n < length f.store.below + 1) (sym count) (few_dropped s f.number f.first b f.store f.done f.pending f.owed f.coming c.self.invariant)
+    subst (λ n. n < length f.store.below + 1) (sym c.take_below-dropped.ensures.count) (few_dropped s f.number f.first b f.store f.done f.pending f.owed f.coming c.self.invariant)
 
 pub number_after-self-inside-requires : goal.number_after-self-inside-requires
 number_after-self-inside-requires g c =
@@ -44,10 +43,7 @@ number_after-self-inside-requires g c =
     let s = system g.T.Turns.turn_of (arc_value f.setup) in
     let b = rank_of_bound c.args.bound in
     let ds = f.done.before in
-    let is : c.pass_back_to.new.done.before ≡ dones_below b ds = c.pass_back_to.ensures.before in
-    let count : c.take_all-dropped.result.count ≡ length (dones_below b ds) = c.take_all-dropped.ensures.count ∙ ap (λ l. length l) is in
-    let newest : c.take_all-dropped.result.newest ≡ newest_key (dones_below b ds) = c.take_all-dropped.ensures.newest ∙ ap newest_key is in
-    subst (λ o. IfSome o (λ key. key.number < 4294967296)) (sym newest) (newest_small s f.number f.first (dones_below b ds) (ready_below s f.number f.first b ds c.self.invariant.ready))
+    subst (λ o. IfSome o (λ key. key.number < 4294967296)) (sym c.take_below-dropped.ensures.newest) (newest_small s f.number f.first (dones_below b ds) (ready_below s f.number f.first b ds c.self.invariant.ready))
 
 pub invariant_of-self : goal.invariant_of-self
 invariant_of-self g c =
@@ -55,14 +51,10 @@ invariant_of-self g c =
     let s = system g.T.Turns.turn_of (arc_value f.setup) in
     let b = rank_of_bound c.args.bound in
     let ds = f.done.before in
-    let is : c.pass_back_to.new.done.before ≡ dones_below b ds = c.pass_back_to.ensures.before in
-    let count : c.take_all-dropped.result.count ≡ length (dones_below b ds) = c.take_all-dropped.ensures.count ∙ ap (λ l. length l) is in
-    let newest : c.take_all-dropped.result.newest ≡ newest_key (dones_below b ds) = c.take_all-dropped.ensures.newest ∙ ap newest_key is in
-    let states : c.forget_first.new.self ≡ without_first (length (dones_below b ds)) f.store = c.forget_first.ensures ∙ ap (λ k. without_first k f.store) count in
+    let states : c.forget_first.new.self ≡ without_first (length (dones_below b ds)) f.store = c.forget_first.ensures ∙ ap (λ k. without_first k f.store) c.take_below-dropped.ensures.count in
     let first : c.number_after-self-inside.result ≡ number f.first (entries_of (dones_below b ds))
-    = c.number_after-self-inside.ensures ∙ ap (λ k. number_after k f.first) newest ∙ newest_number s f.number f.first (dones_below b ds) (ready_below s f.number f.first b ds c.self.invariant.ready) in
-    let left : c.pass_to_end.new.done ≡ record { before = dones_from b ds; after = [] }
-    = c.pass_to_end.ensures ∙ ap (λ (d : Around Done). record { before = onto d.after d.before; after = [] }) c.take_all-dropped.ensures.rest ∙ ap (λ l. record { before = l; after = [] }) c.pass_back_to.ensures.after in
+    = c.number_after-self-inside.ensures ∙ ap (λ k. number_after k f.first) c.take_below-dropped.ensures.newest ∙ newest_number s f.number f.first (dones_below b ds) (ready_below s f.number f.first b ds c.self.invariant.ready) in
+    let left : c.take_below-dropped.new.done ≡ record { before = dones_from b ds; after = [] } = c.take_below-dropped.ensures.rest in
     rw (states, first, left) (kept_dropped s f.number f.first b f.store f.done f.pending f.owed f.coming c.self.invariant)
 
 pub returns-clause-record : goal.returns-clause-record
@@ -71,27 +63,25 @@ returns-clause-record g c =
     let s = system g.T.Turns.turn_of (arc_value f.setup) in
     let b = rank_of_bound c.args.bound in
     let ds = f.done.before in
-    let is : c.pass_back_to.new.done.before ≡ dones_below b ds = c.pass_back_to.ensures.before in
-    let count : c.take_all-dropped.result.count ≡ length (dones_below b ds) = c.take_all-dropped.ensures.count ∙ ap (λ l. length l) is in
-    let newest : c.take_all-dropped.result.newest ≡ newest_key (dones_below b ds) = c.take_all-dropped.ensures.newest ∙ ap newest_key is in
-    let states : c.forget_first.new.self ≡ without_first (length (dones_below b ds)) f.store = c.forget_first.ensures ∙ ap (λ k. without_first k f.store) count in
+    let states : c.forget_first.new.self ≡ without_first (length (dones_below b ds)) f.store = c.forget_first.ensures ∙ ap (λ k. without_first k f.store) c.take_below-dropped.ensures.count in
     let first : c.number_after-self-inside.result ≡ number f.first (entries_of (dones_below b ds))
-    = c.number_after-self-inside.ensures ∙ ap (λ k. number_after k f.first) newest ∙ newest_number s f.number f.first (dones_below b ds) (ready_below s f.number f.first b ds c.self.invariant.ready) in
-    let left : c.pass_to_end.new.done ≡ record { before = dones_from b ds; after = [] }
-    = c.pass_to_end.ensures ∙ ap (λ (d : Around Done). record { before = onto d.after d.before; after = [] }) c.take_all-dropped.ensures.rest ∙ ap (λ l. record { before = l; after = [] }) c.pass_back_to.ensures.after in
-    let cut : record_of c.forget_first.new.self c.number_after-self-inside.result c.pass_to_end.new.done f.pending f.owed ≡ cut_of (machine s) f.number b (record_of f.store f.first f.done f.pending f.owed)
+    = c.number_after-self-inside.ensures ∙ ap (λ k. number_after k f.first) c.take_below-dropped.ensures.newest ∙ newest_number s f.number f.first (dones_below b ds) (ready_below s f.number f.first b ds c.self.invariant.ready) in
+    let left : c.take_below-dropped.new.done ≡ record { before = dones_from b ds; after = [] } = c.take_below-dropped.ensures.rest in
+    let cut : record_of c.forget_first.new.self c.number_after-self-inside.result c.take_below-dropped.new.done f.pending f.owed ≡ cut_of (machine s) f.number b (record_of f.store f.first f.done f.pending f.owed)
     = rw (states, first, left) (dropped_record s f.number f.first b f.store f.done f.pending f.owed f.coming c.self.invariant) in
-    subst (λ (h : Held _). ◌≡◌ {A = Held _} (record { setup = arc_value f.setup; number = f.number; base = c.args.bound; history = record_of c.forget_first.new.self c.number_after-self-inside.result c.pass_to_end.new.done f.pending f.owed }) (record h { base = c.args.bound; history = cut_of (machine_of g.T.Turns.turn_of h.setup) h.number b h.history })) c.self.view_is
+    subst (λ (h : Held _). ◌≡◌ {A = Held _} (record { setup = arc_value f.setup; number = f.number; base = c.args.bound; history = record_of c.forget_first.new.self c.number_after-self-inside.result c.take_below-dropped.new.done f.pending f.owed }) (record h { base = c.args.bound; history = cut_of (machine_of g.T.Turns.turn_of h.setup) h.number b h.history })) c.self.view_is
     (ap (λ r. record { setup = arc_value f.setup; number = f.number; base = c.args.bound; history = r }) cut)
 
 pub returns-clause-turns : goal.returns-clause-turns
 returns-clause-turns g c =
     let f = c.self.inside in
-    let s = system g.T.Turns.turn_of (arc_value f.setup) in
     let b = rank_of_bound c.args.bound in
     let ds = f.done.before in
-    let is : c.pass_back_to.new.done.before ≡ dones_below b ds = c.pass_back_to.ensures.before in
-    ap (λ (t : Around _). map turn_of t.after) c.take_all-dropped.ensures.turns
-    ∙ ap (λ l. map turn_of (onto (turns_in l) [])) is
+    ap (λ (t : Around _). map turn_of t.after) c.from_front.ensures
+    ∙ ap (λ (t : Around _). map turn_of (reverse t.before ++ t.after)) c.take_below-dropped.ensures.turns
+    ∙ ap (map turn_of) (onto_reverse (turns_in (dones_below b ds)))
     ∙ dropped_turns b ds
     ∙ ap (λ (h : Held _). onto (turns_among (below b h.history.done)) []) c.self.view_is
+
+pub returns-clause-front : goal.returns-clause-front
+returns-clause-front g c = ap (λ (t : Around _). t.before) c.from_front.ensures

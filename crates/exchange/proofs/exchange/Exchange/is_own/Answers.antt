@@ -3,16 +3,15 @@ use Rattle.std.specs.Arc.{arc_value}
 use Rattle.task_seed.specs.Setups.{system}
 use Rattle.exchange.specs.Holding.{Holding}
 use Rattle.exchange.specs.Shared.{Shared}
-use Rattle.exchange.proofs.Knowing.{same_setup, same_system, untrue}
-use Rattle.exchange.proofs.exchange.Exchange.judge.Goals as goal
+use Rattle.exchange.proofs.Knowing.{same_setup, same_system}
+use Rattle.exchange.proofs.exchange.Exchange.is_own.Goals as goal
 
-pub judge_own-requires-clause-same : goal.judge_own-requires-clause-same
-judge_own-requires-clause-same g c regions within =
+pub returns-clause-same : goal.returns-clause-same
+returns-clause-same g c told =
     let t = g.T.Turns.turn_of in
     let p = arc_value c.self.inside.setup in
     let q = c.lease.inside.component.setup in
-    let yes_there = untrue _ (sym c.ne.ensures ∙ c.if-ne.false) in
-    let yes : same_setup g.T.PartialEq.eq c.deref.result.now c.setup-setup.result.now ≡ true = subst (λ x. same_setup g.T.PartialEq.eq x c.setup-setup.result.now ≡ true) (c.deref-2.ensures ∙ sym c.deref.ensures) yes_there in
+    let yes : same_setup g.T.PartialEq.eq c.deref.result.now c.setup-setup.result.now ≡ true = subst (λ x. same_setup g.T.PartialEq.eq x c.setup-setup.result.now ≡ true) (c.deref-2.ensures ∙ sym c.deref.ensures) (sym c.eq.ensures ∙ told) in
     let law = c.equal_setup_law.ensures in
     let same : system t p ≡ system t q = ap (system t) (sym c.deref.ensures) ∙ same_system (system t c.deref.result.now) (system t c.setup-setup.result.now) (law.composition yes) (law.turns yes) (law.horizon yes) ∙ ap (system t) c.setup-setup.ensures in
     sym (ap (λ (x : Shared _). system t x.setup) c.self.view_is) ∙ same ∙ ap (λ (y : Holding _). system t y.component.setup) c.lease.view_is
