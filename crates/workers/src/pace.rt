@@ -3,11 +3,15 @@
 // How often a lease is passed over at most that may have turns which were committed since its last visit.
 const MOST_SKIPS: u64 = 256;
 
-// A component that is far ahead holds much, which every meeting walks along, and loses much to a straggler; one that is hardly ahead is visited
-// for little. So its window is twice what it did between the last two arrivals of messages and could keep, and grows where none come.
+// How many entries a component has done since its base at most, whatever its window.
+const MOST_HELD: u64 = 256;
+
+// A component that is far ahead loses much to a straggler; one that is hardly ahead is visited for little. What it did since messages came last
+// and isn't committed is what the next ones may cost. So its window for that goes after what it could keep between two arrivals, and grows where
+// none come.
 #[derive(Drop)]
 pub(crate) struct Pace {
-    // How many entries it may have done since its base.
+    // How many entries it may have done since messages came that aren't committed.
     window: u64,
     // How many entries it did since messages came.
     ran: u64,
@@ -27,9 +31,14 @@ impl Pace {
         }
     }
 
-    // Whether so many entries since the base fill half of the window.
+    // How many of so many entries since the base were done since messages came.
+    fn ahead(&self, depth: usize) -> u64 {
+        self.ran.min(depth as u64)
+    }
+
+    // Whether half of what may be ahead is, where there are so many entries since the base.
     pub(crate) fn is_half_full(&self, depth: usize) -> bool {
-        self.window.saturating_add(1) / 2 <= depth as u64
+        self.window.saturating_add(1) / 2 <= self.ahead(depth) || MOST_HELD / 2 <= depth as u64
     }
 
     // Whether a lease with so many entries since its base is worth a visit, where so many turns are committed. It may run ahead where half of its
@@ -57,13 +66,13 @@ impl Pace {
         self.skips = 0;
     }
 
-    // Messages came or not, and so many entries were taken back.
+    // Messages came or not, and so many entries were taken back. The window goes half of the way to what could be kept.
     pub(crate) fn adapt(&mut self, came: bool, lost: usize, budget: u32) {
         if lost > 0 {
             let kept = self.ran.saturating_sub(lost as u64);
-            self.window = kept.saturating_mul(2).saturating_add(1);
+            self.window = self.window.saturating_add(kept) / 2;
         }
-        if lost > 0 || self.ran >= self.window.saturating_mul(2) {
+        if came || self.ran >= self.window.saturating_mul(2) {
             self.window = self.window.saturating_add(1).min(u64::from(budget));
         }
         if came {
@@ -78,8 +87,9 @@ impl Pace {
 
     // How many entries a lease may run that has so many since its base: what is left of its window, but one at least where it holds all others up.
     pub(crate) fn allowed(&self, depth: usize, holds_up: bool) -> u32 {
-        let left = self.window.saturating_sub(depth as u64);
+        let left = self.window.saturating_sub(self.ahead(depth));
+        let room = MOST_HELD.saturating_sub(depth as u64);
         let least = u64::from(holds_up);
-        u32::try_from(left.max(least)).unwrap_or(u32::MAX)
+        u32::try_from(left.min(room).max(least)).unwrap_or(u32::MAX)
     }
 }
