@@ -23,7 +23,9 @@ pub fn pass_to_end(turns: &mut EventList<Turned>)
 fn rewind(turns: &mut EventList<Turned>)
     ensures { turns.new ≡ record { before = []; after = onto turns.old.before turns.old.after } }
 {
-    while turns.pass_back() {}
+    let mut front = EventList::new();
+    front.append_all(turns);
+    *turns = front;
 }
 
 fn is_last_from(turns: &EventList<Turned>, bound: Bound) -> bool
@@ -51,7 +53,8 @@ fn put(held: &mut EventList<Turned>, cell: EventCell<Turned>)
     held.pass_back();
 }
 
-/// Puts all turns among those that are held, from the last one on: the cursor goes back along both lists once. No memory is taken.
+/// Puts all turns among those that are held, from the last one on: the cursor goes to the end of both lists and back along them once, where
+/// there are any turns. No memory is taken.
 ///
 /// Both lists stand in the order of keys, all after the cursor.
 pub fn merge(held: &mut EventList<Turned>, mut turns: EventList<Turned>)
@@ -61,6 +64,9 @@ pub fn merge(held: &mut EventList<Turned>, mut turns: EventList<Turned>)
     ensures front { held.new.before ≡ [] }
     ensures all { turns_of held.new.after ≡ put_turns (turns_of turns.after) (turns_of held.old.after) }
 {
+    if turns.peek_next().is_none() {
+        return;
+    }
     pass_to_end(held);
     pass_to_end(&mut turns);
     while let Some(cell) = turns.take_last() {

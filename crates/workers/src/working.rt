@@ -16,12 +16,10 @@ use task_seed::Turns;
 use terms::NoMemory;
 
 // How many microseconds a worker sleeps that has found no lease to work on, after so many looks. Each look takes the exchange from those that
-// work, so each further nap is twice as long, as often as this.
+// work.
 const NAP: u64 = 50;
 
 const LOOKS: u32 = 2;
-
-const DOUBLINGS: u32 = 5;
 
 // A lease to work on, and whether it held all others up when it was taken: nothing more is committed before it has run.
 #[derive(Drop)]
@@ -80,7 +78,7 @@ fn idle<R: Wait>(rt: &R, looks: u32) -> u32 {
     if looks < LOOKS {
         thread::yield_now();
     } else {
-        nap(rt, NAP << (looks - LOOKS).min(DOUBLINGS));
+        nap(rt, NAP);
     }
     looks.saturating_add(1)
 }
