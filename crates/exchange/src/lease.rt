@@ -2,10 +2,10 @@
 ghost use Rattle.std.specs.Prelude.{◌≡◌, ◌≤◌, ◌<◌, ◌-◌, ◌^◌, [], length, min, replicate, true, false, None, IfOk, OnOk, OnErr, IfErr, IsErrOf, IsSomeAnd, ◌↔◌, ◌⊎◌};
 ghost use Rattle.antimessage.specs.Bags.{least_of};
 ghost use Rattle.event_keys.specs.declared.message.Sign.TheVariants.{Plus};
-ghost use Rattle.event_keys.specs.Ranks.{rank};
+ghost use Rattle.event_keys.specs.Ranks.{rank, rank_of_bound};
 ghost use Rattle.virtual_time.specs.Entries.{entry_key};
 ghost use Rattle.virtual_time.specs.Records.{next_of};
-ghost use Rattle.rollback.specs.Held.{machine_of, processed, sent_next};
+ghost use Rattle.rollback.specs.Held.{machine_of, next_key, processed, sent_next};
 ghost use Rattle.rollback.specs.Post.{IsPosted};
 ghost use Rattle.event_keys.specs.declared.message.Signed.{Signed as SignedValue};
 ghost use Rattle.exchange.specs.Core.{Moves, StaysKnown, deliveries};
@@ -80,6 +80,13 @@ impl<T: Turns> Lease<T> {
         ensures { result ≡ self.now.floor }
     {
         self.floor
+    }
+
+    /// The key of the entry that is done next, or the end where there is none.
+    pub fn next(&self) -> Bound
+        ensures { rank_of_bound result ≡ next_key (machine_of T.turn_of self.now.component.setup) (next_of (machine_of T.turn_of self.now.component.setup) self.now.component.number self.now.component.history) }
+    {
+        self.component.next()
     }
 
     /// How many entries are done since the base, and can be taken back.

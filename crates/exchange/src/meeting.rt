@@ -105,6 +105,9 @@ fn spread(stubs: &mut [Stub], count: u16, out: &mut Bag, copies: &mut Bag)
     ensures many { length stubs.new ≡ length stubs.old }
     ensures each { (j : ℕ) (stub : StubValue) → slice_get stubs.new j ≡ Some stub → IsReached out.old copies.old stubs.old j stub }
 {
+    if out.is_empty() && copies.is_empty() {
+        return;
+    }
     for i in 0..count {
         let came = out.split_to(i);
         stubs[usize::from(i)].come(came, copies.split_to(i));

@@ -146,6 +146,15 @@ impl<T> EventList<T> {
         self.after.append(second);
     }
 
+    /// Moves the cursor behind all items, in one joining.
+    pub fn pass_all(&mut self)
+        ensures { self.new ≡ record { before = reverse self.old.after ++ self.old.before; after = [] } }
+    {
+        let mut rest = Line::new();
+        swap(&mut rest, &mut self.after);
+        self.before.append(rest);
+    }
+
     /// Puts a cell among the items after the cursor, directly before the first greater one, or at the end where none is greater.
     pub fn insert_sorted(&mut self, cell: EventCell<T>)
     where

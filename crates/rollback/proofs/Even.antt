@@ -3,11 +3,11 @@ use Rattle.std.proofs.Common.{◌≡◌, ℕ, zero, suc, ◌+◌, ◌<◌, ◌�
 use Rattle.std.specs.Prelude.{count_by, nat_lt}
 use mathlib.Core.List.{reverse_aux}
 use Rattle.std.specs.List.{list_all}
-use Rattle.std.proofs.lemmas.Bool.{eq-eqb, lt-ltb}
+use Rattle.std.proofs.lemmas.Bool.{eq-eqb}
 use Rattle.terms.specs.Named.{Named}
 use Rattle.event_keys.specs.declared.key.Key.{Key}
 use Rattle.event_keys.specs.declared.message.Message.{Message}
-use Rattle.event_keys.specs.declared.message.Sign.TheVariants.{Plus, Minus}
+use Rattle.event_keys.specs.declared.message.Sign.TheVariants.{Minus}
 use Rattle.event_keys.specs.declared.message.Signed.{Signed}
 use Rattle.event_keys.specs.declared.outcome.Outcome.{Outcome}
 use Rattle.event_keys.specs.declared.outcome.Outcome.TheVariants.{Idle, Did}
@@ -15,7 +15,7 @@ use Rattle.event_keys.specs.declared.outcome.Turned.{Turned}
 use Rattle.raw_events.specs.Around.{Around}
 use Rattle.antimessage.proofs.Counting.{signed_decides}
 use Rattle.antimessage.specs.Bags.{is_one}
-use Rattle.antimessage.specs.Counts.{is_same, minus}
+use Rattle.antimessage.specs.Counts.{minus}
 use Rattle.plans.specs.Automata.{Instance}
 use Rattle.plans.specs.Receivers.{Rising}
 use Rattle.plans.specs.Signatures.{receivers_of}

@@ -1,6 +1,8 @@
 -- What the next message of a source adds to counts.
-use Rattle.std.proofs.Common.{◌≡◌, ℕ, zero, suc, ◌+◌, ◌<◌, ◌≤◌, ◌==◌, Bool, true, false, cond, Option, None, Some, List, [], ◌∷◌, ◌++◌, map, reverse, length, refl, ap, sym, subst, ◌∙◌, arith}
-use Rattle.std.specs.Prelude.{◌&&◌, IfNone, count_by, is_some}
+use Rattle.std.proofs.Common.{true≢false, ◌≡◌, ◌+◌, Bool, true, false, cond, Option, None, Some, List, [], ◌∷◌, ◌++◌, reverse, refl, ap, sym, ◌∙◌}
+use Rattle.std.specs.Prelude.{◌&&◌, IfNone, is_some, not}
+use Rattle.std.specs.Option.{option_copied}
+use Rattle.raw_events.specs.Around.{first_of, is_nonempty, last}
 use Rattle.std.specs.Borrow.{Bor}
 use Rattle.event_keys.specs.contracts.message.MessagePartialEq.TheImpl as message_eq
 use Rattle.event_keys.specs.contracts.message.SignPartialEq.TheImpl as sign_eq
@@ -12,7 +14,7 @@ use Rattle.antimessage.proofs.Counting.{signed_decides}
 use Rattle.antimessage.specs.Bags.{is_one}
 use Rattle.antimessage.specs.Counts.{is_same, plus}
 use Rattle.rollback.specs.declared.done.Done.{Done}
-use Rattle.rollback.specs.declared.done.Done.TheVariants.{Turn, Input}
+use Rattle.rollback.specs.declared.done.Done.TheVariants.{Input}
 use Rattle.rollback.specs.Levels.{count_as, is_input_of, signed_as}
 use Rattle.rollback.specs.Sides.{count_inputs, count_next as count_of_next, once}
 use Rattle.rollback.proofs.Levels.{count_next, count_none}
@@ -81,3 +83,24 @@ next_none o m e = ap (count_of_next m) (not_there o e)
 -- what is the same message counts the same
 pub once_same : (a b m : Message) → message_eq.ghosts.eq a b ≡ true → once m a ≡ once m b
 once_same a b m e = ap (once m) (ap (λ (y : Signed). y.message) ((signed_decides (plus a) (plus b)).0 (ap (λ (t : Bool). t && true) e)))
+
+copied_some : {X : Type 0} (o : Option (Bor X)) → is_some (option_copied o) ≡ is_some o
+copied_some None = refl
+copied_some (Some x) = refl
+
+last_some : {X : Type 0} (x : X) (xs : List X) → is_some (last (x ∷ xs)) ≡ true
+last_some x [] = refl
+last_some x (y ∷ ys) = last_some y ys
+
+none_around : {X : Type 0} (before after : List X) → is_some (first_of before after) ≡ false → reverse before ++ after ≡ []
+none_around [] [] e = refl
+none_around [] (x ∷ after) e = cc
+none_around (x ∷ before) after e = absurd (true≢false (sym (last_some x before) ∙ e))
+
+-- where no first item is seen there is none
+pub nothing_first : {X : Type 0} (o : Option (Bor X)) (before after : List X) → option_copied o ≡ first_of before after → is_some o ≡ false → reverse before ++ after ≡ []
+nothing_first o before after seen e = none_around before after (sym (ap is_some seen) ∙ copied_some o ∙ e)
+
+pub empty_then : {X : Type 0} (xs : List X) (b : Bool) → b ≡ not (is_nonempty xs) → b ≡ true → xs ≡ []
+empty_then [] b is e = refl
+empty_then (x ∷ xs) b is e = absurd (true≢false (sym e ∙ is))

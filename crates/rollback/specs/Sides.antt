@@ -3,7 +3,6 @@ use Rattle.std.specs.Prelude.{ℕ, ◌+◌, cond, Option, None, Some, List, [], 
 use Rattle.std.specs.Borrow.{Bor}
 use Rattle.event_keys.specs.declared.message.Message.{Message}
 use Rattle.event_keys.specs.declared.message.Sign.TheVariants.{Minus}
-use Rattle.event_keys.specs.declared.message.Signed.{Signed}
 use Rattle.antimessage.specs.Counts.{is_same, plus}
 use Rattle.rollback.specs.declared.done.Done.{Done}
 use Rattle.rollback.specs.declared.done.Done.TheVariants.{Turn, Input}

@@ -315,5 +315,5 @@ fn has_input(done: &mut EventList<Done>, antimessage: &Signed) -> bool
 fn pass_to_end(done: &mut EventList<Done>)
     ensures { done.new ≡ record { before = onto done.old.after done.old.before; after = [] } }
 {
-    while done.pass_next() {}
+    done.pass_all();
 }

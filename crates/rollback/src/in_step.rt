@@ -90,6 +90,12 @@ impl<'a> Source<'a> {
         Source::WithSign(Signs { items, sign })
     }
 
+    pub(crate) fn inputs(items: Iter<'a, Done>) -> Source<'a>
+        ensures { (message : MessageValue) → count_source message result ≡ count_inputs message items.entry }
+    {
+        Source::Inputs(items)
+    }
+
     // Of what is left of one done turn, and of other done turns.
     pub(crate) fn antimessages(turn: Iter<'a, Signed>, rest: Iter<'a, Done>) -> Source<'a>
         ensures { (message : MessageValue) → count_source message result ≡ count_as Minus message turn.entry + count_turns message rest.entry }
@@ -109,6 +115,32 @@ impl<'a> Source<'a> {
             Source::Turns(antimessages) => antimessages.take(),
         }
     }
+}
+
+// Both sources lose their next message; whether that was the same one.
+fn step_alone(left: &mut Source<'_>, right: &mut Source<'_>) -> Option<bool>
+    ensures some { IfSome result (λ same. same ≡ true → (message : MessageValue) → count_source message left.old + count_source message right.new ≡ count_source message right.old + count_source message left.new) }
+    ensures none { IfNone result ((message : MessageValue) → count_source message left.old ≡ count_source message right.old) }
+    ensures less { IsSome result → size_source left.new + size_source right.new < size_source left.old + size_source right.old }
+{
+    let one = left.take();
+    let other = right.take();
+    if one.is_none() && other.is_none() {
+        return None;
+    }
+    Some(is_same_next(one, other))
+}
+
+// Whether two sources give the same messages in the same order; then each has every message as often as the other.
+pub(crate) fn are_same(mut left: Source<'_>, mut right: Source<'_>) -> bool
+    ensures { result ≡ true → (message : MessageValue) → count_source message left.entry ≡ count_source message right.entry }
+{
+    while let Some(is_same) = step_alone(&mut left, &mut right) {
+        if !is_same {
+            return false;
+        }
+    }
+    true
 }
 
 // What comes from a source, with the next message at hand.
@@ -151,6 +183,13 @@ impl<'a> Ahead<'a> {
     }
 }
 
+// Which of three sources.
+enum Place {
+    First,
+    Second,
+    Third,
+}
+
 // Three sources, whose messages are taken in the order of keys where each of them is in order.
 #[derive(Drop)]
 pub(crate) struct Side<'a> {
@@ -170,16 +209,28 @@ impl<'a> Side<'a> {
         }
     }
 
-    // The source whose next message is the least becomes the first.
-    fn order(&mut self)
-        ensures same { (message : MessageValue) → count_side message self.new ≡ count_side message self.old }
-        ensures size { size_side self.new ≡ size_side self.old }
-    {
+    // The source whose next message is the least.
+    fn least(&self) -> Place {
         if self.second.goes_before(&self.first) {
-            swap(&mut self.first, &mut self.second);
+            if self.third.goes_before(&self.second) {
+                return Place::Third;
+            }
+            return Place::Second;
         }
         if self.third.goes_before(&self.first) {
-            swap(&mut self.first, &mut self.third);
+            return Place::Third;
+        }
+        Place::First
+    }
+
+    fn take_least(&mut self) -> Option<&'a Message>
+        ensures count { (message : MessageValue) → count_side message self.old ≡ count_next message result + count_side message self.new }
+        ensures less { size_next result + size_side self.new ≤ size_side self.old }
+    {
+        match self.least() {
+            Place::First => self.first.take(),
+            Place::Second => self.second.take(),
+            Place::Third => self.third.take(),
         }
     }
 
@@ -188,7 +239,9 @@ impl<'a> Side<'a> {
         ensures none { IfNone result ((message : MessageValue) → count_side message self.new ≡ 0) }
         ensures less { size_next result + size_side self.new ≤ size_side self.old }
     {
-        self.order();
+        if let Some(message) = self.take_least() {
+            return Some(message);
+        }
         if let Some(message) = self.first.take() {
             return Some(message);
         }

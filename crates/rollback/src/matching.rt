@@ -1,5 +1,5 @@
 //! Whether a component is the one that others know by what it has taken and what it has sent.
-ghost use Rattle.std.specs.Prelude.{◌≡◌, ◌<◌, ◌+◌, ◌^◌, ◌==◌, ◌↔◌, true, false, count_by};
+ghost use Rattle.std.specs.Prelude.{◌≡◌, ◌<◌, ◌+◌, ◌^◌, ◌==◌, ◌↔◌, [], true, false, count_by};
 ghost use Rattle.std.specs.List.{list_all};
 ghost use Rattle.event_keys.specs.declared.message.Message.{Message as MessageValue};
 ghost use Rattle.event_keys.specs.declared.message.Sign.TheVariants.{Plus, Minus};
@@ -11,7 +11,7 @@ ghost use Rattle.rollback.specs.Levels.{all_of, signed_as, is_all_sent, is_all_t
 
 use crate::component::Component;
 use crate::done::Done;
-use crate::in_step::{Side, Source, are_in_step};
+use crate::in_step::{Side, Source, are_in_step, are_same};
 use antimessage::Bag;
 use antimessage::laws::order_law;
 use event_keys::{Message, Sign, Signed};
@@ -172,6 +172,13 @@ fn is_sent_level(mut standing: Standing<'_>, mut sent: Sent<'_>, message: &Messa
     !pass_sent(&mut sent, message)
 }
 
+// Whether there is an item.
+fn is_something(items: &EventList<Signed>) -> bool
+    ensures { result ≡ false → all_of items.now ≡ [] }
+{
+    items.peek_first().is_some()
+}
+
 // The messages to a component, wherever they are.
 #[derive(Clone, Copy)]
 struct Takings<'a> {
@@ -234,10 +241,24 @@ impl Takings<'_> {
         }
     }
 
+    // Whether all that came is done, in the same order, and nothing waits; then each message is level.
+    fn is_all_done(self) -> bool
+        ensures { result ≡ true → (message : MessageValue) → is_taken_level self.entry message ≡ true }
+    {
+        if !self.tray.is_empty() || is_something(self.pending) || is_something(self.owed) {
+            return false;
+        }
+        let came = Source::with_sign(self.taken.iter(), Sign::Plus);
+        are_same(came, Source::inputs(self.done.iter()))
+    }
+
     // Whether one walk along both sides finds the same messages; then each is level.
     fn is_in_step(self) -> bool
         ensures { result ≡ true → (message : MessageValue) → is_taken_level self.entry message ≡ true }
     {
+        if self.is_all_done() {
+            return true;
+        }
         let mut came = Side::new(
             Source::with_sign(self.taken.iter(), Sign::Plus),
             Source::with_sign(self.owed.iter(), Sign::Minus),
@@ -328,10 +349,28 @@ impl Sendings<'_> {
         }
     }
 
+    // Whether nothing is to leave, and what stands is what the done turns sent, in the same order.
+    fn has_all_left(self) -> bool
+        ensures { result ≡ true → (message : MessageValue) → count_standing message (record { standing = self.entry.standing.now; out = self.entry.out.now }) ≡ count_turns message (all_of self.entry.done.now) + count_as Minus message self.entry.out.now }
+    {
+        if !self.out.is_empty() {
+            return false;
+        }
+        let standing = Source::with_sign(self.standing.iter(), Sign::Plus);
+        let none = EventList::new();
+        are_same(
+            standing,
+            Source::antimessages(none.iter(), self.done.iter()),
+        )
+    }
+
     // Whether one walk along both sides finds the same messages.
     fn is_in_step(self) -> bool
         ensures { result ≡ true → (message : MessageValue) → count_standing message (record { standing = self.entry.standing.now; out = self.entry.out.now }) ≡ count_turns message (all_of self.entry.done.now) + count_as Minus message self.entry.out.now }
     {
+        if self.has_all_left() {
+            return true;
+        }
         let mut standing = Side::new(
             Source::with_sign(self.standing.iter(), Sign::Plus),
             Source::with_sign(self.out.iter(), Sign::Plus),

@@ -1,6 +1,5 @@
 -- Turns are put among those that are held.
-use Rattle.std.proofs.Common.{◌≡◌, ℕ, ◌<◌, ◌≤◌, Bool, true, false, None, Some, List, [], ◌∷◌, ◌++◌, map, reverse, refl, ap, sym, subst, ◌∙◌, arith}
-use mathlib.Core.List.{reverse_aux}
+use Rattle.std.proofs.Common.{◌≡◌, ℕ, ◌<◌, ◌≤◌, Bool, true, false, None, Some, List, [], ◌∷◌, map, refl, ap, sym, subst, ◌∙◌, arith}
 use Rattle.std.specs.Prelude.{not, nat_lt}
 use Rattle.std.proofs.lemmas.Bool.{le-ltb, ltb-false}
 use Rattle.terms.specs.Named.{Named}
@@ -118,11 +117,3 @@ merging_next turns0 held0 t (x ∷ left) before after new_before new_after h p p
 pub merging_stops : (turns0 held0 : List (Turn Named)) (left before after : List Turned) → head left ≡ None → IsMerging turns0 held0 left before after → turns_of (onto before after) ≡ put_turns turns0 held0
 merging_stops turns0 held0 [] before after h p = merging_ends turns0 held0 before after p
 merging_stops turns0 held0 (x ∷ left) before after h p = cc
-
--- a list put before another, its first item last
-pub reversed_onto : (xs ys : List Turned) → reverse xs ++ ys ≡ onto xs ys
-reversed_onto xs ys = go xs [] ys
-  where
-    go : (xs us ys : List Turned) → reverse_aux xs us ++ ys ≡ onto xs (us ++ ys)
-    go [] us ys = refl
-    go (x ∷ xs) us ys = go xs (x ∷ us) ys

@@ -16,7 +16,7 @@ use raw_events::{EventCell, EventList};
 pub fn pass_to_end(turns: &mut EventList<Turned>)
     ensures { turns.new ≡ record { before = onto turns.old.after turns.old.before; after = [] } }
 {
-    while turns.pass_next() {}
+    turns.pass_all();
 }
 
 // Moves the cursor before all turns.

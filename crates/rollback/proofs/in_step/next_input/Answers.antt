@@ -1,5 +1,4 @@
-use Rattle.std.proofs.Common.{◌≡◌, ◌∷◌, ◌≤◌, length, refl, sym, ap, ◌∙◌, arith}
-use Rattle.event_keys.specs.declared.message.Message.{Message}
+use Rattle.std.proofs.Common.{◌≡◌, ◌∷◌, length, refl, sym, ap, ◌∙◌, arith}
 use Rattle.rollback.specs.declared.done.Done.TheVariants.{Turn, Input}
 use Rattle.rollback.specs.Sides.{count_inputs}
 use Rattle.rollback.proofs.InStep.{found_input, passed_input, passed_turn}

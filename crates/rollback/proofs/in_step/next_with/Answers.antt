@@ -1,5 +1,4 @@
-use Rattle.std.proofs.Common.{◌≡◌, ◌∷◌, ◌≤◌, length, sym, ap, ◌∙◌, arith}
-use Rattle.event_keys.specs.declared.message.Message.{Message}
+use Rattle.std.proofs.Common.{◌≡◌, ◌∷◌, length, sym, ap, ◌∙◌, arith}
 use Rattle.rollback.specs.Levels.{count_as}
 use Rattle.rollback.proofs.InStep.{found_with, passed_with}
 use Rattle.rollback.proofs.in_step.next_with.Goals as goal
