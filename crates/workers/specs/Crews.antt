@@ -23,20 +23,20 @@ module _ {T : Type 0} where
   setup_of lease = lease.component.setup
 
   abbrev pub lease_in : Paced T → Holding (Setup T)
-  lease_in paced = paced.lease
+  lease_in paced = paced.lease.value
 
   abbrev pub paced_number : Paced T → ℕ
-  paced_number paced = number_of paced.lease
+  paced_number paced = number_of (lease_in paced)
 
   abbrev pub paced_setup : Paced T → Setup T
-  paced_setup paced = setup_of paced.lease
+  paced_setup paced = setup_of (lease_in paced)
 
   -- there is one exchange
   abbrev pub lent_number : Lent T → ℕ
   lent_number lent = 0
 
   abbrev pub lent_setup : Lent T → Setup T
-  lent_setup lent = lent.exchange.setup
+  lent_setup lent = lent.exchange.value.setup
 
   -- where both pools have something, it is of one setup
   abbrev pub AreOfOne : Option (Setup T) → Option (Setup T) → Type 0

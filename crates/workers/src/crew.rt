@@ -5,29 +5,29 @@ use gvt::Seat;
 use pools::{Numbered, Pass};
 use task_seed::{Setup, Turns};
 
-// A lease, and how far its component is let run ahead.
+// A lease, and how far its component is let run ahead. It is moved often, so the lease stands behind a box.
 #[derive(Drop)]
 pub(crate) struct Paced<T: Turns> {
-    pub(crate) lease: Lease<T>,
+    pub(crate) lease: Box<Lease<T>>,
     pub(crate) pace: Pace,
 }
 
 impl<T: Turns> Numbered<Setup<T>> for Paced<T> {
-    ghost number_of = { λ paced. paced.lease.component.number };
+    ghost number_of = { λ paced. paced.lease.value.component.number };
 
-    ghost kind_of = { λ paced. paced.lease.component.setup };
+    ghost kind_of = { λ paced. paced.lease.value.component.setup };
 }
 
 // The exchange, which one thread at a time has.
 #[derive(Drop)]
 pub(crate) struct Lent<T: Turns> {
-    pub(crate) exchange: Exchange<T>,
+    pub(crate) exchange: Box<Exchange<T>>,
 }
 
 impl<T: Turns> Numbered<Setup<T>> for Lent<T> {
     ghost number_of = { λ lent. 0 };
 
-    ghost kind_of = { λ lent. lent.exchange.setup };
+    ghost kind_of = { λ lent. lent.exchange.value.setup };
 }
 
 // A worker's number, from 0, its pass of the leases, its pass of the exchange, and its seat of the published count.

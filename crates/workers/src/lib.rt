@@ -6,6 +6,7 @@ pub mod fault;
 pub mod gate;
 pub mod laws;
 mod pace;
+mod patience;
 pub mod running;
 mod shared;
 mod working;

@@ -6,14 +6,14 @@ const MOST_SKIPS: u64 = 256;
 // How many entries a component has done since its base at most, whatever its window.
 const MOST_HELD: u64 = 256;
 
-// A component that is far ahead loses much to a straggler; one that is hardly ahead is visited for little. What it did since messages came last
-// and isn't committed is what the next ones may cost. So its window for that goes after what it could keep between two arrivals, and grows where
-// none come.
+// A component that is far ahead loses much to a straggler; one that is hardly ahead is visited for little. What it did beyond the messages that
+// came last and isn't committed is what the next ones may cost. So its window for that goes after what it could keep between two arrivals, and
+// grows where nothing is lost.
 #[derive(Drop)]
 pub(crate) struct Pace {
-    // How many entries it may have done since messages came that aren't committed.
+    // How many entries it may have done beyond the last messages that aren't committed.
     window: u64,
-    // How many entries it did since messages came.
+    // How many entries it did beyond them.
     ran: u64,
     // How many turns were committed when its lease was last visited.
     seen: u64,
@@ -31,7 +31,7 @@ impl Pace {
         }
     }
 
-    // How many of so many entries since the base were done since messages came.
+    // How many of so many entries since the base were done beyond the last messages.
     fn ahead(&self, depth: usize) -> u64 {
         self.ran.min(depth as u64)
     }
@@ -66,13 +66,12 @@ impl Pace {
         self.skips = 0;
     }
 
-    // Messages came or not, and so many entries were taken back. The window goes half of the way to what could be kept.
+    // Messages came or not, and so many entries were taken back. The window goes half of the way to what could be kept, or grows by one.
     pub(crate) fn adapt(&mut self, came: bool, lost: usize, budget: u32) {
         if lost > 0 {
             let kept = self.ran.saturating_sub(lost as u64);
-            self.window = self.window.saturating_add(kept) / 2;
-        }
-        if came || self.ran >= self.window.saturating_mul(2) {
+            self.window = (self.window.saturating_add(kept) / 2).max(1);
+        } else if came || self.ran >= self.window.saturating_mul(2) {
             self.window = self.window.saturating_add(1).min(u64::from(budget));
         }
         if came {

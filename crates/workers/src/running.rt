@@ -94,7 +94,7 @@ fn start<T: Turns, R: Wait>(
     let (exchange, leases) = start_exchange(alloc, setup)?;
     let components = leases.len();
     let (pool, passes) = Pool::new(rt, alloc, pace_all(alloc, leases, budget)?, workers)?;
-    let lent = Vec::from_array(alloc, [Lent { exchange }])?;
+    let lent = Vec::from_array(alloc, [lend_out(alloc, exchange)?])?;
     let (exchange, mut locks) = Pool::new(rt, alloc, lent, workers + 1)?;
     let (published, mut seats) = Published::new(alloc, workers + 1)?;
     let (Some(lock), Some(seat)) = (locks.pop(), seats.pop()) else {
@@ -128,9 +128,18 @@ fn pace_all<T: Turns>(
     let mut paced = Vec::with_capacity(alloc, leases.len())?;
     for lease in leases {
         let pace = Pace::new(budget);
+        let lease = Box::new(alloc, lease)?;
         paced.push(Paced { lease, pace })?;
     }
     Ok(paced)
+}
+
+// The exchange, as it waits in its pool.
+fn lend_out<T: Turns>(alloc: Global, exchange: Exchange<T>) -> Result<Lent<T>, NoMemory>
+    ensures { IfOk result (λ lent. lent.exchange.value ≡ exchange) }
+{
+    let exchange = Box::new(alloc, exchange)?;
+    Ok(Lent { exchange })
 }
 
 // The exchange of a setup at its start, with its leases, of which no two have one number.

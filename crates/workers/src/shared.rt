@@ -26,11 +26,13 @@ pub(crate) struct Shared<T: Turns> {
     pub(crate) components: usize,
 }
 
-// Waits for the exchange by looking again and again: who has it gives it back shortly, and a thread that slept would come late.
+// Waits for the exchange by looking again and again: who has it gives it back shortly, and a thread that slept would come late. The looks that
+// were in vain are added to `looks`.
 pub(crate) fn hold<T: Turns, R: Wait>(
     rt: &R,
     shared: &Shared<T>,
     lock: &mut Pass<Lent<T>, Setup<T>>,
+    looks: &mut u32,
 ) -> Lent<T>
     requires { IsOf shared.now.exchange lock.old }
     ensures lock { IsOf shared.now.exchange lock.new }
@@ -42,6 +44,7 @@ pub(crate) fn hold<T: Turns, R: Wait>(
         if let Some(lent) = shared.exchange.take(rt, lock) {
             return lent;
         }
+        *looks = looks.saturating_add(1);
         backoff.snooze();
     }
     unreachable!()

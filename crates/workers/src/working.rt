@@ -1,25 +1,19 @@
 //! What a worker does.
-ghost use Rattle.std.specs.Prelude.{◌≡◌, IfOk, IfSome, Some};
+ghost use Rattle.std.specs.Prelude.{◌≡◌, ◌≤◌, IfOk, IfSome, Some};
 ghost use Rattle.pools.specs.Passes.{holding};
-ghost use Rattle.workers.specs.Crews.{Holds, IsOf};
+ghost use Rattle.workers.specs.Crews.{Holds, IsOf, paced_number, paced_setup};
 
 use crate::crew::{Paced, Worker};
 use crate::fault::WorkFault;
 use crate::gate::Gate;
-use crate::shared::{Shared, end, ends, hold, nap, note};
+use crate::patience::Patience;
+use crate::shared::{Shared, end, ends, hold, note};
 use event_keys::Bound;
 use exchange::{Exchange, Lease, MeetRefused};
 use std::alloc::Global;
 use std::sync::Wait;
-use std::thread;
 use task_seed::Turns;
 use terms::NoMemory;
-
-// How many microseconds a worker sleeps that has found no lease to work on, after so many looks. Each look takes the exchange from those that
-// work.
-const NAP: u64 = 50;
-
-const LOOKS: u32 = 2;
 
 // A lease to work on, and whether it held all others up when it was taken: nothing more is committed before it has run.
 #[derive(Drop)]
@@ -39,13 +33,13 @@ pub(crate) fn work<T: Turns, G: Gate<T>, R: Wait>(
 )
     requires { IsOf shared.now worker }
 {
-    let mut looks = 0;
+    let mut patience = Patience::new(worker.number);
     let mut done = None;
     for _ in rt.forever() {
         if ends(shared) {
             break;
         }
-        let visit = match change(rt, shared, &mut worker, done) {
+        let visit = match change(rt, shared, &mut worker, &mut patience, done) {
             Ok(visit) => visit,
             Err(refused) => {
                 note(rt, shared, WorkFault::Meeting(refused));
@@ -60,7 +54,7 @@ pub(crate) fn work<T: Turns, G: Gate<T>, R: Wait>(
         ) = visit
         else {
             done = None;
-            looks = idle(rt, looks);
+            patience.wait(rt);
             continue;
         };
         if advance(alloc, gate, &mut paced, holds_up, budget).is_err() {
@@ -68,26 +62,17 @@ pub(crate) fn work<T: Turns, G: Gate<T>, R: Wait>(
             break;
         }
         done = Some(paced);
-        looks = 0;
+        patience.find();
     }
     end(shared);
 }
 
-// Lets other threads go on, shortly at first, and answers how many looks in a row were in vain.
-fn idle<R: Wait>(rt: &R, looks: u32) -> u32 {
-    if looks < LOOKS {
-        thread::yield_now();
-    } else {
-        nap(rt, NAP);
-    }
-    looks.saturating_add(1)
-}
-
-// With the exchange: what was done of a lease is shared and committed, and another one is taken.
+// With the exchange: what was done of a lease is shared and committed, and another one is taken, unless the worker keeps out of others' way.
 fn change<T: Turns, R: Wait>(
     rt: &R,
     shared: &Shared<T>,
     worker: &mut Worker<T>,
+    patience: &mut Patience,
     done: Option<Paced<T>>,
 ) -> Result<Option<Visit<T>>, MeetRefused>
     requires own { IsOf shared.now worker.old }
@@ -95,8 +80,10 @@ fn change<T: Turns, R: Wait>(
     ensures own { IsOf shared.now worker.new }
     ensures held { IfOk result (λ visit. IfSome visit (λ it. Holds worker.new.pass it.paced)) }
 {
-    let mut lent = hold(rt, shared, &mut worker.lock);
-    let visit = go_round(rt, shared, &mut lent.exchange, worker, done);
+    let mut looks = 0;
+    let mut lent = hold(rt, shared, &mut worker.lock, &mut looks);
+    let rests = patience.note(looks);
+    let visit = go_round(rt, shared, &mut *lent.exchange, worker, done, rests);
     shared.exchange.give_back(rt, &mut worker.lock, lent);
     visit
 }
@@ -107,6 +94,7 @@ fn go_round<T: Turns, R: Wait>(
     exchange: &mut Exchange<T>,
     worker: &mut Worker<T>,
     done: Option<Paced<T>>,
+    rests: bool,
 ) -> Result<Option<Visit<T>>, MeetRefused>
     requires own { IsOf shared.now worker.old }
     requires setup { (holding worker.old.lock).kind ≡ Some exchange.old.setup }
@@ -121,6 +109,9 @@ fn go_round<T: Turns, R: Wait>(
     shared.published.publish(&mut worker.seat, count);
     if exchange.finished() {
         end(shared);
+        return Ok(None);
+    }
+    if rests {
         return Ok(None);
     }
     take_due(rt, shared, exchange, worker, count)
@@ -144,7 +135,7 @@ fn share<T: Turns, R: Wait>(
     let Some(mut paced) = done else {
         return Ok(());
     };
-    let met = meet(exchange, &mut paced.lease);
+    let met = meet(exchange, &mut *paced.lease);
     shared.pool.give_back(rt, &mut worker.pass, paced);
     met
 }
@@ -196,7 +187,7 @@ fn is_due<T: Turns>(
 ) -> bool
     ensures { paced.new.lease ≡ paced.old.lease }
 {
-    let lease = &paced.lease;
+    let lease = &*paced.lease;
     if lease.floor() == exchange.bound() || exchange.has_mail(lease.number()) {
         return true;
     }
@@ -215,12 +206,12 @@ fn begin_visit<T: Turns>(
     mut paced: Paced<T>,
     count: u64,
 ) -> Result<Visit<T>, MeetRefused>
-    requires { paced.lease.component.setup ≡ exchange.old.setup }
-    ensures number { IfOk result (λ visit. visit.paced.lease.component.number ≡ paced.lease.component.number) }
-    ensures setup { IfOk result (λ visit. visit.paced.lease.component.setup ≡ paced.lease.component.setup) }
+    requires { paced_setup paced ≡ exchange.old.setup }
+    ensures number { IfOk result (λ visit. paced_number visit.paced ≡ paced_number paced) }
+    ensures setup { IfOk result (λ visit. paced_setup visit.paced ≡ paced_setup paced) }
     ensures exchange { exchange.new.setup ≡ exchange.old.setup }
 {
-    let lease = &mut paced.lease;
+    let lease = &mut *paced.lease;
     if exchange.has_mail(lease.number()) || paced.pace.is_half_full(lease.depth()) {
         meet(exchange, lease)?;
     }
@@ -237,16 +228,47 @@ fn advance<T: Turns, G: Gate<T>>(
     holds_up: bool,
     budget: u32,
 ) -> Result<(), NoMemory>
-    ensures number { paced.new.lease.component.number ≡ paced.old.lease.component.number }
-    ensures setup { paced.new.lease.component.setup ≡ paced.old.lease.component.setup }
+    ensures number { paced_number paced.new ≡ paced_number paced.old }
+    ensures setup { paced_setup paced.new ≡ paced_setup paced.old }
 {
-    let lease = &mut paced.lease;
+    let lease = &mut *paced.lease;
     let before = lease.depth();
-    let came = lease.settle() > 0;
-    let depth = lease.depth();
-    paced.pace.adapt(came, before.saturating_sub(depth), budget);
-    let allowed = paced.pace.allowed(depth, holds_up).min(budget);
-    let count = gate.ahead(alloc, lease, allowed)?;
+    let first = lease.least_coming();
+    let came = deliver(lease);
+    let lost = before.saturating_sub(lease.depth());
+    paced.pace.adapt(came, lost, budget);
+    let most = if came { budget } else { 0 };
+    let caught_up = catch_up(alloc, gate, lease, first, most)?;
+    let allowed = paced.pace.allowed(lease.depth(), holds_up);
+    let count = gate.ahead(alloc, lease, allowed.min(budget - caught_up))?;
     paced.pace.add(count);
     Ok(())
+}
+
+// Delivers what came to a lease, and answers whether anything did.
+fn deliver<T: Turns>(lease: &mut Lease<T>) -> bool
+    ensures number { lease.new.component.number ≡ lease.old.component.number }
+    ensures setup { lease.new.component.setup ≡ lease.old.component.setup }
+{
+    lease.settle() > 0
+}
+
+// Runs a lease as far as the first of the messages that came, and that one too, by at most so many entries. Answers how many were done.
+fn catch_up<T: Turns, G: Gate<T>>(
+    alloc: Global,
+    gate: &G,
+    lease: &mut Lease<T>,
+    first: Bound,
+    most: u32,
+) -> Result<u32, NoMemory>
+    ensures number { lease.new.component.number ≡ lease.old.component.number }
+    ensures setup { lease.new.component.setup ≡ lease.old.component.setup }
+    ensures most { IfOk result (λ count. count ≤ most) }
+{
+    for count in 0..most {
+        if lease.next() > first || gate.ahead(alloc, lease, 1)? == 0 {
+            return Ok(count);
+        }
+    }
+    Ok(most)
 }

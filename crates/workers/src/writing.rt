@@ -75,8 +75,9 @@ fn next_portion<T: Turns, R: Wait>(
     if let Some(fault) = noted(rt, shared) {
         return Err(fault);
     }
-    let mut lent = hold(rt, shared, &mut caller.lock);
-    let portion = take_portion(&mut lent.exchange);
+    let mut looks = 0;
+    let mut lent = hold(rt, shared, &mut caller.lock, &mut looks);
+    let portion = take_portion(&mut *lent.exchange);
     shared.exchange.give_back(rt, &mut caller.lock, lent);
     Ok(Some(portion))
 }

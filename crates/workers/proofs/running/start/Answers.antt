@@ -32,7 +32,7 @@ gather-requires-clause-setups g c κs within =
     let one : Option (Setup g.row.T.Denot) = common lent_setup c.in_ok-lent.lent.items in
     let other : Option (Setup g.row.T.Denot) = common paced_setup c.in_ok-pace_all.field-0.items in
     let K : Pass (Lent g.row.T.Denot) (Setup g.row.T.Denot) → Type 0 = λ lock. (holding lock).kind ≡ one in
-    let is : one ≡ Some setup = ap (common lent_setup) c.in_ok-lent.ensures.items ∙ ap Some c.in_ok-exchange.ensures.exchange in
+    let is : one ≡ Some setup = ap (common lent_setup) c.in_ok-lent.ensures.items ∙ ap (λ e. Some e.setup) c.in_ok-lend_out.ensures ∙ ap Some c.in_ok-exchange.ensures.exchange in
     let same : AreOfOne one other = subst (λ o. AreOfOne o other) (sym is) (paced_of_one setup c.in_ok-pace_all.field-0.items c.in_ok-exchange.leases.items c.in_ok-pace_all.ensures c.in_ok-exchange.ensures.leases) in
     passes_of_one c.pop.new.self.items c.in_ok-pool.passes.items one other
     (All-pop K c.in_ok-exchange-2.locks.items c.pop.new.self.items c.pop.result c.pop.ensures.items c.in_ok-exchange-2.ensures.kind).0 c.in_ok-pool.ensures.kind same
@@ -41,7 +41,7 @@ pub returns-clause-caller : goal.returns-clause-caller
 returns-clause-caller g c =
     let setup = arc_value c.args.setup.now in
     let one : Option (Setup g.row.T.Denot) = common lent_setup c.in_ok-lent.lent.items in
-    let is : one ≡ Some setup = ap (common lent_setup) c.in_ok-lent.ensures.items ∙ ap Some c.in_ok-exchange.ensures.exchange in
+    let is : one ≡ Some setup = ap (common lent_setup) c.in_ok-lent.ensures.items ∙ ap (λ e. Some e.setup) c.in_ok-lend_out.ensures ∙ ap Some c.in_ok-exchange.ensures.exchange in
     let L : Pass (Lent g.row.T.Denot) (Setup g.row.T.Denot) → Type 0 = IsOf c.in_ok-exchange-2.exchange in
     let E : Pass (Lent g.row.T.Denot) (Setup g.row.T.Denot) → Type 0 = IsEmptyOf c.in_ok-exchange-2.exchange (map lent_number c.in_ok-lent.lent.items) in
     let K : Pass (Lent g.row.T.Denot) (Setup g.row.T.Denot) → Type 0 = λ lock. (holding lock).kind ≡ one in

@@ -1,4 +1,4 @@
-use Rattle.std.proofs.Common.{◌≡◌, ap, sym, subst}
+use Rattle.std.proofs.Common.{◌≡◌, ap, sym, subst, ◌∙◌}
 use Rattle.std.specs.Prelude.{IfSome}
 use Rattle.pools.specs.Passes.{holding}
 use Rattle.workers.specs.Crews.{AreOfOne, Holds}
@@ -7,7 +7,7 @@ use Rattle.workers.proofs.working.share.Goals as goal
 pub meet-met-requires-after_bounds : goal.meet-met-requires-after_bounds
 meet-met-requires-after_bounds g c κs within =
     let held : Holds c.args.worker.now.pass c.in-Some.paced = subst (λ done. IfSome done (Holds c.args.worker.now.pass)) c.in-Some.is c.requires.held in
-    sym (c.requires.own.3 c.args.exchange.now.setup c.in-Some.paced.lease.component.setup c.requires.setup held.1)
+    ap (λ l. l.component.setup) c.deref_mut.ensures.value ∙ sym (c.requires.own.3 c.args.exchange.now.setup c.in-Some.paced.lease.value.component.setup c.requires.setup held.1)
 
 pub returns-clause-own : goal.returns-clause-own
 returns-clause-own g c =

@@ -1,0 +1,83 @@
+//! When a worker keeps out of the others' way.
+use crate::shared::nap;
+use std::sync::Wait;
+use std::thread;
+
+// How often a worker yields that has found no lease to work on, before it sleeps, and for how many microseconds it sleeps then. Each look takes
+// the exchange from those that work.
+const LOOKS: u32 = 2;
+
+const NAP: u64 = 50;
+
+// What a look at the exchange counts that found it away, and what one that found it there takes off; a worker rests where it comes to the
+// first of the next two numbers, and begins with the second afterwards. So it rests where the exchange is away at more than two looks of five.
+const AWAY: u32 = 3;
+
+const THERE: u32 = 2;
+
+const CROWDED: u32 = 24;
+
+const LESS_CROWDED: u32 = 12;
+
+// How often a rest may be twice as long as the one before.
+const MOST_DOUBLINGS: u32 = 6;
+
+// Where turns are cheap and each waits for a message, a second worker does nothing but take the exchange from the first. So a worker that finds
+// it away too often rests, each time longer, but the first worker, which never does.
+#[derive(Drop)]
+pub(crate) struct Patience {
+    is_first: bool,
+    // How many looks in a row found no lease to work on.
+    vain: u32,
+    // How often the exchange was away of late.
+    crowd: u32,
+    // How often the worker rested since it was last alone.
+    rests: u32,
+}
+
+impl Patience {
+    pub(crate) fn new(worker: u16) -> Patience {
+        Patience {
+            is_first: worker == 0,
+            vain: 0,
+            crowd: 0,
+            rests: 0,
+        }
+    }
+
+    // The exchange was had after so many vain looks. Whether the worker is to rest.
+    pub(crate) fn note(&mut self, looks: u32) -> bool {
+        if looks > 0 {
+            self.crowd = self.crowd.saturating_add(AWAY);
+        } else {
+            self.crowd = self.crowd.saturating_sub(THERE);
+        }
+        if self.crowd == 0 {
+            self.rests = 0;
+        }
+        self.is_crowded()
+    }
+
+    fn is_crowded(&self) -> bool {
+        !self.is_first && self.crowd >= CROWDED
+    }
+
+    // A lease was found.
+    pub(crate) fn find(&mut self) {
+        self.vain = 0;
+    }
+
+    // Lets other threads go on.
+    pub(crate) fn wait<R: Wait>(&mut self, rt: &R) {
+        if self.is_crowded() {
+            self.crowd = LESS_CROWDED;
+            self.rests = self.rests.saturating_add(1).min(MOST_DOUBLINGS);
+            nap(rt, NAP << self.rests);
+        } else if self.vain < LOOKS {
+            self.vain = self.vain.saturating_add(1);
+            thread::yield_now();
+        } else {
+            nap(rt, NAP);
+        }
+    }
+}
