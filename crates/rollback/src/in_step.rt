@@ -117,6 +117,31 @@ impl<'a> Source<'a> {
     }
 }
 
+// Whether both are the same message, or neither is there.
+fn is_same_next(one: Option<&Message>, other: Option<&Message>) -> bool
+    ensures { result ≡ true → (message : MessageValue) → count_next message one.entry ≡ count_next message other.entry }
+{
+    match one {
+        None => other.is_none(),
+        Some(message) => match other {
+            None => false,
+            Some(found) => message == found,
+        },
+    }
+}
+
+// Whether both are the same message; nothing where neither is there.
+fn compare(one: Option<&Message>, other: Option<&Message>) -> Option<bool>
+    ensures some { IfSome result (λ same. same ≡ true → (message : MessageValue) → count_next message one.entry ≡ count_next message other.entry) }
+    ensures none { IfNone result ((size_next one.entry ≡ 0) × (size_next other.entry ≡ 0) × ((message : MessageValue) → count_next message one.entry ≡ count_next message other.entry)) }
+    ensures there { IsSome result → 0 < size_next one.entry + size_next other.entry }
+{
+    if one.is_none() && other.is_none() {
+        return None;
+    }
+    Some(is_same_next(one, other))
+}
+
 // Both sources lose their next message; whether that was the same one.
 fn step_alone(left: &mut Source<'_>, right: &mut Source<'_>) -> Option<bool>
     ensures some { IfSome result (λ same. same ≡ true → (message : MessageValue) → count_source message left.old + count_source message right.new ≡ count_source message right.old + count_source message left.new) }
@@ -125,10 +150,7 @@ fn step_alone(left: &mut Source<'_>, right: &mut Source<'_>) -> Option<bool>
 {
     let one = left.take();
     let other = right.take();
-    if one.is_none() && other.is_none() {
-        return None;
-    }
-    Some(is_same_next(one, other))
+    compare(one, other)
 }
 
 // Whether two sources give the same messages in the same order; then each has every message as often as the other.
@@ -252,19 +274,6 @@ impl<'a> Side<'a> {
     }
 }
 
-// Whether both are the same message, or neither is there.
-fn is_same_next(one: Option<&Message>, other: Option<&Message>) -> bool
-    ensures { result ≡ true → (message : MessageValue) → count_next message one.entry ≡ count_next message other.entry }
-{
-    match one {
-        None => other.is_none(),
-        Some(message) => match other {
-            None => false,
-            Some(found) => message == found,
-        },
-    }
-}
-
 // Both sides lose their next message; whether that was the same one.
 fn step(left: &mut Side<'_>, right: &mut Side<'_>) -> Option<bool>
     ensures some { IfSome result (λ same. same ≡ true → (message : MessageValue) → count_side message left.old + count_side message right.new ≡ count_side message right.old + count_side message left.new) }
@@ -273,10 +282,7 @@ fn step(left: &mut Side<'_>, right: &mut Side<'_>) -> Option<bool>
 {
     let one = left.take();
     let other = right.take();
-    if one.is_none() && other.is_none() {
-        return None;
-    }
-    Some(is_same_next(one, other))
+    compare(one, other)
 }
 
 // Whether both sides give the same messages in the same order; then each has every message as often as the other.
