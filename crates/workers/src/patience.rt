@@ -4,16 +4,18 @@ use std::sync::Wait;
 use std::thread;
 
 // How often a worker yields that has found no lease to work on, before it sleeps, and for how many microseconds it sleeps then. Each look takes
-// the exchange from those that work.
+// the exchange from those that work. The first worker looks more often: it takes over where another one rests.
 const LOOKS: u32 = 2;
+
+const LOOKS_OF_FIRST: u32 = 32;
 
 const NAP: u64 = 50;
 
 // What a look at the exchange counts that found it away, and what one that found it there takes off; a worker rests where it comes to the
-// first of the next two numbers, and begins with the second afterwards. So it rests where the exchange is away at more than two looks of five.
+// first of the next two numbers, and begins with the second afterwards. So it rests where the exchange is away at more than one look of four.
 const AWAY: u32 = 3;
 
-const THERE: u32 = 2;
+const THERE: u32 = 1;
 
 const CROWDED: u32 = 24;
 
@@ -58,6 +60,10 @@ impl Patience {
         self.is_crowded()
     }
 
+    fn looks(&self) -> u32 {
+        if self.is_first { LOOKS_OF_FIRST } else { LOOKS }
+    }
+
     fn is_crowded(&self) -> bool {
         !self.is_first && self.crowd >= CROWDED
     }
@@ -73,7 +79,7 @@ impl Patience {
             self.crowd = LESS_CROWDED;
             self.rests = self.rests.saturating_add(1).min(MOST_DOUBLINGS);
             nap(rt, NAP << self.rests);
-        } else if self.vain < LOOKS {
+        } else if self.vain < self.looks() {
             self.vain = self.vain.saturating_add(1);
             thread::yield_now();
         } else {

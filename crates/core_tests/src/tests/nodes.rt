@@ -65,7 +65,8 @@ fn calls_on_a_row(rt: HostRuntime) -> Result<(), Fail> {
     assert_eq!(rt; value_of(list.take_last()), None);
     assert_eq!(rt; value_of(list.take_first()), Some(3));
     assert_eq!(rt; list.peek_first().copied(), Some(5));
-    assert_items(&rt, list, &[], &[5, 7]);
+    list.pass_all();
+    assert_items(&rt, list, &[5, 7], &[]);
     Ok(())
 }
 

@@ -166,6 +166,7 @@ fn assert_untouched(rt: &impl Abort, exchange: &Shared, first: &Held, second: &H
         assert!(rt; !exchange.has_mail(number));
     }
     assert!(rt; first.depth() == 0 && second.depth() == 0);
+    assert!(rt; first.next() == at(2, 0, 0) && second.next() == at(1, 1, 0));
 }
 
 #[test]
@@ -175,10 +176,11 @@ fn mail_depth_and_floor_are_told(rt: HostRuntime) {
     run_and_meet(&rt, &mut exchange, &mut first, &mut second);
     assert!(rt; first.depth() == 1 && first.floor() == at(4, 0, 1));
     assert!(rt; second.depth() == 2 && second.floor() == at(2, 0, 0));
+    assert!(rt; first.next() == at(4, 0, 1) && second.next() == Bound::End);
     assert_commits(&rt, &mut exchange, 1);
     // The token takes the turn at tick 3 back, and that at tick 1 is below the bound.
     assert_settles(&rt, &mut second, 1);
-    assert!(rt; second.depth() == 1);
+    assert!(rt; second.depth() == 1 && second.next() == at(2, 0, 0));
     assert_met(&rt, &mut exchange, &mut second, at(2, 0, 0));
     assert!(rt; second.depth() == 0);
 }
