@@ -5,11 +5,15 @@
 //! character is one byte), what standard output and standard error have to be (`null`: anything), and the status. For the check: a
 //! source, with the number of its refusal (`null`: it is accepted) and the token at which it stands.
 //! For the composition: the same under the name `composed`, and the number of the component.
+//!
+//! A file whose name ends with `.ioa` is a source, which is run by 1 to 8 workers and has to come out as by one thread, 200 runs of all sources.
 #![tactic(auto)]
 
 mod case;
+mod crew;
 
 use crate::case::Case;
+use crate::crew::run_all;
 use std::alloc::Global;
 use std::process::ExitCode;
 use std::sync::Wait;
@@ -23,25 +27,53 @@ struct Count {
     failed: u64,
 }
 
+impl Count {
+    fn pass(&mut self) {
+        self.passed = self.passed.saturating_add(1);
+    }
+
+    fn fail(&mut self) {
+        self.failed = self.failed.saturating_add(1);
+    }
+}
+
 fn main(rt: HostRuntime) -> anyhow::Result<ExitCode> {
     let alloc = rt.alloc();
     let mut count = Count {
         passed: 0,
         failed: 0,
     };
+    let mut sources = Vec::new(alloc);
     for name in env::args(&rt)?.skip(1) {
         let text = fs::read_to_string(&rt, name.as_str())?;
-        for (number, line) in text.as_str().lines().enumerate() {
-            if has_passed(&rt, alloc, line)? {
-                count.passed = count.passed.saturating_add(1);
-            } else {
-                count.failed = count.failed.saturating_add(1);
-                eprintln!(rt; "{name}:{}: failed", number.saturating_add(1))?;
-            }
+        if name.as_str().ends_with(".ioa") {
+            sources.push(text)?;
+        } else {
+            try_all(&rt, alloc, name.as_str(), text.as_str(), &mut count)?;
         }
     }
+    run_all(&rt, alloc, sources.as_slice(), &mut count)?;
     println!(rt; "{} passed, {} failed", count.passed, count.failed)?;
     Ok(ExitCode::from(if count.failed == 0 { 0 } else { 1 }))
+}
+
+// Tries the cases of a file.
+fn try_all<R: Threads + Wait + Sync + Print>(
+    rt: &R,
+    alloc: Global,
+    name: &str,
+    text: &str,
+    count: &mut Count,
+) -> anyhow::Result<()> {
+    for (number, line) in text.lines().enumerate() {
+        if has_passed(rt, alloc, line)? {
+            count.pass();
+        } else {
+            count.fail();
+            eprintln!(rt; "{name}:{}: failed", number.saturating_add(1))?;
+        }
+    }
+    Ok(())
 }
 
 fn has_passed<R: Threads + Wait + Sync>(rt: &R, alloc: Global, line: &str) -> anyhow::Result<bool> {

@@ -26,13 +26,13 @@ fn value_of(cell: Option<EventCell<u64>>) -> Option<u64> {
 // Takes the list apart, and compares it with the items before the cursor and those after it, each in the list's order.
 fn assert_items(rt: &impl Abort, mut list: EventList<u64>, before: &[u64], after: &[u64]) {
     for value in before.iter().rev() {
-        assert_eq!(rt; value_of(list.take_last()), Some(*value));
+        is(rt, value_of(list.take_last()), Some(*value));
     }
-    assert_eq!(rt; value_of(list.take_last()), None);
+    is(rt, value_of(list.take_last()), None);
     for value in after {
-        assert_eq!(rt; value_of(list.take_first()), Some(*value));
+        is(rt, value_of(list.take_first()), Some(*value));
     }
-    assert_eq!(rt; value_of(list.take_first()), None);
+    is(rt, value_of(list.take_first()), None);
 }
 
 // 1 and 3 before the cursor, 5 and 7 after it.
@@ -46,25 +46,29 @@ fn row<R: AllocGlobal>(rt: &R) -> Result<EventList<u64>, Fail> {
     Ok(list)
 }
 
+fn is(rt: &impl Abort, found: Option<u64>, wanted: Option<u64>) {
+    assert_eq!(rt; found, wanted);
+}
+
 #[test]
 fn calls_on_a_row(rt: HostRuntime) -> Result<(), Fail> {
     let mut list = row(&rt)?;
-    assert_eq!(rt; list.peek_first().copied(), Some(1));
-    assert_eq!(rt; list.peek_last().copied(), Some(3));
-    assert_eq!(rt; list.peek_next().copied(), Some(5));
+    is(&rt, list.peek_first().copied(), Some(1));
+    is(&rt, list.peek_last().copied(), Some(3));
+    is(&rt, list.peek_next().copied(), Some(5));
     list.insert_sorted(EventCell::new(rt.alloc(), 5)?);
-    assert_eq!(rt; value_of(list.take_equal(&5)), Some(5));
-    assert_eq!(rt; value_of(list.take_equal(&6)), None);
-    assert_eq!(rt; value_of(list.take_equal(&3)), None);
+    is(&rt, value_of(list.take_equal(&5)), Some(5));
+    is(&rt, value_of(list.take_equal(&6)), None);
+    is(&rt, value_of(list.take_equal(&3)), None);
     assert_eq!(rt; list.pass_back(), true);
-    assert_eq!(rt; list.peek_last().copied(), Some(1));
-    assert_eq!(rt; list.peek_next().copied(), Some(3));
-    assert_eq!(rt; value_of(list.take_last()), Some(1));
+    is(&rt, list.peek_last().copied(), Some(1));
+    is(&rt, list.peek_next().copied(), Some(3));
+    is(&rt, value_of(list.take_last()), Some(1));
     assert_eq!(rt; list.pass_back(), false);
-    assert_eq!(rt; list.peek_first().copied(), Some(3));
-    assert_eq!(rt; value_of(list.take_last()), None);
-    assert_eq!(rt; value_of(list.take_first()), Some(3));
-    assert_eq!(rt; list.peek_first().copied(), Some(5));
+    is(&rt, list.peek_first().copied(), Some(3));
+    is(&rt, value_of(list.take_last()), None);
+    is(&rt, value_of(list.take_first()), Some(3));
+    is(&rt, list.peek_first().copied(), Some(5));
     list.pass_all();
     assert_items(&rt, list, &[5, 7], &[]);
     Ok(())
@@ -183,18 +187,18 @@ fn play(
     if calls == 1 {
         return;
     }
-    let _taken = list.take_equal(five);
-    let _missing = list.take_equal(six);
+    drop(list.take_equal(five));
+    drop(list.take_equal(six));
     if calls == 2 {
         return;
     }
     list.pass_back();
-    let _last = list.take_last();
+    drop(list.take_last());
     if calls == 3 {
         return;
     }
     list.pass_next();
-    let _first = list.take_first();
+    drop(list.take_first());
     if calls == 4 {
         return;
     }

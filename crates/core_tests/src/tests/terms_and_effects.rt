@@ -216,26 +216,57 @@ fn after(alloc: Global, effect: &Effect) -> Result<State, NoMemory> {
     Ok(cells)
 }
 
-// One more, and then the first item, as its index is put into the index type.
-fn two_assignments(alloc: Global) -> Result<Effect, NoMemory> {
-    let first = assign(alloc, 2, &[Cell(2), Int(1), Binary(Operator::Plus)])?;
+// Whether a variable has the number after an effect.
+fn gives_number(
+    alloc: Global,
+    effect: Effect,
+    cell: usize,
+    number: i64,
+) -> Result<bool, NoMemory> {
+    Ok(has_number(&after(alloc, &effect)?, cell, number))
+}
+
+// Whether a variable has the numbers as its items after an effect.
+fn gives_list(
+    alloc: Global,
+    effect: Effect,
+    cell: usize,
+    numbers: &[i64],
+) -> Result<bool, NoMemory> {
+    has_list(alloc, &after(alloc, &effect)?, cell, numbers)
+}
+
+// The first item, as its index is put into the index type.
+fn assign_item(alloc: Global) -> Result<Effect, NoMemory> {
     let pair = Listed::Range { low: 0, count: 2 };
-    let item = Effect::AssignItem(0, term(alloc, &[Int(9)])?, pair, term(alloc, &[Cell(2)])?);
-    Ok(Effect::Then(first, Box::new(alloc, item)?))
+    let index = term(alloc, &[Int(9)])?;
+    Ok(Effect::AssignItem(
+        0,
+        index,
+        pair,
+        term(alloc, &[Cell(2)])?,
+    ))
+}
+
+// One more, and then the first item.
+fn two_assignments(alloc: Global) -> Result<Effect, NoMemory> {
+    let item = Box::new(alloc, assign_item(alloc)?)?;
+    let first = assign(alloc, 2, &[Cell(2), Int(1), Binary(Operator::Plus)])?;
+    Ok(Effect::Then(first, item))
 }
 
 #[test]
 fn assignments_act_one_after_the_other(rt: HostRuntime) -> Result<(), Fail> {
-    let cells = after(rt.alloc(), &two_assignments(rt.alloc())?)?;
-    assert!(rt; has_number(&cells, 2, 10));
-    assert!(rt; has_list(rt.alloc(), &cells, 0, &[4, 10])?);
+    let effect = two_assignments(rt.alloc())?;
+    assert!(rt; gives_number(rt.alloc(), effect, 2, 10)?);
+    let effect = two_assignments(rt.alloc())?;
+    assert!(rt; gives_list(rt.alloc(), effect, 0, &[4, 10])?);
     Ok(())
 }
 
 #[test]
 fn nothing_leaves_the_state(rt: HostRuntime) -> Result<(), Fail> {
-    let cells = after(rt.alloc(), &Effect::Nothing)?;
-    assert!(rt; has_number(&cells, 2, 9));
+    assert!(rt; gives_number(rt.alloc(), Effect::Nothing, 2, 9)?);
     Ok(())
 }
 
@@ -255,10 +286,10 @@ fn append_three(alloc: Global) -> Result<Effect, NoMemory> {
 
 #[test]
 fn if_takes_one_branch_and_for_each_member_in_order(rt: HostRuntime) -> Result<(), Fail> {
-    let cells = after(rt.alloc(), &count_up_or_double(rt.alloc())?)?;
-    assert!(rt; has_number(&cells, 2, 20));
-    let cells = after(rt.alloc(), &append_three(rt.alloc())?)?;
-    assert!(rt; has_list(rt.alloc(), &cells, 1, &[3, 4, 5])?);
+    let effect = count_up_or_double(rt.alloc())?;
+    assert!(rt; gives_number(rt.alloc(), effect, 2, 20)?);
+    let effect = append_three(rt.alloc())?;
+    assert!(rt; gives_list(rt.alloc(), effect, 1, &[3, 4, 5])?);
     Ok(())
 }
 
@@ -387,10 +418,14 @@ fn choice(alloc: Global, cell: usize, slot: usize, last: i64) -> Result<Effect, 
     Ok(Effect::If(term(alloc, &[Formal(0)])?, each, nothing))
 }
 
+fn is_equal_effect(first: &Effect, other: &Effect) -> bool {
+    laws::equal_effects_law(first, other);
+    *first == *other
+}
+
 fn is_first_choice(alloc: Global, other: &Effect) -> Result<bool, NoMemory> {
     let first = choice(alloc, 0, 0, 1)?;
-    laws::equal_effects_law(&first, other);
-    Ok(first == *other)
+    Ok(is_equal_effect(&first, other))
 }
 
 #[test]

@@ -1,6 +1,6 @@
 //! How long the calls take.
-use crate::messages::{cells, ticks_back};
-use crate::subject::Subject;
+use crate::component::messages::{cells, ticks_back};
+use crate::component::subject::Subject;
 use anyhow::{Result, bail};
 use event_keys::Sign;
 use std::alloc::Global;

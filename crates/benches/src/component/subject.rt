@@ -4,7 +4,7 @@ ghost use Rattle.plans.specs.Plans.{composition};
 ghost use Rattle.ring_source.specs.Ring.{ring_of_two};
 ghost use Rattle.task_seed.specs.Setups.{plan_of};
 
-use crate::messages::{LATE, SUBJECT, cells, ticks_back};
+use crate::component::messages::{LATE, SUBJECT, cells, ticks_back};
 use antimessage::Bag;
 use anyhow::Result;
 use event_keys::{Sign, Signed};

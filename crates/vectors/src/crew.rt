@@ -1,16 +1,13 @@
-//! Runs the sources in the files that are named by 1 to 8 workers, 200 times in all, and counts how often the program writes just what it writes
-//! by one thread.
-#![tactic(auto)]
-
+//! Sources by 1 to 8 workers, beside the one-thread simulator.
+use crate::Count;
 use service::serve::serve;
 use service::{FileFault, Files};
 use std::alloc::Global;
-use std::process::ExitCode;
 use std::sync::Wait;
 use std::thread::Threads;
-use std::{env, fs};
 use trace::Counted;
 
+// How often a source is run, in all.
 const RUNS: u64 = 200;
 
 const BUDGETS: [u64; 5] = [1, 2, 7, 64, 1000];
@@ -91,26 +88,24 @@ fn is_same<R: Threads + Wait + Sync>(
     Ok(given.as_slice() == wanted.as_slice() && !wanted.is_empty())
 }
 
-fn main(rt: HostRuntime) -> anyhow::Result<ExitCode> {
-    let alloc = rt.alloc();
-    let mut texts = Vec::new(alloc);
-    for name in env::args(&rt)?.skip(1) {
-        texts.push(fs::read_to_string(&rt, name.as_str())?)?;
-    }
-    let mut passed = 0u64;
-    let mut failed = 0u64;
+/// Runs the sources in turn by 1 to 8 workers, 200 times in all, and counts how often the program writes just what it writes by one thread.
+pub fn run_all<R: Threads + Wait + Sync + Print>(
+    rt: &R,
+    alloc: Global,
+    texts: &[String],
+    count: &mut Count,
+) -> anyhow::Result<()> {
     if texts.is_empty() {
-        return Ok(ExitCode::from(1));
+        return Ok(());
     }
     for k in 0..RUNS {
         let text = texts[(k % texts.len() as u64) as usize].as_str();
-        if is_same(&rt, alloc, k, Source { text })? {
-            passed = passed.saturating_add(1);
+        if is_same(rt, alloc, k, Source { text })? {
+            count.pass();
         } else {
-            failed = failed.saturating_add(1);
+            count.fail();
             eprintln!(rt; "run {k}: failed")?;
         }
     }
-    println!(rt; "{passed} passed, {failed} failed")?;
-    Ok(ExitCode::from(if failed == 0 { 0 } else { 1 }))
+    Ok(())
 }

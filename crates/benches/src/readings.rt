@@ -1,13 +1,10 @@
-//! The program `bench_sources`: what reading and printing a source of the greatest size costs, and what composing a ring of 64 components
-//! costs. It measures at the argument `run`, and writes nothing else.
-#![tactic(auto)]
-
+//! What reading and composing a source cost.
+use crate::texts::ring;
 use anyhow::Result;
 use compose::compose;
 use ioa_check::check;
 use ioa_front::{MOST_BYTES, Source, print, read};
 use std::alloc::{AllocGlobal, Global};
-use std::env;
 use std::time::{Clock, Instant};
 
 const ROUNDS: u32 = 20;
@@ -45,20 +42,6 @@ fn read_often(clock: &impl Clock, alloc: Global, text: &str) -> Result<(u64, Sou
     Ok((spent / u64::from(ROUNDS), source))
 }
 
-const NODE: &str =
-    "type Id = 0..63 automaton Node(me: Id, nx: Id, first: Bool) signature input pass(const me) output pass(const nx) states has: Bool := first transitions input pass(const me) eff has := true output pass(const nx) pre has eff has := false tasks { pass } automaton Ring components n0: Node(0, 1, true)";
-
-// A ring of 64 nodes.
-fn ring(alloc: Global) -> Result<String> {
-    let mut text = String::from_str(alloc, NODE)?;
-    for number in 1..64u64 {
-        let next = (number + 1) % 64;
-        let node = format!(in alloc; "; n{number}: Node({number}, {next}, false)")?;
-        text.push_str(node.as_str())?;
-    }
-    Ok(text)
-}
-
 // Nanoseconds of one composition of the source.
 fn compose_once(clock: &impl Clock, alloc: Global, text: &str) -> Result<u64> {
     let checked = check(alloc, read(alloc, text.as_bytes())?)?;
@@ -78,7 +61,8 @@ fn compose_often(clock: &impl Clock, alloc: Global, text: &str) -> Result<u64> {
     Ok(least)
 }
 
-fn measure(rt: &(impl Print + Clock + AllocGlobal)) -> Result<()> {
+/// Prints what reading a source of the greatest size and composing a ring of 64 components cost.
+pub fn measure(rt: &(impl Print + Clock + AllocGlobal)) -> Result<()> {
     let text = largest(rt.alloc())?;
     let (cost, source) = read_often(rt, rt.alloc(), text.as_str())?;
     println!(rt;
@@ -88,18 +72,11 @@ fn measure(rt: &(impl Print + Clock + AllocGlobal)) -> Result<()> {
     )?;
     let printed = print(rt.alloc(), &source)?;
     println!(rt; "{} bytes are printed", printed.len())?;
-    let text = ring(rt.alloc())?;
+    let text = ring(rt.alloc(), 64)?;
     let cost = compose_often(rt, rt.alloc(), text.as_str())?;
     println!(rt;
         "64 components are composed in {} microseconds",
         cost / 1_000
     )?;
     Ok(())
-}
-
-fn main(rt: HostRuntime) -> Result<()> {
-    match env::args(&rt)?.nth(1) {
-        Some(word) if word.as_str() == "run" => measure(&rt),
-        _ => Ok(()),
-    }
 }

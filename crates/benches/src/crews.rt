@@ -1,10 +1,8 @@
-//! The program `bench_run`: how many turns a millisecond workers commit and write, 1, 2 and 4 of them, beside the one-thread simulator, with text
-//! to a writer that keeps none of it. At the argument `run` it measures a ring of 8 components, 64 components that each compute, and the source
-//! in the file that the next argument names; it writes nothing else.
-#![tactic(auto)]
-
+//! How many turns workers commit and write in a millisecond, 1, 2 and 4 of them, beside the one-thread simulator, with text to a writer that keeps
+//! none of it.
 ghost use Rattle.std.specs.Prelude.{◌≤◌};
 
+use crate::texts::{ring, steps};
 use anyhow::Result;
 use commands::simulate;
 use plans::Plan;
@@ -14,16 +12,10 @@ use std::io::{self, Write};
 use std::sync::{Arc, Wait};
 use std::thread::Threads;
 use std::time::{Clock, Instant};
-use std::{env, fs, rt};
+use std::{fs, rt};
 use task_seed::{SeedTurns, Setup};
 use trace::{Counted, Lines};
 use workers::{Unheld, run};
-
-const NODE: &str =
-    "type Id = 0..63 automaton Node(me: Id, nx: Id, first: Bool) signature input pass(const me) output pass(const nx) states has: Bool := first transitions input pass(const me) eff has := true output pass(const nx) pre has eff has := false tasks { pass } automaton Ring components n0: Node(0, 1, true)";
-
-const STEPS: &str =
-    "type Id = 0..255 automaton Steps(me: Id) signature internal step(const me) states sum: Int := 0 transitions internal step(const me) eff for i: Id do sum := sum + i od tasks { step } automaton All components c0: Steps(0)";
 
 // A writer that counts what it takes and keeps none of it.
 #[derive(Drop)]
@@ -40,27 +32,6 @@ impl Write for Nowhere {
     fn flush(&mut self) -> io::Result<()> {
         Ok(())
     }
-}
-
-// A ring of so many nodes, at least 2.
-fn ring(alloc: Global, size: u64) -> Result<String> {
-    let mut text = String::from_str(alloc, NODE)?;
-    for number in 1..size {
-        let next = if number + 1 == size { 0 } else { number + 1 };
-        let node = format!(in alloc; "; n{number}: Node({number}, {next}, false)")?;
-        text.push_str(node.as_str())?;
-    }
-    Ok(text)
-}
-
-// So many components, of which each adds 256 numbers at each turn.
-fn steps(alloc: Global, size: u64) -> Result<String> {
-    let mut text = String::from_str(alloc, STEPS)?;
-    for number in 1..size {
-        let component = format!(in alloc; "; c{number}: Steps({number})")?;
-        text.push_str(component.as_str())?;
-    }
-    Ok(text)
 }
 
 // A composition with the turns of a seed.
@@ -143,12 +114,13 @@ fn speed(turns: u64, nanoseconds: u64) -> u64 {
     turns.saturating_mul(1_000_000) / nanoseconds.max(1)
 }
 
-fn measure_all<R: Threads + Wait + Sync + Clock + Print + rt::Files + Alloc>(
+/// Prints the speeds on a ring of 8 components, on 64 components that each compute, and on the source in a file.
+pub fn measure_all<R: Threads + Wait + Sync + Clock + Print + rt::Files + Alloc>(
     rt: &R,
     alloc: Global,
     file: &str,
 ) -> Result<()> {
-    measure(rt, alloc, "ring of 8", ring(alloc, 8)?.as_str(), 10_000)?;
+    measure(rt, alloc, "ring of 8", ring(alloc, 8)?.as_str(), 300_000)?;
     measure(
         rt,
         alloc,
@@ -158,18 +130,4 @@ fn measure_all<R: Threads + Wait + Sync + Clock + Print + rt::Files + Alloc>(
     )?;
     let text = fs::read_to_string(rt, file)?;
     measure(rt, alloc, file, text.as_str(), 10_000)
-}
-
-fn main(rt: HostRuntime) -> Result<()> {
-    let mut words = env::args(&rt)?.skip(1);
-    let Some(word) = words.next() else {
-        return Ok(());
-    };
-    let Some(file) = words.next() else {
-        return Ok(());
-    };
-    if word.as_str() == "run" {
-        return measure_all(&rt, rt.alloc(), file.as_str());
-    }
-    Ok(())
 }

@@ -1,0 +1,22 @@
+#!/usr/bin/env bash
+# Proves and builds the measuring program where that is needed, and prints what calls cost: bench/measure.sh WORD, where WORD is
+#   component  what a process, a roll-back and a delivery of one component cost
+#   reference  how many turns the one-thread simulator takes in a millisecond
+#   run        how many turns workers commit in a millisecond, beside the one-thread simulator
+#   sources    what reading a source of 65,536 bytes and composing 64 components cost
+#   drives     how many steps a world does in a millisecond, and what meetings and commits of an exchange cost
+set -eu
+top=$(cd "$(dirname "${BASH_SOURCE[0]}")/.." && pwd)
+case ${1:-} in
+component | reference | sources) program=benches words=("$1") ;;
+run) program=benches words=(run "$top/examples/lcr.ioa") ;;
+drives) program=drives words=(run) ;;
+*)
+    sed -n '2,7s/^# //p' "$0" >&2
+    exit 2
+    ;;
+esac
+cd "$top/crates/$program"
+# rt runs what it has built: `benches` writes nothing without a word, and `drives` drives random lists with that of its file `args`.
+rt run >&2
+exec "out/$program" "${words[@]}"
