@@ -89,7 +89,7 @@ fn is_same<R: Threads + Wait + Sync>(
 }
 
 /// Runs the sources in turn by 1 to 8 workers, 200 times in all, and counts how often the program writes just what it writes by one thread.
-pub fn run_all<R: Threads + Wait + Sync + Print>(
+pub fn run_all<R: Threads + Wait + Sync + Eprint>(
     rt: &R,
     alloc: Global,
     texts: &[String],

@@ -58,7 +58,7 @@ fn main(rt: HostRuntime) -> anyhow::Result<ExitCode> {
 }
 
 // Tries the cases of a file.
-fn try_all<R: Threads + Wait + Sync + Print>(
+fn try_all<R: Threads + Wait + Sync + Eprint>(
     rt: &R,
     alloc: Global,
     name: &str,
