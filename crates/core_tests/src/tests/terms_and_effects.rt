@@ -217,12 +217,7 @@ fn after(alloc: Global, effect: &Effect) -> Result<State, NoMemory> {
 }
 
 // Whether a variable has the number after an effect.
-fn gives_number(
-    alloc: Global,
-    effect: Effect,
-    cell: usize,
-    number: i64,
-) -> Result<bool, NoMemory> {
+fn gives_number(alloc: Global, effect: Effect, cell: usize, number: i64) -> Result<bool, NoMemory> {
     Ok(has_number(&after(alloc, &effect)?, cell, number))
 }
 
@@ -240,12 +235,7 @@ fn gives_list(
 fn assign_item(alloc: Global) -> Result<Effect, NoMemory> {
     let pair = Listed::Range { low: 0, count: 2 };
     let index = term(alloc, &[Int(9)])?;
-    Ok(Effect::AssignItem(
-        0,
-        index,
-        pair,
-        term(alloc, &[Cell(2)])?,
-    ))
+    Ok(Effect::AssignItem(0, index, pair, term(alloc, &[Cell(2)])?))
 }
 
 // One more, and then the first item.
