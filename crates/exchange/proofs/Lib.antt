@@ -1,6 +1,7 @@
 mod Leasing
 mod Delivering
 mod Passing
+mod Walking
 mod Committing
 mod Starting
 mod Chunking

@@ -8,3 +8,4 @@ pub mod Refusals
 pub mod Same
 pub mod SameLaws
 pub mod Core
+pub mod Walks

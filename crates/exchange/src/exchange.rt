@@ -18,6 +18,7 @@ ghost use Rattle.gvt.specs.Least.{IsLeast};
 ghost use Rattle.exchange.specs.declared.stub.Stub.{Stub as StubValue};
 ghost use Rattle.exchange.specs.Core.{Leads};
 ghost use Rattle.exchange.specs.Shared.{exchange_of, clear_until, has_mail, is_end, is_ended, passing, IsPassing, IsShared};
+ghost use Rattle.exchange.specs.Walks.{AreWalks};
 ghost use Rattle.std.specs.List.{list_all};
 
 use crate::stub::Stub;
@@ -28,7 +29,7 @@ use raw_events::EventList;
 use std::marker::Model;
 use std::sync::Arc;
 use task_seed::laws::machine_is_lawful;
-use task_seed::{Setup, Turns};
+use task_seed::{Setup, Turns, Walk};
 use terms::{Action, State};
 use virtual_time::exchanges::{exchange_is_core, exchange_is_sound};
 use virtual_time::reference::reference_is_counted;
@@ -38,6 +39,8 @@ use virtual_time::reference::reference_is_counted;
 pub struct Exchange<T: Turns> {
     pub(crate) setup: Arc<Setup<T>>,
     pub(crate) stubs: Vec<Stub>,
+    // For each component what its turns are read off as they are committed.
+    pub(crate) walks: Vec<Option<Walk>>,
     pub(crate) bound: Bound,
     // All after the cursor, in the order of keys.
     pub(crate) held: EventList<Turned>,
@@ -50,6 +53,7 @@ impl<T: Turns> Model for Exchange<T> {
     ghost use Rattle.task_seed.specs.declared.setup.Setup.{Setup};
     ghost use Rattle.task_seed.specs.Setups.{system};
     ghost use Rattle.exchange.specs.Shared.{Shared, IsShared};
+    ghost use Rattle.exchange.specs.Walks.{AreWalks};
     ghost use Rattle.std.specs.Coded.{codes};
     ghost use Rattle.terms.specs.Datum.{datum_code};
     ghost use Rattle.terms.specs.contracts.scalar.Shape as shape;
@@ -62,7 +66,7 @@ impl<T: Turns> Model for Exchange<T> {
 
     ghost view = { λ e. record { setup = arc_value e.setup; stubs = e.stubs.items; bound = e.bound; held = e.held.after; given = e.given } };
 
-    ghost invariant = { λ e. (e.held.before ≡ []) × IsShared (system T.turn_of (arc_value e.setup)) (record { setup = arc_value e.setup; stubs = e.stubs.items; bound = e.bound; held = e.held.after; given = e.given }) };
+    ghost invariant = { λ e. ((e.held.before ≡ []) × AreWalks T.stands (arc_value e.setup) e.walks.items) × IsShared (system T.turn_of (arc_value e.setup)) (record { setup = arc_value e.setup; stubs = e.stubs.items; bound = e.bound; held = e.held.after; given = e.given }) };
 }
 
 impl<T: Turns> Exchange<T> {
@@ -143,7 +147,7 @@ impl<T: Turns> Exchange<T> {
         reference_is_counted::<State, Action>();
         let bound = least_clear(&self.stubs);
         is_bounded(bound);
-        let count = pass_all(&self.setup, &mut self.stubs, bound);
+        let count = pass_all(&self.setup, &mut self.stubs, &mut self.walks, bound);
         self.bound = bound;
         count
     }
@@ -182,10 +186,18 @@ pub(crate) fn is_bounded(bound: Bound)
 }
 
 // Counts all turns below a bound.
-fn pass_all<T: Turns>(setup: &Setup<T>, stubs: &mut [Stub], bound: Bound) -> u64
+fn pass_all<T: Turns>(
+    setup: &Setup<T>,
+    stubs: &mut [Stub],
+    walks: &mut [Option<Walk>],
+    bound: Bound,
+) -> u64
+    requires walks { AreWalks T.stands setup.now walks.old }
     requires many { length stubs.old ≡ length (composition (plan_of setup.now)) }
     requires passing { (j : ℕ) (stub : StubValue) → slice_get stubs.old j ≡ Some stub → IsPassing (system T.turn_of setup.now) (rank_of_bound bound) j stub }
     requires end { rank_of_bound bound ≤ end_rank }
+    ensures walks { AreWalks T.stands setup.now walks.new }
+    ensures items { length walks.new ≡ length walks.old }
     ensures stubs { (j : ℕ) → slice_get stubs.new j ≡ option_map (passing (system T.turn_of setup.now) (rank_of_bound bound) j) (slice_get stubs.old j) }
     ensures many { length stubs.new ≡ length stubs.old }
     ensures passed { (j : ℕ) (stub : StubValue) → slice_get stubs.new j ≡ Some stub → IsPassing (system T.turn_of setup.now) (rank_of_bound bound) j stub }
@@ -196,7 +208,7 @@ fn pass_all<T: Turns>(setup: &Setup<T>, stubs: &mut [Stub], bound: Bound) -> u64
     let mut count = 0;
     for i in 0..setup.plan().components() {
         let stub = &mut stubs[usize::from(i)];
-        stub.pass_turns(setup, i, bound);
+        stub.pass_turns(setup, i, &mut walks[usize::from(i)], bound);
         count += stub.passed;
     }
     count

@@ -101,14 +101,17 @@ impl<T: Turns> Exchange<T> {
         machine_is_lawful(&setup);
         exchange_is_sound::<State, Action>();
         let mut stubs = Vec::new(alloc);
+        let mut walks = Vec::new(alloc);
         let mut leases = Vec::new(alloc);
         for i in 0..setup.plan().components() {
             stubs.push(start_stub(&setup, i))?;
+            walks.push(None)?;
             leases.push(start_lease(alloc, Arc::try_clone(&setup)?, i)?)?;
         }
         let exchange = Exchange {
             setup,
             stubs,
+            walks,
             bound: FIRST,
             held: EventList::new(),
             given: 0,

@@ -7,6 +7,7 @@ pub mod Falling
 pub mod Kept
 pub mod Refusals
 pub mod Coming
+pub mod Reading
 pub mod Dropped
 pub mod Runs
 pub mod Same

@@ -19,6 +19,7 @@ ghost use Rattle.rollback.specs.Kept.{IsSmall, turn_receivers};
 ghost use Rattle.rollback.specs.Post.{IsPosted};
 ghost use Rattle.rollback.specs.Stepped.{next_entry, HasNextKey, stepped, IsNextSent, IsNextTurn};
 
+use crate::ahead::Ahead;
 use crate::done::Done;
 use crate::growth::{outcome_at, post_all, receivers_of_turn, take_input, take_turn};
 use crate::keys::{fits, is_below, key_of};
@@ -52,6 +53,8 @@ pub struct Component<T: Turns> {
     pub(crate) owed: EventList<Signed>,
     // The key of the next turn, if there is one.
     pub(crate) coming: Option<Key>,
+    // What was read of the turns from the next one on.
+    pub(crate) ahead: Ahead,
 }
 
 impl<T: Turns> Model for Component<T> {
@@ -70,10 +73,11 @@ impl<T: Turns> Model for Component<T> {
 
     ghost use Rattle.task_seed.specs.Setups.{system};
     ghost use Rattle.rollback.specs.Kept.{record_of, IsKept};
+    ghost use Rattle.rollback.specs.Reading.{IsRead};
 
     ghost view = { λ c. record { setup = arc_value c.setup; number = c.number; base = c.base; history = record_of c.store c.first c.done c.pending c.owed } };
 
-    ghost invariant = { λ c. IsKept (system T.turn_of (arc_value c.setup)) c.number c.first c.store c.done c.pending c.owed c.coming };
+    ghost invariant = { λ c. IsKept (system T.turn_of (arc_value c.setup)) c.number c.first c.store c.done c.pending c.owed c.coming × IsRead T.turn_of T.stands (arc_value c.setup) c.number c.ahead };
 }
 
 impl<T: Turns> Component<T> {
@@ -99,6 +103,7 @@ impl<T: Turns> Component<T> {
             pending: EventList::new(),
             owed: EventList::new(),
             coming,
+            ahead: Ahead::new(),
         })
     }
 
@@ -232,7 +237,15 @@ impl<T: Turns> Component<T> {
         let Some(key) = self.coming else {
             unreachable!();
         };
-        let outcome = outcome_at(alloc, &self.setup, self.number, key.number, &self.store)?;
+        let turn = self.ahead.turn(&self.setup, self.number, key.number);
+        let outcome = outcome_at(
+            alloc,
+            &self.setup,
+            self.number,
+            key.number,
+            turn,
+            &self.store,
+        )?;
         Ok(Turned { key, outcome })
     }
 
@@ -263,7 +276,7 @@ impl<T: Turns> Component<T> {
             &mut self.done,
             out,
         )?;
-        self.coming = key_after(&self.setup, self.number, key);
+        self.coming = self.ahead.read_on(&self.setup, self.number, key);
         Ok(key)
     }
 
@@ -300,16 +313,4 @@ fn first_key<T: Turns>(setup: &Setup<T>, i: u16) -> Option<Key>
     let key = setup.first_key(i)?;
     fits(key);
     Some(key)
-}
-
-// The key of the turn after the one of this key, if there is one.
-fn key_after<T: Turns>(setup: &Setup<T>, i: u16, key: Key) -> Option<Key>
-    requires there { Some key ≡ key_of (system T.turn_of setup.now) i key.number }
-    requires small { key.number < 4294967296 }
-    ensures key { result ≡ key_of (system T.turn_of setup.now) i (key.number + 1) }
-    ensures small { IfSome result IsSmall }
-{
-    let next = setup.key_after(i, key)?;
-    fits(next);
-    Some(next)
 }

@@ -1,5 +1,5 @@
 //! The growths of a step, over the parts of a component.
-ghost use Rattle.std.specs.Prelude.{◌≡◌, ◌∷◌, ◌<◌, [], map, length, OnOk, OnErr, IfOk, IfSome, IsSome, IsTrue};
+ghost use Rattle.std.specs.Prelude.{◌≡◌, ◌∷◌, ◌<◌, [], map, length, OnOk, OnErr, IfOk, IfSome, IsTrue};
 ghost use Rattle.raw_events.specs.Around.{head, tail, is_nonempty};
 ghost use Rattle.event_keys.specs.declared.message.Sign.TheVariants.{Plus, Minus};
 ghost use Rattle.event_keys.specs.Entries.{action_of};
@@ -10,7 +10,7 @@ ghost use Rattle.virtual_time.specs.Records.{sent};
 ghost use Rattle.plans.specs.Plans.{composition};
 ghost use Rattle.plans.specs.Steps.{applied};
 ghost use Rattle.task_seed.specs.Setups.{system, plan_of};
-ghost use Rattle.task_seed.specs.Turning.{key_of};
+ghost use Rattle.task_seed.specs.Turning.{turn_in};
 ghost use Rattle.task_seed.specs.Machines.{turn_outcome};
 ghost use Rattle.rollback.specs.Held.{machine_of};
 ghost use Rattle.rollback.specs.Kept.{signed_by, signed_of, turn_receivers, IsGivenBack};
@@ -25,7 +25,7 @@ use plans::Plan;
 use plans::laws::receivers_law;
 use raw_events::{EventCell, EventList};
 use std::alloc::Global;
-use task_seed::{Setup, Turns};
+use task_seed::{Setup, Turn, Turns};
 use terms::{Action, NoMemory};
 use undo_records::Store;
 
@@ -74,18 +74,20 @@ pub(crate) fn advance_turn<T: Turns>(
     }
 }
 
-/// What comes of turn `n` in the current state.
+/// What comes of turn `n`, which is this one if it exists, in the current state.
 pub(crate) fn outcome_at<T: Turns>(
     alloc: Global,
     setup: &Setup<T>,
     i: u16,
     n: u64,
+    turn: Option<Turn>,
     store: &Store,
 ) -> Result<Outcome, NoMemory>
-    requires { IsSome (key_of (system T.turn_of setup.now) i n) }
+    requires { turn ≡ turn_in (system T.turn_of setup.now) i n }
     ensures { IfOk result (λ outcome. action_of outcome ≡ turn_outcome (system T.turn_of setup.now) i n store.now.current) }
 {
-    let Some(turn) = setup.turn_at(i, n) else {
+    let _ = n;
+    let Some(turn) = turn else {
         return Ok(Outcome::Idle);
     };
     match setup

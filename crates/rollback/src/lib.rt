@@ -1,6 +1,7 @@
 //! One component of a simulation.
 #![tactic(auto)]
 
+mod ahead;
 pub mod component;
 pub mod copied;
 mod deliver;

@@ -2,4 +2,5 @@ pub mod Drawing
 pub mod Judged
 pub mod KnownWords
 pub mod Lines
+pub mod Walking
 pub mod Words

@@ -11,5 +11,6 @@ pub mod Steps
 pub mod Table
 pub mod Ticks
 pub mod Turning
+pub mod Walks
 pub mod Machines
 pub mod MachineLaws

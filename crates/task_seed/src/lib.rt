@@ -12,4 +12,4 @@ pub use seed_turns::{SeedTurns, SeedTurnsError};
 pub use setup::{Setup, SetupError};
 pub use table::{ReadTableError, Row, read_table};
 pub use table_turns::{TableTurns, TableTurnsError};
-pub use turns::{Turn, Turns};
+pub use turns::{KeyedTurn, Turn, Turns, Walk};

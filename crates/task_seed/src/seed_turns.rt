@@ -1,7 +1,7 @@
 //! The turns that a generator gives.
 ghost use Rattle.std.specs.Prelude.{◌≤◌};
 
-use crate::turns::{Turn, Turns};
+use crate::turns::{Turn, Turns, Walk};
 use rand_core::Rng;
 use rand_pcg::Lcg64Xsh32;
 use std::marker::{Send, Sync};
@@ -60,7 +60,10 @@ pub struct SeedTurns {
 
 impl SeedTurns {
     ghost use Rattle.std.specs.Prelude.{◌≡◌, ◌<◌, ℕ, ◌↔◌, ◌⊎◌, IfOk, IsErrOf};
+    ghost use Rattle.std.specs.Prelude.{◌+◌, ◌*◌};
+    ghost use Rattle.rand_pcg.specs.Lcg.{Lcg};
     ghost use Rattle.task_seed.specs.Drawn.{drawn_turn, seed_turn};
+    ghost use Rattle.task_seed.specs.Walks.{IsAfter, turn_after};
 
     /// The turns of a seed, whose gaps are 1 to `gap` ticks, where `gap` is 1 to 65,535.
     pub fn new(seed: u64, stream: u64, gap: u32) -> Result<SeedTurns, SeedTurnsError>
@@ -74,6 +77,17 @@ impl SeedTurns {
         } else {
             Err(SeedTurnsError::GapOutOfRange)
         }
+    }
+
+    // Draws a turn.
+    fn draw(&self, words: &mut Lcg64Xsh32) -> Turn
+        ensures turn { (start : Lcg) (n : ℕ) → IsAfter start (3 * n) words.old → result ≡ turn_after start self.now.gap n }
+        ensures words { (start : Lcg) (n : ℕ) → IsAfter start (3 * n) words.old → IsAfter start (3 * (n + 1)) words.new }
+    {
+        let gap = 1 + words.next_u32() % self.gap;
+        let task = words.next_u32();
+        let choice = words.next_u32();
+        Turn { gap, task, choice }
     }
 }
 
@@ -90,15 +104,33 @@ impl Turns for SeedTurns {
 
     ghost ended = { seed_ended };
 
-    fn turn(&self, i: u16, n: u64) -> Option<Turn> {
-        if n >= TURNS_OF_A_COMPONENT {
+    ghost use Rattle.task_seed.specs.Walks.{stands_before, stands_at_number};
+
+    ghost stands = { stands_before };
+
+    ghost numbered = { stands_at_number };
+
+    fn walk(&self, i: u16, n: u64) -> Walk {
+        let mut words = Lcg64Xsh32::new(self.seed, self.stream.wrapping_add(u64::from(i)));
+        words.advance(WORDS_OF_A_TURN.wrapping_mul(n));
+        Walk {
+            words: Some(words),
+            number: n,
+        }
+    }
+
+    fn step(&self, _i: u16, walk: &mut Walk) -> Option<Turn> {
+        if walk.number >= TURNS_OF_A_COMPONENT {
             return None;
         }
-        let mut words = Lcg64Xsh32::new(self.seed, self.stream.wrapping_add(u64::from(i)));
-        words.advance(WORDS_OF_A_TURN * n);
-        let gap = 1 + words.next_u32() % self.gap;
-        let task = words.next_u32();
-        let choice = words.next_u32();
-        Some(Turn { gap, task, choice })
+        let words = walk.words.as_mut()?;
+        let turn = self.draw(words);
+        walk.number += 1;
+        Some(turn)
+    }
+
+    fn turn(&self, i: u16, n: u64) -> Option<Turn> {
+        let mut walk = self.walk(i, n);
+        self.step(i, &mut walk)
     }
 }

@@ -1,7 +1,7 @@
 //! The setup of a simulation, and the keys of its turns.
 ghost use Rattle.std.specs.Prelude.{◌≡◌, ℕ, ◌≤◌, ◌<◌, ◌+◌, ◌↔◌, Option, None, Some, IfSome, IfOk, IsErrOf, IsSome};
 
-use crate::turns::{Turn, Turns};
+use crate::turns::{KeyedTurn, Timed, Turn, Turns, Walk};
 use event_keys::Key;
 use plans::Plan;
 use terms::Refusal;
@@ -52,9 +52,13 @@ impl Refusal for SetupError {
 
 impl<T: Turns> Setup<T> {
     ghost use Rattle.std.specs.Prelude.{◌≡◌, ℕ, ◌≤◌, ◌<◌, ◌+◌, ◌↔◌, Option, None, Some, IfSome, IfOk, IsErrOf, IsSome, option_map};
-    ghost use Rattle.task_seed.specs.Turning.{key_at, key_of, turn_in, Reaches};
-    ghost use Rattle.task_seed.specs.Steps.{tick_after};
+    ghost use Rattle.plans.specs.Outcomes.{task_count};
+    ghost use Rattle.plans.specs.Plans.{composition};
+    ghost use Rattle.task_seed.specs.Turning.{key_at, key_of, turn_in, with_task_below, Reaches};
+    ghost use Rattle.task_seed.specs.Steps.{tick_after, tick_with};
     ghost use Rattle.task_seed.specs.Setups.{system, plan_of, source_of, horizon_of};
+    ghost use Rattle.task_seed.specs.declared.turns.Timed.{Timed};
+    ghost use Rattle.task_seed.specs.declared.turns.KeyedTurn.{KeyedTurn};
 
     /// A setup of the plan, its turns and its horizon, the last tick.
     pub fn new(plan: Plan, turns: T, horizon: u64) -> Result<Setup<T>, SetupError>
@@ -86,13 +90,36 @@ impl<T: Turns> Setup<T> {
         ensures value { result ≡ tick_after (system T.turn_of self.now) i n tick }
         ensures later { IfSome result (λ next. tick < next) }
     {
-        let turn = self.turns.turn(i, n)?;
+        self.tick_of(self.turns.turn(i, n)?, tick)
+    }
+
+    // The tick of a turn that comes after `tick`, up to the horizon.
+    fn tick_of(&self, turn: Turn, tick: u64) -> Option<u64>
+        requires in_time { tick ≤ horizon_of self.now }
+        requires gap { 1 ≤ turn.gap }
+        ensures value { result ≡ tick_with (horizon_of self.now) tick (Some turn) }
+        ensures later { IfSome result (λ next. tick < next) }
+    {
         let next = tick + u64::from(turn.gap);
         if next <= self.horizon {
             Some(next)
         } else {
             None
         }
+    }
+
+    // The turn before which a walk stands, and its tick where it comes after `tick`.
+    fn walk_after(&self, i: u16, n: u64, tick: u64, walk: &mut Walk) -> Option<Timed>
+        requires in_time { tick ≤ horizon_of self.now }
+        requires stands { T.stands (source_of self.now) walk.old i n }
+        ensures value { option_map (λ (timed : Timed). timed.tick) result ≡ tick_after (system T.turn_of self.now) i n tick }
+        ensures turn { IfSome result (λ timed. (system T.turn_of self.now).turn i n ≡ Some timed.turn) }
+        ensures stands { IfSome result (λ _. T.stands (source_of self.now) walk.new i (n + 1)) }
+        ensures later { IfSome result (λ timed. tick < timed.tick) }
+    {
+        let turn = self.turns.step(i, walk)?;
+        let tick = self.tick_of(turn, tick)?;
+        Some(Timed { tick, turn })
     }
 
     /// The tick of turn `n` of component `i`, if that turn exists, where `tick` is that of the turn
@@ -105,6 +132,32 @@ impl<T: Turns> Setup<T> {
         ensures bounded { IfSome result (λ _. n < 4294967296) }
     {
         self.tick_after(i, n, tick)
+    }
+
+    // Turn `n` of component `i` with its tick, if that turn exists, read off a walk that stands before it, where `tick` is that of the turn
+    // before (0 for the first). The walk then stands before the next turn. Nothing is drawn but that turn.
+    fn next_turn(&self, i: u16, n: u64, tick: u64, walk: &mut Walk) -> Option<Timed>
+        requires reaches { Reaches (system T.turn_of self.now) i n tick }
+        requires stands { T.stands (source_of self.now) walk.old i n }
+        ensures key { option_map (λ (timed : Timed). key_at i n timed.tick) result ≡ key_of (system T.turn_of self.now) i n }
+        ensures turn { IfSome result (λ timed. turn_in (system T.turn_of self.now) i n ≡ Some timed.turn) }
+        ensures reached { IfSome result (λ timed. Reaches (system T.turn_of self.now) i (n + 1) timed.tick) }
+        ensures stands { IfSome result (λ _. T.stands (source_of self.now) walk.new i (n + 1)) }
+        ensures later { IfSome result (λ timed. tick < timed.tick) }
+        ensures bounded { IfSome result (λ _. n < 4294967296) }
+    {
+        let timed = self.walk_after(i, n, tick, walk)?;
+        let turn = self.in_tasks(i, timed.turn);
+        Some(Timed { turn, ..timed })
+    }
+
+    // A turn, its task below the number of the component's tasks, 0 where it has none.
+    fn in_tasks(&self, i: u16, turn: Turn) -> Turn
+        ensures { result ≡ with_task_below (task_count (composition (plan_of self.now)) i) turn }
+    {
+        let tasks = self.plan.tasks(i);
+        let task = if tasks == 0 { 0 } else { turn.task % tasks };
+        Turn { task, ..turn }
     }
 
     /// The key of turn `n` of component `i`, if that turn exists. The work grows with `n`.
@@ -149,6 +202,43 @@ impl<T: Turns> Setup<T> {
         })
     }
 
+    /// The turn of component `i` after the one of this key, with its own key, if there is one. It is read off the walk, if that stands there; else
+    /// a new one jumps there along the generator's words. The walk that is left stands before the turn after that, if there is one.
+    pub fn turn_after(&self, i: u16, key: Key, walk: &mut Option<Walk>) -> Option<KeyedTurn>
+        requires there { Some key ≡ key_of (system T.turn_of self.now) i key.number }
+        requires small { key.number < 4294967296 }
+        requires stands { IfSome walk.old (λ walk. T.stands (source_of self.now) walk i walk.number) }
+        ensures key { option_map (λ (next : KeyedTurn). next.key) result ≡ key_of (system T.turn_of self.now) i (key.number + 1) }
+        ensures turn { IfSome result (λ next. turn_in (system T.turn_of self.now) i next.key.number ≡ Some next.turn) }
+        ensures bounded { IfSome result (λ next. next.key.number < 4294967296) }
+        ensures stands { IfSome walk.new (λ walk. T.stands (source_of self.now) walk i walk.number) }
+    {
+        let number = key.number + 1;
+        let mut own = self.walk_from(i, number, walk.take());
+        let timed = self.next_turn(i, number, key.tick, &mut own)?;
+        *walk = Some(own);
+        let key = Key {
+            tick: timed.tick,
+            component: i,
+            number,
+        };
+        Some(KeyedTurn {
+            key,
+            turn: timed.turn,
+        })
+    }
+
+    // A walk that stands before turn `n`: the given one, if it does.
+    fn walk_from(&self, i: u16, n: u64, walk: Option<Walk>) -> Walk
+        requires { IfSome walk (λ walk. T.stands (source_of self.now) walk i walk.number) }
+        ensures { T.stands (source_of self.now) result i n }
+    {
+        match walk {
+            Some(walk) if walk.number == n => walk,
+            _ => self.turns.walk(i, n),
+        }
+    }
+
     /// Turn `n` of component `i`, if it exists, its task below the number of the component's tasks (0
     /// where it has none). The work grows with `n`.
     pub fn turn(&self, i: u16, n: u64) -> Option<Turn>
@@ -166,8 +256,6 @@ impl<T: Turns> Setup<T> {
         ensures { result ≡ turn_in (system T.turn_of self.now) i n }
     {
         let turn = self.turns.turn(i, n)?;
-        let tasks = self.plan.tasks(i);
-        let task = if tasks == 0 { 0 } else { turn.task % tasks };
-        Some(Turn { task, ..turn })
+        Some(self.in_tasks(i, turn))
     }
 }

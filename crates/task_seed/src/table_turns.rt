@@ -4,7 +4,7 @@ ghost use Rattle.task_seed.specs.Gaps.{all_in_range};
 ghost use Rattle.task_seed.specs.declared.table_turns.TableTurnsError.TheVariants.{NoMemory as OutOfMemory};
 
 use crate::table::Row;
-use crate::turns::{Turn, Turns};
+use crate::turns::{Turn, Turns, Walk};
 use plans::Plan;
 use std::alloc::{AllocError, AllocFailed, Global};
 use std::marker::{Send, Sync};
@@ -187,6 +187,25 @@ impl Turns for TableTurns {
     ghost alike = { table_alike };
 
     ghost ended = { table_ended };
+
+    ghost use Rattle.task_seed.specs.Walks.{is_at_row, row_is_number};
+
+    ghost stands = { is_at_row };
+
+    ghost numbered = { row_is_number };
+
+    fn walk(&self, _i: u16, n: u64) -> Walk {
+        Walk {
+            words: None,
+            number: n,
+        }
+    }
+
+    fn step(&self, i: u16, walk: &mut Walk) -> Option<Turn> {
+        let turn = self.turn(i, walk.number)?;
+        walk.number = walk.number.saturating_add(1);
+        Some(turn)
+    }
 
     fn turn(&self, i: u16, n: u64) -> Option<Turn> {
         let turns = self.turns.get(usize::from(i))?;

@@ -86,7 +86,7 @@ invariant_of-self g c =
     (c.meeting_law.ensures.met m) (c.exchange_is_sound.ensures.meet m) (c.meeting_law.ensures.falls m) (c.meeting_law.ensures.apart m) c.merging_law.ensures.falls c.merging_law.ensures.outcomes
     refl lowest dropped c.merge.ensures.all arrived in
     let items : (with_items f.stubs on.new.stubs).items ≡ on.new.stubs = with_items_is f.stubs on.new.stubs (on.ensures.passed.many ∙ c.deref_mut.ensures.len) in
-    (c.merge.ensures.front, subst (λ stubs. IsShared s (record e { stubs = stubs; held = c.merge.new.held.after })) (sym items) all.shared)
+    ((c.merge.ensures.front, c.self.invariant.0.1), subst (λ stubs. IsShared s (record e { stubs = stubs; held = c.merge.new.held.after })) (sym items) all.shared)
 
 pub invariant_of-lease : goal.invariant_of-lease
 invariant_of-lease g c =

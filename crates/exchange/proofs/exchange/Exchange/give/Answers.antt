@@ -68,7 +68,7 @@ invariant_of-self g c =
     let end = c.is_bounded.ensures in
     let given = c.exchange_is_sound.ensures.chunk (machine s) (length s.composition) (exchange_of (machine s) e) (exchange_of (machine s) (after s e is bound least end)) b (turns_of (first_below b f.held.after)) law counted is.sound (chunk s e is bound least end) in
     let made = kept s e is bound least end given.0 in (
-      ap (λ l. l.before) c.take_below-taken.ensures.rest,
+      (ap (λ l. l.before) c.take_below-taken.ensures.rest, c.self.invariant.0.1),
       subst (λ l. IsShared s (record e { held = l; given = f.given + c.take_below-taken.result.count })) (sym (ap (λ l. l.after) c.take_below-taken.ensures.rest))
           (subst (λ n. IsShared s (record e { held = first_from b f.held.after; given = f.given + n })) (sym c.take_below-taken.ensures.count) made),
     )

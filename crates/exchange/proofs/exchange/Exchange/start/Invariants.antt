@@ -1,4 +1,5 @@
-use Rattle.std.proofs.Common.{◌≡◌, map}
+use Rattle.std.proofs.Common.{◌≡◌, None, map}
+use Rattle.std.specs.Prelude.{replicate}
 use Rattle.std.specs.Arc.{arc_value}
 use Rattle.std.specs.List.{range_with_len}
 use Rattle.task_seed.specs.Setups.{system}
@@ -10,5 +11,6 @@ invariant-loop-i g l =
     let t = g.T.Turns.turn_of in
     record {
       stubs : l.stubs.items ≡ map (start_stub (system t (arc_value l.setup))) (range_with_len 0 l.i);
+      walks : l.walks.items ≡ replicate l.i None;
       leases : l.leases.items ≡ map (start_holding t (arc_value l.setup)) (range_with_len 0 l.i);
     }

@@ -9,5 +9,5 @@ pub returns : goal.returns
 returns g c =
     let f = c.self.inside in
     c.marks.ensures
-    ∙ depth_is (system g.T.Turns.turn_of (arc_value f.setup)) f.number f.store f.done.before c.self.invariant.replayed
+    ∙ depth_is (system g.T.Turns.turn_of (arc_value f.setup)) f.number f.store f.done.before c.self.invariant.0.replayed
     ∙ ap (λ (h : Held _). length h.history.done) c.self.view_is

@@ -12,6 +12,7 @@ use Rattle.rollback.specs.declared.done.Done.TheVariants.{Turn}
 use Rattle.rollback.specs.Held.{Held, machine_of, processed}
 use Rattle.rollback.specs.Kept.{record_of, signed_of}
 use Rattle.rollback.specs.Post.{IsPosted}
+use Rattle.rollback.specs.Reading.{IsRead}
 use Rattle.rollback.specs.Stepped.{IsComingTurn, IsNextTurn, IsNextSent, stepped}
 use Rattle.rollback.proofs.Keeping.{kept_turn}
 use Rattle.rollback.proofs.Stepping.{not_before, own_is, turn_record, turn_sent}
@@ -26,7 +27,7 @@ returns-clause-record g c =
     let comes : IsComingTurn s f.number old turned = subst (λ (h : Held _). IsNextTurn g.T.Turns.turn_of h turned) (sym c.self.view_is) c.requires.next in
     let is : record_of c.take_turn.new.store f.first c.take_turn.new.done f.pending f.owed ≡ processed (next_of (machine s) f.number old) old
     = rw (c.in_ok-take_turn.ensures.state, c.in_ok-take_turn.ensures.done)
-    (turn_record s f.number f.first f.store f.done f.pending f.owed f.coming c.self.invariant turned (record { before = signed_of s Minus f.number turned.key turned.outcome; after = [] }) comes) in
+    (turn_record s f.number f.first f.store f.done f.pending f.owed f.coming c.self.invariant.0 turned (record { before = signed_of s Minus f.number turned.key turned.outcome; after = [] }) comes) in
     subst (λ (h : Held _). ◌≡◌ {A = Held _} (record { setup = arc_value f.setup; number = f.number; base = f.base; history = record_of c.take_turn.new.store f.first c.take_turn.new.done f.pending f.owed }) (stepped g.T.Turns.turn_of h)) c.self.view_is
     (ap (λ r. record { setup = arc_value f.setup; number = f.number; base = f.base; history = r }) is)
 
@@ -48,13 +49,15 @@ invariant_of-self-2 g c =
     let turned = c.args.turned in
     let comes : IsComingTurn s f.number (record_of f.store f.first f.done f.pending f.owed) turned
     = subst (λ (h : Held _). IsNextTurn g.T.Turns.turn_of h turned) (sym c.self.view_is) c.requires.next in
-    let next : c.key_after-self-inside.result ≡ key_of s f.number (turned.key.number + 1)
-    = subst (λ u. c.key_after-self-inside.result ≡ key_of (system g.T.Turns.turn_of u) f.number (turned.key.number + 1)) c.deref-2.ensures c.key_after-self-inside.ensures.key in
+    let next : c.read_on-self-inside.result ≡ key_of s f.number (turned.key.number + 1)
+    = subst (λ u. c.read_on-self-inside.result ≡ key_of (system g.T.Turns.turn_of u) f.number (turned.key.number + 1)) c.deref-2.ensures c.read_on-self-inside.ensures.key in
     let state : c.take_turn.new.store ≡ record { current = by_own (machine s) f.number (action_of turned.outcome) f.store.current; below = f.store.current ∷ f.store.below }
     = subst (λ u. c.take_turn.new.store ≡ record { current = by_own (machine_of g.T.Turns.turn_of u) f.number (action_of turned.outcome) f.store.current; below = f.store.current ∷ f.store.below }) c.deref.ensures c.in_ok-take_turn.ensures.state in
     let done : c.take_turn.new.done ≡ record f.done { before = Turn turned (record { before = signed_of s Minus f.number turned.key turned.outcome; after = [] }) ∷ f.done.before }
     = subst (λ u. c.take_turn.new.done ≡ record f.done { before = Turn turned (record { before = signed_of (system g.T.Turns.turn_of u) Minus f.number turned.key turned.outcome; after = [] }) ∷ f.done.before }) c.deref.ensures c.in_ok-take_turn.ensures.done in
-    rw (state, done)
-    (kept_turn s f.number f.first f.store f.done f.pending f.owed f.coming c.key_after-self-inside.result turned c.self.invariant
-    (own_is s f.number f.first f.store f.done f.pending f.owed f.coming c.self.invariant turned comes) next c.key_after-self-inside.ensures.small
-    (not_before s f.number f.first f.store f.done f.pending f.owed f.coming c.self.invariant turned comes))
+    let read : IsRead g.T.Turns.turn_of g.T.Turns.stands (arc_value f.setup) f.number c.read_on-self-inside.new.self
+    = subst (λ u. IsRead g.T.Turns.turn_of g.T.Turns.stands u f.number c.read_on-self-inside.new.self) c.deref-2.ensures c.read_on-self-inside.ensures.read in
+    (rw (state, done)
+    (kept_turn s f.number f.first f.store f.done f.pending f.owed f.coming c.read_on-self-inside.result turned c.self.invariant.0
+    (own_is s f.number f.first f.store f.done f.pending f.owed f.coming c.self.invariant.0 turned comes) next c.read_on-self-inside.ensures.small
+    (not_before s f.number f.first f.store f.done f.pending f.owed f.coming c.self.invariant.0 turned comes)), read)

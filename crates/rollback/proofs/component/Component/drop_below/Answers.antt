@@ -16,16 +16,16 @@ use Rattle.rollback.proofs.Oldest.{onto_reverse}
 use Rattle.rollback.proofs.component.Component.drop_below.Goals as goal
 
 pub take_below-dropped-requires-clause-end : goal.take_below-dropped-requires-clause-end
-take_below-dropped-requires-clause-end g c = c.self.invariant.ahead
+take_below-dropped-requires-clause-end g c = c.self.invariant.0.ahead
 
 pub take_below-dropped-requires-clause-falling : goal.take_below-dropped-requires-clause-falling
-take_below-dropped-requires-clause-falling g c = c.self.invariant.falling.done
+take_below-dropped-requires-clause-falling g c = c.self.invariant.0.falling.done
 
 pub take_below-dropped-requires-clause-few : goal.take_below-dropped-requires-clause-few
 take_below-dropped-requires-clause-few g c =
     let f = c.self.inside in
     let s = system g.T.Turns.turn_of (arc_value f.setup) in
-    let own = depth_is s f.number f.store f.done.before c.self.invariant.replayed in
+    let own = depth_is s f.number f.store f.done.before c.self.invariant.0.replayed in
     let all = ap (λ (h : Held _). length h.history.done) c.self.view_is in
     let count = length_entries f.done.before in
     omega (arith, own, all, count, c.depth-depth.ensures, c.depth-depth.type_inv)
@@ -35,7 +35,7 @@ forget_first-requires g c =
     let f = c.self.inside in
     let s = system g.T.Turns.turn_of (arc_value f.setup) in
     let b = rank_of_bound c.args.bound in
-    subst (λ n. n < length f.store.below + 1) (sym c.take_below-dropped.ensures.count) (few_dropped s f.number f.first b f.store f.done f.pending f.owed f.coming c.self.invariant)
+    subst (λ n. n < length f.store.below + 1) (sym c.take_below-dropped.ensures.count) (few_dropped s f.number f.first b f.store f.done f.pending f.owed f.coming c.self.invariant.0)
 
 pub number_after-self-inside-requires : goal.number_after-self-inside-requires
 number_after-self-inside-requires g c =
@@ -43,7 +43,7 @@ number_after-self-inside-requires g c =
     let s = system g.T.Turns.turn_of (arc_value f.setup) in
     let b = rank_of_bound c.args.bound in
     let ds = f.done.before in
-    subst (λ o. IfSome o (λ key. key.number < 4294967296)) (sym c.take_below-dropped.ensures.newest) (newest_small s f.number f.first (dones_below b ds) (ready_below s f.number f.first b ds c.self.invariant.ready))
+    subst (λ o. IfSome o (λ key. key.number < 4294967296)) (sym c.take_below-dropped.ensures.newest) (newest_small s f.number f.first (dones_below b ds) (ready_below s f.number f.first b ds c.self.invariant.0.ready))
 
 pub invariant_of-self : goal.invariant_of-self
 invariant_of-self g c =
@@ -53,9 +53,9 @@ invariant_of-self g c =
     let ds = f.done.before in
     let states : c.forget_first.new.self ≡ without_first (length (dones_below b ds)) f.store = c.forget_first.ensures ∙ ap (λ k. without_first k f.store) c.take_below-dropped.ensures.count in
     let first : c.number_after-self-inside.result ≡ number f.first (entries_of (dones_below b ds))
-    = c.number_after-self-inside.ensures ∙ ap (λ k. number_after k f.first) c.take_below-dropped.ensures.newest ∙ newest_number s f.number f.first (dones_below b ds) (ready_below s f.number f.first b ds c.self.invariant.ready) in
+    = c.number_after-self-inside.ensures ∙ ap (λ k. number_after k f.first) c.take_below-dropped.ensures.newest ∙ newest_number s f.number f.first (dones_below b ds) (ready_below s f.number f.first b ds c.self.invariant.0.ready) in
     let left : c.take_below-dropped.new.done ≡ record { before = dones_from b ds; after = [] } = c.take_below-dropped.ensures.rest in
-    rw (states, first, left) (kept_dropped s f.number f.first b f.store f.done f.pending f.owed f.coming c.self.invariant)
+    (rw (states, first, left) (kept_dropped s f.number f.first b f.store f.done f.pending f.owed f.coming c.self.invariant.0), c.self.invariant.1)
 
 pub returns-clause-record : goal.returns-clause-record
 returns-clause-record g c =
@@ -65,10 +65,10 @@ returns-clause-record g c =
     let ds = f.done.before in
     let states : c.forget_first.new.self ≡ without_first (length (dones_below b ds)) f.store = c.forget_first.ensures ∙ ap (λ k. without_first k f.store) c.take_below-dropped.ensures.count in
     let first : c.number_after-self-inside.result ≡ number f.first (entries_of (dones_below b ds))
-    = c.number_after-self-inside.ensures ∙ ap (λ k. number_after k f.first) c.take_below-dropped.ensures.newest ∙ newest_number s f.number f.first (dones_below b ds) (ready_below s f.number f.first b ds c.self.invariant.ready) in
+    = c.number_after-self-inside.ensures ∙ ap (λ k. number_after k f.first) c.take_below-dropped.ensures.newest ∙ newest_number s f.number f.first (dones_below b ds) (ready_below s f.number f.first b ds c.self.invariant.0.ready) in
     let left : c.take_below-dropped.new.done ≡ record { before = dones_from b ds; after = [] } = c.take_below-dropped.ensures.rest in
     let cut : record_of c.forget_first.new.self c.number_after-self-inside.result c.take_below-dropped.new.done f.pending f.owed ≡ cut_of (machine s) f.number b (record_of f.store f.first f.done f.pending f.owed)
-    = rw (states, first, left) (dropped_record s f.number f.first b f.store f.done f.pending f.owed f.coming c.self.invariant) in
+    = rw (states, first, left) (dropped_record s f.number f.first b f.store f.done f.pending f.owed f.coming c.self.invariant.0) in
     subst (λ (h : Held _). ◌≡◌ {A = Held _} (record { setup = arc_value f.setup; number = f.number; base = c.args.bound; history = record_of c.forget_first.new.self c.number_after-self-inside.result c.take_below-dropped.new.done f.pending f.owed }) (record h { base = c.args.bound; history = cut_of (machine_of g.T.Turns.turn_of h.setup) h.number b h.history })) c.self.view_is
     (ap (λ r. record { setup = arc_value f.setup; number = f.number; base = c.args.bound; history = r }) cut)
 

@@ -16,4 +16,4 @@ returns-clause-answer g c =
     let x = c.args.antimessage.now in
     let goes_there : goes Minus f.number x ≡ true = subst (λ (h : Held _). goes Minus h.number x ≡ true) (sym c.self.view_is) c.requires in
     subst (λ (h : Held _). c.has_input.result ≡ nat_lt 0 (inputs (machine_of g.T.Turns.turn_of h.setup) h.history.done (rank x.message.key) x.message.action)) c.self.view_is
-    (c.has_input.ensures.answer ∙ any_input_is (system g.T.Turns.turn_of (arc_value f.setup)) f.number f.first x f.done.before c.self.invariant.ready c.is_timed.ensures.fits goes_there)
+    (c.has_input.ensures.answer ∙ any_input_is (system g.T.Turns.turn_of (arc_value f.setup)) f.number f.first x f.done.before c.self.invariant.0.ready c.is_timed.ensures.fits goes_there)

@@ -16,13 +16,13 @@ returns-then-is_in_step g c =
     let s = system g.T.Turns.turn_of (arc_value f.setup) in
     let t : Sendings = record { standing = c.args.standing; out = c.args.out; done = record { ref_ptr = c.args.self.ref_ptr; now = f.done } } in
     let all : c.is_in_step.result ≡ is_all_sent t f.number
-    = c.if-is_in_step.true ∙ sym (all_sent_by s f.number f.first c.receivers_law.ensures.once t c.self.invariant.ready c.self.invariant.ahead (c.is_in_step.ensures c.if-is_in_step.true)) in
+    = c.if-is_in_step.true ∙ sym (all_sent_by s f.number f.first c.receivers_law.ensures.once t c.self.invariant.0.ready c.self.invariant.0.ahead (c.is_in_step.ensures c.if-is_in_step.true)) in
     subst (λ (h : Held _). (c.is_in_step.result ≡ true) ↔ IsStanding (machine_of g.T.Turns.turn_of h.setup) h.number h.history c.args.standing.now c.args.out.now) c.self.view_is
-    (standing_is s f.number c.is_short.ensures c.receivers_law.ensures.all f.first f.store f.coming f.pending f.owed t c.is_in_step.result all c.self.invariant c.order_law.ensures c.order_law-2.ensures)
+    (standing_is s f.number c.is_short.ensures c.receivers_law.ensures.all f.first f.store f.coming f.pending f.owed t c.is_in_step.result all c.self.invariant.0 c.order_law.ensures c.order_law-2.ensures)
 
 pub returns-else-is_in_step : goal.returns-else-is_in_step
 returns-else-is_in_step g c =
     let f = c.self.inside in
     let t : Sendings = record { standing = c.args.standing; out = c.args.out; done = record { ref_ptr = c.args.self.ref_ptr; now = f.done } } in
     subst (λ (h : Held _). (c.is_all_level.result ≡ true) ↔ IsStanding (machine_of g.T.Turns.turn_of h.setup) h.number h.history c.args.standing.now c.args.out.now) c.self.view_is
-    (standing_is (system g.T.Turns.turn_of (arc_value f.setup)) f.number c.is_short.ensures c.receivers_law.ensures.all f.first f.store f.coming f.pending f.owed t c.is_all_level.result c.is_all_level.ensures c.self.invariant c.order_law.ensures c.order_law-2.ensures)
+    (standing_is (system g.T.Turns.turn_of (arc_value f.setup)) f.number c.is_short.ensures c.receivers_law.ensures.all f.first f.store f.coming f.pending f.owed t c.is_all_level.result c.is_all_level.ensures c.self.invariant.0 c.order_law.ensures c.order_law-2.ensures)

@@ -13,4 +13,4 @@ returns g c =
     let f = c.self.inside in
     let t : Takings = record { taken = c.args.taken; tray = c.args.tray; done = record { ref_ptr = c.args.self.ref_ptr; now = f.done }; pending = record { ref_ptr = c.args.self.ref_ptr; now = f.pending }; owed = record { ref_ptr = c.args.self.ref_ptr; now = f.owed } } in
     subst (λ (h : Held _). (c.is_matched.result ≡ true) ↔ IsTaken (machine_of g.T.Turns.turn_of h.setup) h.number h.history c.args.taken.now c.args.tray.now) c.self.view_is
-    (taken_is (system g.T.Turns.turn_of (arc_value f.setup)) f.number f.first f.store f.coming t c.is_matched.result c.is_matched.ensures c.self.invariant c.order_law.ensures c.order_law-2.ensures)
+    (taken_is (system g.T.Turns.turn_of (arc_value f.setup)) f.number f.first f.store f.coming t c.is_matched.result c.is_matched.ensures c.self.invariant.0 c.order_law.ensures c.order_law-2.ensures)

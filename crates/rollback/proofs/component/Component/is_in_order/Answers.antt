@@ -11,10 +11,10 @@ pub returns-clause-pending : goal.returns-clause-pending
 returns-clause-pending g c =
     let f = c.self.inside in
     subst (λ (h : Held _). IsSorted (machine_of g.T.Turns.turn_of h.setup) h.history.pending) c.self.view_is
-    (items_sorted (system g.T.Turns.turn_of (arc_value f.setup)) Plus f.number f.pending.after c.self.invariant.waiting.order c.self.invariant.waiting.go)
+    (items_sorted (system g.T.Turns.turn_of (arc_value f.setup)) Plus f.number f.pending.after c.self.invariant.0.waiting.order c.self.invariant.0.waiting.go)
 
 pub returns-clause-owed : goal.returns-clause-owed
 returns-clause-owed g c =
     let f = c.self.inside in
     subst (λ (h : Held _). IsSorted (machine_of g.T.Turns.turn_of h.setup) h.history.owed) c.self.view_is
-    (items_sorted (system g.T.Turns.turn_of (arc_value f.setup)) Minus f.number f.owed.after c.self.invariant.owing.order c.self.invariant.owing.go)
+    (items_sorted (system g.T.Turns.turn_of (arc_value f.setup)) Minus f.number f.owed.after c.self.invariant.0.owing.order c.self.invariant.0.owing.go)

@@ -18,6 +18,6 @@ returns-in-None-coming g c =
     let no : is_receiving (next_of (machine s) f.number r) ≡ false
     = subst (λ (h : Held _). is_receiving (next_of (machine_of g.T.Turns.turn_of h.setup) h.number h.history) ≡ false) (sym c.self.view_is) (sym c.is_input_next.ensures ∙ c.if-is_input_next.false) in
     let is : next_of (machine s) f.number r ≡ None
-    = turning_is s f.number f.first f.store f.done f.pending f.owed f.coming c.self.invariant no ∙ ap (turning (machine s) f.number r) c.in-None-coming.is in
+    = turning_is s f.number f.first f.store f.done f.pending f.owed f.coming c.self.invariant.0 no ∙ ap (turning (machine s) f.number r) c.in-None-coming.is in
     subst (λ (h : Held _). 2 ^ 144 ≡ next_key (machine_of g.T.Turns.turn_of h.setup) (next_of (machine_of g.T.Turns.turn_of h.setup) h.number h.history)) c.self.view_is
     (sym end_is ∙ sym (ap (next_key (machine s)) is))

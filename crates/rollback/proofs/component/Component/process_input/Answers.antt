@@ -21,10 +21,10 @@ invariant_of-self-2 g c =
     let s = system g.T.Turns.turn_of (arc_value f.setup) in
     let comes : is_receiving (next_of (machine s) f.number (record_of f.store f.first f.done f.pending f.owed)) ≡ true
     = subst (λ (h : Held _). is_receiving (next_of (machine_of g.T.Turns.turn_of h.setup) h.number h.history) ≡ true) (sym c.self.view_is) c.requires in
-    let found = receiving_is s f.number f.first f.store f.done f.pending f.owed f.coming c.self.invariant comes in
+    let found = receiving_is s f.number f.first f.store f.done f.pending f.owed f.coming c.self.invariant.0 comes in
     let x = found.0 in
     let there : f.pending.after ≡ x ∷ found.1 = found.2 in
-    let before = receiving_by s f.number f.first f.store f.done f.pending f.owed f.coming c.self.invariant ∙ comes in
+    let before = receiving_by s f.number f.first f.store f.done f.pending f.owed f.coming c.self.invariant.0 ∙ comes in
     let plan : composition c.plan.result.now ≡ s.composition = ap composition c.plan.ensures ∙ ap (λ u. composition (plan_of u)) c.deref.ensures in
     let state : c.take_input.new.store ≡ record { current = applied s.composition f.number x.message.action f.store.current; below = f.store.current ∷ f.store.below }
     = subst (λ p. c.take_input.new.store ≡ record { current = applied p f.number x.message.action f.store.current; below = f.store.current ∷ f.store.below }) plan
@@ -33,4 +33,4 @@ invariant_of-self-2 g c =
     = subst (λ (l : List Signed). IfSome (head l) (λ (y : Signed). c.take_input.new.done ≡ record f.done { before = Input y ∷ f.done.before })) there c.in_ok-take_input.ensures.done in
     let pending : c.take_input.new.pending ≡ record f.pending { after = found.1 }
     = c.in_ok-take_input.ensures.pending ∙ ap (λ (l : List Signed). record f.pending { after = tail l }) there in
-    rw (state, done, pending) (kept_input s f.number f.first f.store f.done f.pending f.owed f.coming x found.1 c.self.invariant there before)
+    (rw (state, done, pending) (kept_input s f.number f.first f.store f.done f.pending f.owed f.coming x found.1 c.self.invariant.0 there before), c.self.invariant.1)

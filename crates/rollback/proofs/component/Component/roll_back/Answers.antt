@@ -22,8 +22,8 @@ invariant_of-self-in-Input g c =
     let x = c.in-Input.cell in
     let there : f.done.before ≡ Input x ∷ tail f.done.before
     = head_tail (Input x) f.done.before (ap Some (sym c.in-Input.is ∙ c.into_value.ensures) ∙ sym c.in-Some.is ∙ c.take_last.ensures.taken) in
-    rw (c.undo.ensures.state, c.take_last.ensures.rest, c.insert_sorted.ensures)
-    (kept_back_input s f.number f.first f.store f.done f.pending f.owed f.coming x (tail f.done.before) c.self.invariant there)
+    (rw (c.undo.ensures.state, c.take_last.ensures.rest, c.insert_sorted.ensures)
+    (kept_back_input s f.number f.first f.store f.done f.pending f.owed f.coming x (tail f.done.before) c.self.invariant.0 there), c.self.invariant.1)
 
 pub returns-in-Input-clause-record : goal.returns-in-Input-clause-record
 returns-in-Input-clause-record g c =
@@ -34,7 +34,7 @@ returns-in-Input-clause-record g c =
     = head_tail (Input x) f.done.before (ap Some (sym c.in-Input.is ∙ c.into_value.ensures) ∙ sym c.in-Some.is ∙ c.take_last.ensures.taken) in
     let is : record_of c.undo.new.self f.first c.take_last.new.self c.insert_sorted.new.self f.owed ≡ roll_back_of (machine s) (record_of f.store f.first f.done f.pending f.owed)
     = rw (c.undo.ensures.state, c.take_last.ensures.rest, c.insert_sorted.ensures)
-    (back_input_record s f.number f.first f.store f.done f.pending f.owed f.coming c.self.invariant x (tail f.done.before) there) in
+    (back_input_record s f.number f.first f.store f.done f.pending f.owed f.coming c.self.invariant.0 x (tail f.done.before) there) in
     subst (λ (h : Held _). ◌≡◌ {A = Held _} (record { setup = arc_value f.setup; number = f.number; base = f.base; history = record_of c.undo.new.self f.first c.take_last.new.self c.insert_sorted.new.self f.owed }) (record h { history = roll_back_of (machine_of g.T.Turns.turn_of h.setup) h.history })) c.self.view_is
     (ap (λ r. record { setup = arc_value f.setup; number = f.number; base = f.base; history = r }) is)
 
@@ -46,7 +46,7 @@ returns-in-Turn-clause-sent g c =
     let minuses = c.in-Turn.antimessages in
     let there : f.done.before ≡ Turn turned minuses ∷ tail f.done.before
     = head_tail (Turn turned minuses) f.done.before (ap Some (sym c.in-Turn.is ∙ c.into_value.ensures) ∙ sym c.in-Some.is ∙ c.take_last.ensures.taken) in
-    let sent = back_turn_sent s f.number f.first f.store f.done f.pending f.owed f.coming c.self.invariant turned minuses (tail f.done.before) c.args.out.now there
+    let sent = back_turn_sent s f.number f.first f.store f.done f.pending f.owed f.coming c.self.invariant.0 turned minuses (tail f.done.before) c.args.out.now there
     (subst (λ t. KeyFits t.key) c.value.ensures c.fits.ensures.numbers) c.receivers_law.ensures.once c.receivers_law.ensures.all c.post_all.ensures.order in
     subst (λ (h : Held _). IsPosted Minus (unsent (machine_of g.T.Turns.turn_of h.setup) h.number (last_of h.history.done)) c.args.out.now c.post_all.new.out) c.self.view_is
     (subst (λ (bag : List Signed). IsPosted Minus (unsent (machine s) f.number (last_of (record_of f.store f.first f.done f.pending f.owed).done)) c.args.out.now bag) (sym c.post_all.ensures.posted) sent)
@@ -59,5 +59,5 @@ invariant_of-self-in-Turn g c =
     let minuses = c.in-Turn.antimessages in
     let there : f.done.before ≡ Turn turned minuses ∷ tail f.done.before
     = head_tail (Turn turned minuses) f.done.before (ap Some (sym c.in-Turn.is ∙ c.into_value.ensures) ∙ sym c.in-Some.is ∙ c.take_last.ensures.taken) in
-    rw (c.undo.ensures.state, c.take_last.ensures.rest, c.value.ensures)
-    (kept_back_turn s f.number f.first f.store f.done f.pending f.owed f.coming turned minuses (tail f.done.before) c.self.invariant there)
+    (rw (c.undo.ensures.state, c.take_last.ensures.rest, c.value.ensures)
+    (kept_back_turn s f.number f.first f.store f.done f.pending f.owed f.coming turned minuses (tail f.done.before) c.self.invariant.0 there), c.self.invariant.1)

@@ -15,7 +15,7 @@ pub invariant_of-self : goal.invariant_of-self
 invariant_of-self g c =
     let f = c.self.inside in
     let s = system g.T.Turns.turn_of (arc_value f.setup) in
-    rw c.take_other.ensures.rest (with_owing s f.number f.first f.store f.done f.pending f.owed (record f.owed { after = _ }) f.coming c.self.invariant (queue_remove s f.number Minus f.owed (opposed c.args.cell.now) c.self.invariant.owing))
+    (rw c.take_other.ensures.rest (with_owing s f.number f.first f.store f.done f.pending f.owed (record f.owed { after = _ }) f.coming c.self.invariant.0 (queue_remove s f.number Minus f.owed (opposed c.args.cell.now) c.self.invariant.0.owing)), c.self.invariant.1)
 
 pub returns-clause-record : goal.returns-clause-record
 returns-clause-record g c =
@@ -23,7 +23,7 @@ returns-clause-record g c =
     let s = system g.T.Turns.turn_of (arc_value f.setup) in
     let goes_there : goes Plus f.number c.args.cell.now ≡ true = subst (λ (h : Held _). goes Plus h.number c.args.cell.now ≡ true) (sym c.self.view_is) c.requires in
     let items : items_of c.take_other.new.queue.after ≡ remove (machine s) (item_of c.args.cell.now) (items_of f.owed.after)
-    = ap (λ q. items_of q.after) c.take_other.ensures.rest ∙ queue_items_remove s f.number Minus f.owed (opposed c.args.cell.now) c.self.invariant.owing c.take_other.ensures.fits (opposed_goes s f.number Plus c.args.cell.now goes_there) in
+    = ap (λ q. items_of q.after) c.take_other.ensures.rest ∙ queue_items_remove s f.number Minus f.owed (opposed c.args.cell.now) c.self.invariant.0.owing c.take_other.ensures.fits (opposed_goes s f.number Plus c.args.cell.now goes_there) in
     subst (λ (h : Held _). ◌≡◌ {A = Held _} (record { setup = arc_value f.setup; number = f.number; base = f.base; history = record (record_of f.store f.first f.done f.pending f.owed) { owed = items_of c.take_other.new.queue.after } }) (record h { history = record h.history { owed = remove (machine_of g.T.Turns.turn_of h.setup) (item_of c.args.cell.now) h.history.owed } })) c.self.view_is
     (ap (λ l. record { setup = arc_value f.setup; number = f.number; base = f.base; history = record (record_of f.store f.first f.done f.pending f.owed) { owed = l } }) items)
 
@@ -33,4 +33,4 @@ returns-clause-answer g c =
     let s = system g.T.Turns.turn_of (arc_value f.setup) in
     let goes_there : goes Plus f.number c.args.cell.now ≡ true = subst (λ (h : Held _). goes Plus h.number c.args.cell.now ≡ true) (sym c.self.view_is) c.requires in
     subst (λ (h : Held _). c.take_other.result ≡ has (machine_of g.T.Turns.turn_of h.setup) (item_of c.args.cell.now) h.history.owed) c.self.view_is
-    (c.take_other.ensures.answer ∙ queue_items_has s f.number Minus f.owed (opposed c.args.cell.now) c.self.invariant.owing c.take_other.ensures.fits (opposed_goes s f.number Plus c.args.cell.now goes_there))
+    (c.take_other.ensures.answer ∙ queue_items_has s f.number Minus f.owed (opposed c.args.cell.now) c.self.invariant.0.owing c.take_other.ensures.fits (opposed_goes s f.number Plus c.args.cell.now goes_there))

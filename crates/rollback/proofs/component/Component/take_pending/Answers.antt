@@ -16,9 +16,9 @@ invariant_of-self g c =
     let f = c.self.inside in
     let s = system g.T.Turns.turn_of (arc_value f.setup) in
     let goes_there : goes Minus f.number c.args.cell.now ≡ true = subst (λ (h : Held _). goes Minus h.number c.args.cell.now ≡ true) (sym c.self.view_is) c.requires in
-    rw c.take_other.ensures.rest (with_waiting s f.number f.first f.store f.done f.pending f.owed (record f.pending { after = _ }) f.coming c.self.invariant
-    (queue_remove s f.number Plus f.pending (opposed c.args.cell.now) c.self.invariant.waiting)
-    (waiting_remove s f.number f.first f.store f.done f.pending f.owed f.coming c.self.invariant (opposed c.args.cell.now) c.take_other.ensures.fits (opposed_goes s f.number Minus c.args.cell.now goes_there)))
+    (rw c.take_other.ensures.rest (with_waiting s f.number f.first f.store f.done f.pending f.owed (record f.pending { after = _ }) f.coming c.self.invariant.0
+    (queue_remove s f.number Plus f.pending (opposed c.args.cell.now) c.self.invariant.0.waiting)
+    (waiting_remove s f.number f.first f.store f.done f.pending f.owed f.coming c.self.invariant.0 (opposed c.args.cell.now) c.take_other.ensures.fits (opposed_goes s f.number Minus c.args.cell.now goes_there))), c.self.invariant.1)
 
 pub returns-clause-record : goal.returns-clause-record
 returns-clause-record g c =
@@ -26,7 +26,7 @@ returns-clause-record g c =
     let s = system g.T.Turns.turn_of (arc_value f.setup) in
     let goes_there : goes Minus f.number c.args.cell.now ≡ true = subst (λ (h : Held _). goes Minus h.number c.args.cell.now ≡ true) (sym c.self.view_is) c.requires in
     let items : items_of c.take_other.new.queue.after ≡ remove (machine s) (item_of c.args.cell.now) (items_of f.pending.after)
-    = ap (λ q. items_of q.after) c.take_other.ensures.rest ∙ queue_items_remove s f.number Plus f.pending (opposed c.args.cell.now) c.self.invariant.waiting c.take_other.ensures.fits (opposed_goes s f.number Minus c.args.cell.now goes_there) in
+    = ap (λ q. items_of q.after) c.take_other.ensures.rest ∙ queue_items_remove s f.number Plus f.pending (opposed c.args.cell.now) c.self.invariant.0.waiting c.take_other.ensures.fits (opposed_goes s f.number Minus c.args.cell.now goes_there) in
     subst (λ (h : Held _). ◌≡◌ {A = Held _} (record { setup = arc_value f.setup; number = f.number; base = f.base; history = record (record_of f.store f.first f.done f.pending f.owed) { pending = items_of c.take_other.new.queue.after } }) (record h { history = record h.history { pending = remove (machine_of g.T.Turns.turn_of h.setup) (item_of c.args.cell.now) h.history.pending } })) c.self.view_is
     (ap (λ l. record { setup = arc_value f.setup; number = f.number; base = f.base; history = record (record_of f.store f.first f.done f.pending f.owed) { pending = l } }) items)
 
@@ -36,4 +36,4 @@ returns-clause-answer g c =
     let s = system g.T.Turns.turn_of (arc_value f.setup) in
     let goes_there : goes Minus f.number c.args.cell.now ≡ true = subst (λ (h : Held _). goes Minus h.number c.args.cell.now ≡ true) (sym c.self.view_is) c.requires in
     subst (λ (h : Held _). c.take_other.result ≡ has (machine_of g.T.Turns.turn_of h.setup) (item_of c.args.cell.now) h.history.pending) c.self.view_is
-    (c.take_other.ensures.answer ∙ queue_items_has s f.number Plus f.pending (opposed c.args.cell.now) c.self.invariant.waiting c.take_other.ensures.fits (opposed_goes s f.number Minus c.args.cell.now goes_there))
+    (c.take_other.ensures.answer ∙ queue_items_has s f.number Plus f.pending (opposed c.args.cell.now) c.self.invariant.0.waiting c.take_other.ensures.fits (opposed_goes s f.number Minus c.args.cell.now goes_there))

@@ -31,7 +31,7 @@ returns-then-eq-4 g c =
     let five : c.if-has_same_first.value ≡ (((((setups && numbers) && bases) && firsts) && states) && done) = elim c.if-has_same_first.branch [ then-has_same_first w ↦ and_then _ _ _ _ four w.if-has_same_first.true (w.value-is ∙ w.eq-then-has_same_first.ensures) | else-has_same_first w ↦ and_else _ _ _ _ four w.if-has_same_first.false w.value-is ] in
     let six : c.if-eq-3.value ≡ ((((((setups && numbers) && bases) && firsts) && states) && done) && pending) = elim c.if-eq-3.branch [ then-eq-3 w ↦ and_then _ _ _ _ five w.if-eq-3.true (w.value-is ∙ w.eq-then-eq-3.ensures) | else-eq-3 w ↦ and_else _ _ _ _ five w.if-eq-3.false w.value-is ] in
     and_then _ _ _ _ six c.if-eq-4.true c.eq-then-eq-4.ensures
-    ∙ held_same same_setup (arc_value f.setup) (arc_value o.setup) (system g.T.Turns.turn_of (arc_value f.setup)) (system g.T.Turns.turn_of (arc_value o.setup)) f.number o.number f.base o.base f.first o.first f.store o.store f.done o.done f.pending o.pending f.owed o.owed f.coming o.coming c.self.invariant c.other.invariant
+    ∙ held_same same_setup (arc_value f.setup) (arc_value o.setup) (system g.T.Turns.turn_of (arc_value f.setup)) (system g.T.Turns.turn_of (arc_value o.setup)) f.number o.number f.base o.base f.first o.first f.store o.store f.done o.done f.pending o.pending f.owed o.owed f.coming o.coming c.self.invariant.0 c.other.invariant.0
     ∙ (λ v. same_held same_setup (c.self.view_is v) (c.other.view_is v))
 
 pub returns-else-eq-4 : goal.returns-else-eq-4
@@ -53,5 +53,5 @@ returns-else-eq-4 g c =
     let five : c.if-has_same_first.value ≡ (((((setups && numbers) && bases) && firsts) && states) && done) = elim c.if-has_same_first.branch [ then-has_same_first w ↦ and_then _ _ _ _ four w.if-has_same_first.true (w.value-is ∙ w.eq-then-has_same_first.ensures) | else-has_same_first w ↦ and_else _ _ _ _ four w.if-has_same_first.false w.value-is ] in
     let six : c.if-eq-3.value ≡ ((((((setups && numbers) && bases) && firsts) && states) && done) && pending) = elim c.if-eq-3.branch [ then-eq-3 w ↦ and_then _ _ _ _ five w.if-eq-3.true (w.value-is ∙ w.eq-then-eq-3.ensures) | else-eq-3 w ↦ and_else _ _ _ _ five w.if-eq-3.false w.value-is ] in
     and_else _ _ _ (same_items is_same f.owed o.owed) six c.if-eq-4.false refl
-    ∙ held_same same_setup (arc_value f.setup) (arc_value o.setup) (system g.T.Turns.turn_of (arc_value f.setup)) (system g.T.Turns.turn_of (arc_value o.setup)) f.number o.number f.base o.base f.first o.first f.store o.store f.done o.done f.pending o.pending f.owed o.owed f.coming o.coming c.self.invariant c.other.invariant
+    ∙ held_same same_setup (arc_value f.setup) (arc_value o.setup) (system g.T.Turns.turn_of (arc_value f.setup)) (system g.T.Turns.turn_of (arc_value o.setup)) f.number o.number f.base o.base f.first o.first f.store o.store f.done o.done f.pending o.pending f.owed o.owed f.coming o.coming c.self.invariant.0 c.other.invariant.0
     ∙ (λ v. same_held same_setup (c.self.view_is v) (c.other.view_is v))

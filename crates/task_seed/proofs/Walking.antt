@@ -1,0 +1,17 @@
+-- A turn that exists.
+use Rattle.std.proofs.Common.{◌≡◌, ℕ, ◌+◌, ◌∙◌, Bool, true, false, Option, None, Some, ap, refl}
+use Rattle.std.specs.Prelude.{option_map, if◌then◌else◌}
+use Rattle.plans.specs.Outcomes.{task_count}
+use Rattle.event_keys.specs.declared.key.Key.{Key}
+use Rattle.task_seed.specs.declared.turns.Turn.{Turn}
+use Rattle.task_seed.specs.Turning.{System, has_turns, key_at, key_of, ticks, turn_in, with_task_below}
+
+-- where there is something, the first of two was taken
+taken : {A : Type 0} {B : Type 0} (b : Bool) (x : A) (y : A) (z : Option B) → Some x ≡ (if b then Some y else None) → (if b then z else None) ≡ z
+taken true x y z e = refl
+taken false x y z e = cc
+
+pub turn_there : (s : System) (i n : ℕ) (key : Key) (turn : Turn) → Some key ≡ key_of s i n → s.turn i n ≡ Some turn → turn_in s i n ≡ Some (with_task_below (task_count s.composition i) turn)
+turn_there s i n key turn there found =
+    let below = with_task_below (task_count s.composition i) in
+    taken (has_turns s i (n + 1)) key (key_at i n (ticks s i (n + 1))) (option_map below (s.turn i n)) there ∙ ap (option_map below) found
