@@ -19,6 +19,6 @@ returns g c =
     let turns : is_turning (next_of (machine s) f.number (record_of f.store f.first f.done f.pending f.owed)) ≡ true
     = subst (λ (h : Held _). is_turning (next_of (machine_of g.T.Turns.turn_of h.setup) h.number h.history) ≡ true) (sym c.self.view_is) c.requires in
     let came : action_of outcome ≡ turn_outcome s f.number key.number f.store.current
-    = subst (λ u. action_of outcome ≡ turn_outcome (system g.T.Turns.turn_of u) f.number key.number f.store.current) c.deref.ensures c.in_ok-outcome.ensures in
+    = subst (λ u. action_of outcome ≡ turn_outcome (system g.T.Turns.turn_of u) f.number key.number f.store.current) c.deref-2.ensures c.in_ok-outcome.ensures in
     subst (λ (h : Held _). IsNextTurn g.T.Turns.turn_of h (record { key = key; outcome = outcome })) c.self.view_is
     (turned_is s f.number f.first f.store f.done f.pending f.owed f.coming c.self.invariant.0 (record { key = key; outcome = outcome }) c.in-Some.is turns came)
