@@ -1,6 +1,6 @@
 -- Walks of components, one of which reads on.
 use Rattle.std.proofs.Common.{◌≡◌, ℕ, zero, suc, List, [], ◌∷◌, ◌++◌, ◌+◌, ◌<◌, ◌⊎◌, inl, inr, Option, None, Some, refl, sym, ap, subst, ◌∙◌, arith}
-use Rattle.std.specs.Prelude.{if◌then◌else◌, ◌==◌, length, replicate, IfSome, slice_get, slice_set, slice_index_or}
+use Rattle.std.specs.Prelude.{length, replicate, IfSome, slice_get, slice_set, slice_index_or}
 use Rattle.std.proofs.lemmas.Option.{slice_get-get_or}
 use Rattle.std.proofs.lemmas.Bool.{cases_eq, eq-eqb, ne_eqb}
 use Rattle.plans.specs.Plans.{composition}
@@ -32,8 +32,11 @@ module _ {T : Type 0} (stands : T → Walk → ℕ → ℕ → Type 0) (setup : 
 
 -- one more component whose turns nothing is read off
 pub none_more : (n : ℕ) → replicate n None ++ None ∷ [] ≡ replicate {A = Option Walk} (n + 1) None
-none_more n = go n ∙ ap (λ k. replicate k None) (omega arith)
+none_more n = go n ∙ ap (λ k. replicate k None) next
   where
+    next : suc n ≡ n + 1
+    next = omega arith
+
     go : (n : ℕ) → replicate n None ++ None ∷ [] ≡ replicate {A = Option Walk} (suc n) None
     go zero = refl
     go (suc n) = ap (λ ws. None ∷ ws) (go n)

@@ -90,12 +90,7 @@ impl Stub {
 }
 
 // The key of the turn of component `i` after the one of this key, if there is one.
-fn key_after<T: Turns>(
-    setup: &Setup<T>,
-    i: u16,
-    key: Key,
-    walk: &mut Option<Walk>,
-) -> Option<Key>
+fn key_after<T: Turns>(setup: &Setup<T>, i: u16, key: Key, walk: &mut Option<Walk>) -> Option<Key>
     requires there { Some key ≡ key_of (system T.turn_of setup.now) i key.number }
     requires small { key.number < 4294967296 }
     requires walk { IfSome walk.old (Stands T.stands setup.now i) }

@@ -56,8 +56,10 @@ invariant_of-self-2 g c =
     let done : c.take_turn.new.done ≡ record f.done { before = Turn turned (record { before = signed_of s Minus f.number turned.key turned.outcome; after = [] }) ∷ f.done.before }
     = subst (λ u. c.take_turn.new.done ≡ record f.done { before = Turn turned (record { before = signed_of (system g.T.Turns.turn_of u) Minus f.number turned.key turned.outcome; after = [] }) ∷ f.done.before }) c.deref.ensures c.in_ok-take_turn.ensures.done in
     let read : IsRead g.T.Turns.turn_of g.T.Turns.stands (arc_value f.setup) f.number c.read_on-self-inside.new.self
-    = subst (λ u. IsRead g.T.Turns.turn_of g.T.Turns.stands u f.number c.read_on-self-inside.new.self) c.deref-2.ensures c.read_on-self-inside.ensures.read in
-    (rw (state, done)
-    (kept_turn s f.number f.first f.store f.done f.pending f.owed f.coming c.read_on-self-inside.result turned c.self.invariant.0
-    (own_is s f.number f.first f.store f.done f.pending f.owed f.coming c.self.invariant.0 turned comes) next c.read_on-self-inside.ensures.small
-    (not_before s f.number f.first f.store f.done f.pending f.owed f.coming c.self.invariant.0 turned comes)), read)
+    = subst (λ u. IsRead g.T.Turns.turn_of g.T.Turns.stands u f.number c.read_on-self-inside.new.self) c.deref-2.ensures c.read_on-self-inside.ensures.read in (
+      rw (state, done)
+          (kept_turn s f.number f.first f.store f.done f.pending f.owed f.coming c.read_on-self-inside.result turned c.self.invariant.0
+          (own_is s f.number f.first f.store f.done f.pending f.owed f.coming c.self.invariant.0 turned comes) next c.read_on-self-inside.ensures.small
+          (not_before s f.number f.first f.store f.done f.pending f.owed f.coming c.self.invariant.0 turned comes)),
+      read,
+    )

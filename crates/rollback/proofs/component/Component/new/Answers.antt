@@ -7,6 +7,8 @@ use Rattle.rollback.proofs.component.Component.new.Goals as goal
 
 pub invariant_of-result : goal.invariant_of-result
 invariant_of-result g c =
-    let s = system g.T.Turns.turn_of (arc_value c.args.setup) in
-    (rw (c.in_ok-store.ensures, c.new-2.ensures, c.new-3.ensures, c.new-4.ensures)
-    (kept_new s c.args.number c.in_ok-state.state c.first_key-coming.result c.requires (subst (λ u. c.first_key-coming.result ≡ key_of (system g.T.Turns.turn_of u) c.args.number 0) c.deref-2.ensures c.first_key-coming.ensures.key) c.first_key-coming.ensures.small), search rules)
+    let s = system g.T.Turns.turn_of (arc_value c.args.setup) in (
+      rw (c.in_ok-store.ensures, c.new-2.ensures, c.new-3.ensures, c.new-4.ensures)
+          (kept_new s c.args.number c.in_ok-state.state c.first_key-coming.result c.requires (subst (λ u. c.first_key-coming.result ≡ key_of (system g.T.Turns.turn_of u) c.args.number 0) c.deref-2.ensures c.first_key-coming.ensures.key) c.first_key-coming.ensures.small),
+      search rules,
+    )

@@ -21,9 +21,11 @@ invariant_of-self-in-Input g c =
     let s = system g.T.Turns.turn_of (arc_value f.setup) in
     let x = c.in-Input.cell in
     let there : f.done.before ≡ Input x ∷ tail f.done.before
-    = head_tail (Input x) f.done.before (ap Some (sym c.in-Input.is ∙ c.into_value.ensures) ∙ sym c.in-Some.is ∙ c.take_last.ensures.taken) in
-    (rw (c.undo.ensures.state, c.take_last.ensures.rest, c.insert_sorted.ensures)
-    (kept_back_input s f.number f.first f.store f.done f.pending f.owed f.coming x (tail f.done.before) c.self.invariant.0 there), c.self.invariant.1)
+    = head_tail (Input x) f.done.before (ap Some (sym c.in-Input.is ∙ c.into_value.ensures) ∙ sym c.in-Some.is ∙ c.take_last.ensures.taken) in (
+      rw (c.undo.ensures.state, c.take_last.ensures.rest, c.insert_sorted.ensures)
+          (kept_back_input s f.number f.first f.store f.done f.pending f.owed f.coming x (tail f.done.before) c.self.invariant.0 there),
+      c.self.invariant.1,
+    )
 
 pub returns-in-Input-clause-record : goal.returns-in-Input-clause-record
 returns-in-Input-clause-record g c =
@@ -58,6 +60,8 @@ invariant_of-self-in-Turn g c =
     let turned = c.in-Turn.turned in
     let minuses = c.in-Turn.antimessages in
     let there : f.done.before ≡ Turn turned minuses ∷ tail f.done.before
-    = head_tail (Turn turned minuses) f.done.before (ap Some (sym c.in-Turn.is ∙ c.into_value.ensures) ∙ sym c.in-Some.is ∙ c.take_last.ensures.taken) in
-    (rw (c.undo.ensures.state, c.take_last.ensures.rest, c.value.ensures)
-    (kept_back_turn s f.number f.first f.store f.done f.pending f.owed f.coming turned minuses (tail f.done.before) c.self.invariant.0 there), c.self.invariant.1)
+    = head_tail (Turn turned minuses) f.done.before (ap Some (sym c.in-Turn.is ∙ c.into_value.ensures) ∙ sym c.in-Some.is ∙ c.take_last.ensures.taken) in (
+      rw (c.undo.ensures.state, c.take_last.ensures.rest, c.value.ensures)
+          (kept_back_turn s f.number f.first f.store f.done f.pending f.owed f.coming turned minuses (tail f.done.before) c.self.invariant.0 there),
+      c.self.invariant.1,
+    )

@@ -15,10 +15,12 @@ pub invariant_of-self : goal.invariant_of-self
 invariant_of-self g c =
     let f = c.self.inside in
     let s = system g.T.Turns.turn_of (arc_value f.setup) in
-    let goes_there : goes Minus f.number c.args.cell.now ≡ true = subst (λ (h : Held _). goes Minus h.number c.args.cell.now ≡ true) (sym c.self.view_is) c.requires in
-    (rw c.take_other.ensures.rest (with_waiting s f.number f.first f.store f.done f.pending f.owed (record f.pending { after = _ }) f.coming c.self.invariant.0
-    (queue_remove s f.number Plus f.pending (opposed c.args.cell.now) c.self.invariant.0.waiting)
-    (waiting_remove s f.number f.first f.store f.done f.pending f.owed f.coming c.self.invariant.0 (opposed c.args.cell.now) c.take_other.ensures.fits (opposed_goes s f.number Minus c.args.cell.now goes_there))), c.self.invariant.1)
+    let goes_there : goes Minus f.number c.args.cell.now ≡ true = subst (λ (h : Held _). goes Minus h.number c.args.cell.now ≡ true) (sym c.self.view_is) c.requires in (
+      rw c.take_other.ensures.rest (with_waiting s f.number f.first f.store f.done f.pending f.owed (record f.pending { after = _ }) f.coming c.self.invariant.0
+          (queue_remove s f.number Plus f.pending (opposed c.args.cell.now) c.self.invariant.0.waiting)
+          (waiting_remove s f.number f.first f.store f.done f.pending f.owed f.coming c.self.invariant.0 (opposed c.args.cell.now) c.take_other.ensures.fits (opposed_goes s f.number Minus c.args.cell.now goes_there))),
+      c.self.invariant.1,
+    )
 
 pub returns-clause-record : goal.returns-clause-record
 returns-clause-record g c =

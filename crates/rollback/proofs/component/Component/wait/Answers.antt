@@ -16,10 +16,12 @@ invariant_of-self g c =
     let f = c.self.inside in
     let s = system g.T.Turns.turn_of (arc_value f.setup) in
     let goes_there : goes Plus f.number c.args.cell ≡ true = subst (λ (h : Held _). goes Plus h.number c.args.cell ≡ true) (sym c.self.view_is) c.requires.here in
-    let late : latest 0 (entries_of f.done.before) ≤ (item_of c.args.cell).key = subst (λ (h : Held _). latest 0 h.history.done ≤ (item_of c.args.cell).key) (sym c.self.view_is) c.requires.late in
-    (rw c.put.ensures.queue (with_waiting s f.number f.first f.store f.done f.pending f.owed (record f.pending { after = _ }) f.coming c.self.invariant.0
-    (queue_insert s f.number Plus f.pending c.args.cell c.self.invariant.0.waiting c.put.ensures.fits goes_there c.put.ensures.timed)
-    (waiting_insert s f.number f.first f.store f.done f.pending f.owed f.coming c.self.invariant.0 c.args.cell c.put.ensures.fits goes_there late)), c.self.invariant.1)
+    let late : latest 0 (entries_of f.done.before) ≤ (item_of c.args.cell).key = subst (λ (h : Held _). latest 0 h.history.done ≤ (item_of c.args.cell).key) (sym c.self.view_is) c.requires.late in (
+      rw c.put.ensures.queue (with_waiting s f.number f.first f.store f.done f.pending f.owed (record f.pending { after = _ }) f.coming c.self.invariant.0
+          (queue_insert s f.number Plus f.pending c.args.cell c.self.invariant.0.waiting c.put.ensures.fits goes_there c.put.ensures.timed)
+          (waiting_insert s f.number f.first f.store f.done f.pending f.owed f.coming c.self.invariant.0 c.args.cell c.put.ensures.fits goes_there late)),
+      c.self.invariant.1,
+    )
 
 pub returns : goal.returns
 returns g c =
