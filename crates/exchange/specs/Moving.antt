@@ -1,5 +1,5 @@
 -- What a meeting moves from a lease to the stubs, and from its stub to the lease.
-use Rattle.std.specs.Prelude.{◌≡◌, ℕ, ◌+◌, ◌-◌, ◌⊎◌, cond, nat_lt, Some, List, [], filter, length, slice_get}
+use Rattle.std.specs.Prelude.{◌≡◌, ℕ, ◌+◌, ◌-◌, ◌⊎◌, cond, nat_lt, Option, None, Some, List, [], ◌∷◌, filter, length, slice_get}
 use Rattle.terms.specs.Named.{Named}
 use Rattle.event_keys.specs.declared.key.Bound.{Bound}
 use Rattle.event_keys.specs.declared.message.Sign.{Sign}
@@ -45,6 +45,17 @@ pub record IsForgotten (bound : Bound) (old new : Stub) : Type 0 where
   pub taken : (s : System) (j k : ℕ) (a : Named) → among s Plus j new.taken k a ≡ cond (nat_lt k (rank_of_bound bound)) 0 (among s Plus j old.taken k a)
   pub standing : (s : System) (j k : ℕ) (a : Named) → among s Plus j new.standing k a ≡ cond (nat_lt k (rank_of_bound bound)) 0 (among s Plus j old.standing k a)
   pub rest : new ≡ record old { base = bound; taken = new.taken; standing = new.standing }
+
+-- to whom the first of these goes, if there is any
+abbrev pub first_receiver : List Signed → Option ℕ
+first_receiver [] = None
+first_receiver (x ∷ xs) = Some x.message.to
+
+-- these came to the stub of a component, if there is one, and copies of the messages; the others stay
+pub record IsBrought (to : ℕ) (came copies : List Signed) (old new : List Stub) : Type 0 where
+  pub many : length new ≡ length old
+  pub others : (j : ℕ) → (j ≡ to → ⊥) → slice_get new j ≡ slice_get old j
+  pub own : (stub : Stub) → slice_get new to ≡ Some stub → (was : Stub) × (slice_get old to ≡ Some was) × HasCome came copies was stub
 
 -- what is outgoing to component j came to its stub
 pub record IsReached (out copies : List Signed) (old : List Stub) (j : ℕ) (new : Stub) : Type 0 where

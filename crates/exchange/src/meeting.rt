@@ -1,5 +1,5 @@
 //! Meetings of a lease with what workers share.
-ghost use Rattle.std.specs.Prelude.{◌≡◌, ◌↔◌, ℕ, List, Some, true, false, length, slice_get, IfErr, IfOk, OnOk, OnErr, IsOk, IsErrOf};
+ghost use Rattle.std.specs.Prelude.{◌≡◌, ◌↔◌, ◌++◌, ℕ, List, Some, true, false, length, slice_get, IfErr, IfOk, OnOk, OnErr, IsOk, IsErrOf};
 ghost use Rattle.event_keys.specs.Ranks.{rank_of_bound};
 ghost use Rattle.antimessage.specs.Bags.{insert_all};
 ghost use Rattle.antimessage.specs.Counts.{Each};
@@ -15,7 +15,7 @@ ghost use Rattle.rollback.specs.Held.{machine_of};
 ghost use Rattle.exchange.specs.declared.stub.Stub.{Stub as StubValue};
 ghost use Rattle.exchange.specs.Holding.{part_of, lease_of};
 ghost use Rattle.exchange.specs.Shared.{exchange_of};
-ghost use Rattle.exchange.specs.Moving.{HasCome, IsSent, IsArrived, IsHandedOver, IsForgotten, IsReached, IsPassedOn};
+ghost use Rattle.exchange.specs.Moving.{first_receiver, HasCome, IsBrought, IsSent, IsArrived, IsHandedOver, IsForgotten, IsReached, IsPassedOn};
 
 use crate::exchange::Exchange;
 use crate::judging::MeetRefused;
@@ -99,18 +99,42 @@ impl Stub {
     }
 }
 
-// What is outgoing comes to the stubs, each message to its receiver's.
-fn spread(stubs: &mut [Stub], count: u16, out: &mut Bag, copies: &mut Bag)
-    requires { length stubs.old ≡ count }
+// To whom the first of these goes, if there is any.
+fn first_receiver(bag: &Bag) -> Option<u16>
+    ensures { result ≡ first_receiver bag.now }
+{
+    let mut items = bag.iter();
+    let first = items.next()?;
+    Some(first.message.to)
+}
+
+// The same of outgoing messages, and of the copies where nothing is outgoing.
+fn next_receiver(out: &Bag, copies: &Bag) -> Option<u16>
+    ensures { result ≡ first_receiver (out.now ++ copies.now) }
+{
+    match first_receiver(out) {
+        Some(to) => Some(to),
+        None => first_receiver(copies),
+    }
+}
+
+// Signed messages come to the stub of a component, if there is one, and copies of the messages.
+fn bring(stubs: &mut [Stub], to: u16, came: Bag, copies: Bag)
+    ensures { IsBrought to came copies stubs.old stubs.new }
+{
+    if usize::from(to) < stubs.len() {
+        stubs[usize::from(to)].come(came, copies);
+    }
+}
+
+// What is outgoing comes to the stubs, each message to its receiver's. Only the receivers are gone through, not all stubs.
+fn spread(stubs: &mut [Stub], out: &mut Bag, copies: &mut Bag)
     ensures many { length stubs.new ≡ length stubs.old }
     ensures each { (j : ℕ) (stub : StubValue) → slice_get stubs.new j ≡ Some stub → IsReached out.old copies.old stubs.old j stub }
 {
-    if out.is_empty() && copies.is_empty() {
-        return;
-    }
-    for i in 0..count {
-        let came = out.split_to(i);
-        stubs[usize::from(i)].come(came, copies.split_to(i));
+    while let Some(to) = next_receiver(out, copies) {
+        let came = out.split_to(to);
+        bring(stubs, to, came, copies.split_to(to));
     }
 }
 
@@ -145,8 +169,7 @@ fn pass_on<T: Turns>(
     machine_is_lawful(component.setup());
     let i = usize::from(component.number());
     stubs[i].send(&mut copies.of_sender, out);
-    let count = component.setup().plan().components();
-    spread(stubs, count, out, &mut copies.of_receiver);
+    spread(stubs, out, &mut copies.of_receiver);
     let own = &mut stubs[i];
     own.hand_over(tray);
     own.forget_below(bound);

@@ -1,24 +1,27 @@
-use Rattle.std.proofs.Common.{◌≡◌, ◌+◌, length, sym, subst₂, ◌∙◌, arith}
-use Rattle.std.specs.Prelude.{slice_index_or, slice_set}
-use Rattle.exchange.specs.Moving.{HasCome}
-use Rattle.exchange.proofs.Spreading.{IsSpreading, spreading_starts, spreading_steps, spreading_ends}
+use Rattle.std.proofs.Common.{rules, ◌≡◌, ◌++◌, None, Some, filter, sym, subst₂}
+use Rattle.antimessage.specs.Bags.{is_to}
+use Rattle.exchange.specs.Moving.{first_receiver, IsBrought}
+use Rattle.exchange.proofs.Spreading.{IsSpreading, fewer, spreading_steps, spreading_ends}
 use Rattle.exchange.proofs.meeting.spread.Goals as goal
 
-pub loop-i-init : goal.loop-i-init
-loop-i-init c = spreading_starts c.args.out.now c.args.copies.now c.args.stubs.now
+pub loop-to-smaller : goal.loop-to-smaller
+loop-to-smaller c =
+    let l = c.loop-to in
+    let first : first_receiver (l.out ++ l.copies) ≡ Some c.in-Some.to = search rules in
+    rw (c.split_to-came.ensures.rest, c.split_to.ensures.rest) (fewer c.in-Some.to l.out l.copies first)
 
-pub loop-i-preserved : goal.loop-i-preserved
-loop-i-preserved c =
-    let l = c.loop-i in
-    let many : length l.stubs ≡ c.args.count = l.auto.stubs ∙ c.requires in
-    let below = c.loop-i-test.true in
-    let come = subst₂ (λ came copies. HasCome came copies (slice_index_or l.stubs c.from.result c.index-stubs-from.result) c.come.new.self) c.split_to-came.ensures.taken c.split_to.ensures.taken c.come.ensures in
-    subst₂ (λ out copies. IsSpreading c.args.out.now c.args.copies.now c.args.stubs.now (l.i + 1) out copies (slice_set l.stubs c.from.result c.come.new.self)) (sym c.split_to-came.ensures.rest) (sym c.split_to.ensures.rest)
-    (spreading_steps c.args.out.now c.args.copies.now c.args.stubs.now l.i c.from.result c.from.ensures l.out l.copies l.stubs l.invariant (omega (arith, many, below)) c.index-stubs-from.result c.come.new.self come)
+pub loop-to-preserved : goal.loop-to-preserved
+loop-to-preserved c =
+    let l = c.loop-to in
+    let to = c.in-Some.to in
+    let first : first_receiver (l.out ++ l.copies) ≡ Some to = search rules in
+    let brought : IsBrought to (filter (is_to to) l.out) (filter (is_to to) l.copies) l.stubs c.bring.new.stubs
+    = subst₂ (λ came copies. IsBrought to came copies l.stubs c.bring.new.stubs) c.split_to-came.ensures.taken c.split_to.ensures.taken c.bring.ensures in
+    subst₂ (λ out copies. IsSpreading c.args.out.now c.args.copies.now c.args.stubs.now out copies c.bring.new.stubs) (sym c.split_to-came.ensures.rest) (sym c.split_to.ensures.rest)
+    (spreading_steps c.args.out.now c.args.copies.now c.args.stubs.now l.out l.copies l.stubs l.invariant to c.bring.new.stubs first brought)
 
 pub returns-clause-each : goal.returns-clause-each
 returns-clause-each c =
-    let l = c.loop-i in
-    let many : length l.stubs ≡ c.args.count = l.auto.stubs ∙ c.requires in
-    let end = c.loop-i-test.false in
-    spreading_ends c.args.out.now c.args.copies.now c.args.stubs.now l.i l.out l.copies l.stubs l.invariant (omega (arith, many, end))
+    let l = c.loop-to in
+    let none : first_receiver (l.out ++ l.copies) ≡ None = search rules in
+    spreading_ends c.args.out.now c.args.copies.now c.args.stubs.now l.out l.copies l.stubs l.invariant none
