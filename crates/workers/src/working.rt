@@ -151,7 +151,8 @@ fn meet<T: Turns>(exchange: &mut Exchange<T>, lease: &mut Lease<T>) -> Result<()
     Ok(())
 }
 
-// Takes leases until one is worth a visit, each lease of the pool once at most. Others go back.
+// Takes a lease that is worth a visit. If messages wait, one that can go on at once comes first, wherever it stands in the pool: which lease stands
+// where is left to chance, and one that is visited too early does what it has to take back.
 fn take_due<T: Turns, R: Wait>(
     rt: &R,
     shared: &Shared<T>,
@@ -166,11 +167,45 @@ fn take_due<T: Turns, R: Wait>(
     ensures lock { worker.new.lock ≡ worker.old.lock }
     ensures held { IfOk result (λ visit. IfSome visit (λ it. Holds worker.new.pass it.paced)) }
 {
+    let waits = has_mail_for_any(exchange);
+    match take_some(rt, shared, exchange, worker, count, waits)? {
+        Some(visit) => Ok(Some(visit)),
+        None => take_some(rt, shared, exchange, worker, count, false),
+    }
+}
+
+// Whether messages wait for some component.
+fn has_mail_for_any<T: Turns>(exchange: &Exchange<T>) -> bool {
+    for number in 0..exchange.setup().plan().components() {
+        if exchange.has_mail(number) {
+            return true;
+        }
+    }
+    false
+}
+
+// Takes leases until one is worth a visit, each lease of the pool once at most, and of those only that can go on at once if that is asked. Others
+// go back.
+fn take_some<T: Turns, R: Wait>(
+    rt: &R,
+    shared: &Shared<T>,
+    exchange: &mut Exchange<T>,
+    worker: &mut Worker<T>,
+    count: u64,
+    at_once: bool,
+) -> Result<Option<Visit<T>>, MeetRefused>
+    requires own { IsOf shared.now worker.old }
+    requires setup { (holding worker.old.lock).kind ≡ Some exchange.old.setup }
+    ensures own { IsOf shared.now worker.new }
+    ensures setup { exchange.new.setup ≡ exchange.old.setup }
+    ensures lock { worker.new.lock ≡ worker.old.lock }
+    ensures held { IfOk result (λ visit. IfSome visit (λ it. Holds worker.new.pass it.paced)) }
+{
     for _ in 0..shared.components {
         let Some(mut paced) = shared.pool.take(rt, &mut worker.pass) else {
             return Ok(None);
         };
-        if is_due(exchange, &mut paced, count, shared.components) {
+        if is_due(exchange, &mut paced, count, shared.components, at_once) {
             return Ok(Some(begin_visit(exchange, paced, count)?));
         }
         shared.pool.give_back(rt, &mut worker.pass, paced);
@@ -178,21 +213,29 @@ fn take_due<T: Turns, R: Wait>(
     Ok(None)
 }
 
-// Whether there is something to do for a lease: it holds all others up, or messages wait for it, or it may run ahead.
+// Whether a lease can go on at once: it holds all others up, or messages wait for it or came to it.
+fn can_go_on<T: Turns>(exchange: &Exchange<T>, lease: &Lease<T>) -> bool {
+    lease.floor() == exchange.bound()
+        || exchange.has_mail(lease.number())
+        || lease.least_coming() != Bound::End
+}
+
+// Whether there is something to do for a lease: it can go on at once, or, unless only that is asked, it may run ahead.
 fn is_due<T: Turns>(
     exchange: &Exchange<T>,
     paced: &mut Paced<T>,
     count: u64,
     components: usize,
+    at_once: bool,
 ) -> bool
     ensures { paced.new.lease ≡ paced.old.lease }
 {
     let lease = &*paced.lease;
-    if lease.floor() == exchange.bound() || exchange.has_mail(lease.number()) {
+    if can_go_on(exchange, lease) {
         return true;
     }
-    if lease.least_coming() != Bound::End {
-        return true;
+    if at_once {
+        return false;
     }
     let has_next = lease.floor() != Bound::End;
     paced

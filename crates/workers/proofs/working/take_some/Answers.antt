@@ -1,7 +1,7 @@
 use Rattle.std.proofs.Common.{◌≡◌, Some, ap, sym, subst, ◌∙◌}
 use Rattle.pools.specs.Passes.{holding}
 use Rattle.workers.specs.Crews.{AreOfOne}
-use Rattle.workers.proofs.working.take_due.Goals as goal
+use Rattle.workers.proofs.working.take_some.Goals as goal
 
 pub begin_visit-requires-after_bounds : goal.begin_visit-requires-after_bounds
 begin_visit-requires-after_bounds g c κs within =

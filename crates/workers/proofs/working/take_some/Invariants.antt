@@ -1,6 +1,6 @@
 use Rattle.std.proofs.Common.{◌≡◌}
 use Rattle.workers.specs.Crews.{IsOf}
-use Rattle.workers.proofs.working.take_due.Given as goal
+use Rattle.workers.proofs.working.take_some.Given as goal
 
 abbrev pub invariant-loop : goal.invariant-loop
 invariant-loop g l = record {
