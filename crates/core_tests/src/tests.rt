@@ -9,5 +9,4 @@ mod shared_actions;
 mod stores;
 mod tables;
 mod terms_and_effects;
-mod walks;
 mod writers;
