@@ -1,5 +1,5 @@
-//! The tests of `gvt`'s published word, in a crate of their own, so that what stands above `gvt` isn't proved with them.
+//! The tests of `task_seed`'s walks, in a crate of their own, so that what stands above `task_seed` isn't proved with them.
 #![tactic(auto)]
 
 #[cfg(test)]
-mod seats;
+mod walks;
