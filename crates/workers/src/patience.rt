@@ -12,19 +12,17 @@ const LOOKS_OF_FIRST: u32 = 32;
 const NAP: u64 = 50;
 
 // What a look at the exchange counts that found it away, and what one that found it there takes off; a worker rests where it comes to the
-// first of the next two numbers, and begins with the second afterwards. So it rests where the exchange is away at more than one look of four,
-// and rests again after the first one that finds it away, unless it was there more often meanwhile: each lease that it visits is out of the
-// other processors' caches afterwards, which costs more than the visit.
+// first of the next two numbers, and begins with the second afterwards. So it rests where the exchange is away at more than one look of four.
 const AWAY: u32 = 3;
 
 const THERE: u32 = 1;
 
 const CROWDED: u32 = 24;
 
-const LESS_CROWDED: u32 = 21;
+const LESS_CROWDED: u32 = 12;
 
 // How often a rest may be twice as long as the one before.
-const MOST_DOUBLINGS: u32 = 8;
+const MOST_DOUBLINGS: u32 = 6;
 
 // Where turns are cheap and each waits for a message, a second worker does nothing but take the exchange from the first. So a worker that finds
 // it away too often rests, each time longer, but the first worker, which never does.
