@@ -5,7 +5,8 @@ ghost use Rattle.event_keys.specs.declared.message.Sign.TheVariants.{Plus};
 ghost use Rattle.event_keys.specs.Ranks.{rank, rank_of_bound};
 ghost use Rattle.virtual_time.specs.Entries.{entry_key};
 ghost use Rattle.virtual_time.specs.Records.{next_of};
-ghost use Rattle.rollback.specs.Held.{machine_of, next_key, processed, sent_next};
+ghost use Rattle.raw_events.specs.Around.{is_nonempty};
+ghost use Rattle.rollback.specs.Held.{machine_of, next_key, is_last_idle, processed, sent_next};
 ghost use Rattle.rollback.specs.Post.{IsPosted};
 ghost use Rattle.event_keys.specs.declared.message.Signed.{Signed as SignedValue};
 ghost use Rattle.exchange.specs.Core.{Moves, StaysKnown, deliveries};
@@ -94,6 +95,20 @@ impl<T: Turns> Lease<T> {
         ensures { result ≡ length self.now.component.history.done }
     {
         self.component.depth()
+    }
+
+    /// Whether the last done entry is a turn of the component by which it did nothing, where anything is done since the base.
+    pub fn is_idle(&self) -> bool
+        ensures { result ≡ is_last_idle self.now.component.history.done }
+    {
+        self.component.is_idle()
+    }
+
+    /// Whether messages or antimessages wait to leave at the next meeting.
+    pub fn is_sending(&self) -> bool
+        ensures { result ≡ is_nonempty self.now.out }
+    {
+        !self.out.is_empty()
     }
 
     /// Every lease is sound: its record is proper and grounded, and no key that is next, waits in its tray or is outgoing lies below its floor.

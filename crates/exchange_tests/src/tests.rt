@@ -114,6 +114,11 @@ fn assert_runs_ahead(rt: &(impl Abort + AllocGlobal), lease: &mut Held, budget: 
     );
 }
 
+fn assert_waits(rt: &impl Abort, lease: &Held, is_sending: bool, is_idle: bool) {
+    assert!(rt; lease.is_sending() == is_sending);
+    assert!(rt; lease.is_idle() == is_idle);
+}
+
 // All leases in the order of their components.
 fn assert_all_run(rt: &(impl Abort + AllocGlobal), leases: &mut [Held], budgets: &[(u32, u32)]) {
     let mut number = 0;
@@ -136,6 +141,19 @@ fn leases_run_ahead_to_their_last_turn(rt: HostRuntime) {
         leases.as_mut_slice(),
         &[(0, 0), (1, 1), (5, 1), (5, 0)],
     );
+}
+
+// Component 0 has the token at the start, and passes it on; then it has nothing to do, as component 1 has from the start.
+#[test]
+fn a_lease_tells_whether_it_waits(rt: HostRuntime) {
+    let (_exchange, mut first, mut second) = two_leased(&rt, 1000);
+    assert_waits(&rt, &first, false, false);
+    assert_runs_ahead(&rt, &mut first, 1, 1);
+    assert_waits(&rt, &first, true, false);
+    assert_runs_ahead(&rt, &mut first, 1, 1);
+    assert_waits(&rt, &first, true, true);
+    assert_runs_ahead(&rt, &mut second, 1, 1);
+    assert_waits(&rt, &second, false, true);
 }
 
 #[test]

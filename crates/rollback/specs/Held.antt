@@ -1,5 +1,5 @@
 -- A component as its callers see it, and what each call does to it.
-use Rattle.std.specs.Prelude.{ℕ, Bool, true, false, not, List, [], ◌∷◌, Option, None, Some}
+use Rattle.std.specs.Prelude.{ℕ, Bool, true, false, is_some, not, List, [], ◌∷◌, Option, None, Some}
 use Rattle.terms.specs.Datum.{Datum}
 use Rattle.terms.specs.Named.{Named}
 use Rattle.event_keys.specs.declared.key.Bound.{Bound}
@@ -66,6 +66,12 @@ is_turning (Some (Input x)) = false
 abbrev pub last_key : {A : Type 0} → List (Entry A) → Option ℕ
 last_key [] = None
 last_key (e ∷ es) = Some (entry_key e)
+
+-- the last done entry is an own turn by which nothing was done
+abbrev pub is_last_idle : {A : Type 0} → List (Entry A) → Bool
+is_last_idle [] = false
+is_last_idle (Own k o ∷ es) = not (is_some o)
+is_last_idle (Input x ∷ es) = false
 
 -- the last done entry, the list of it alone
 abbrev pub last_of : {A : Type 0} → List (Entry A) → List (Entry A)

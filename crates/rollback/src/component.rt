@@ -1,8 +1,9 @@
 //! One component: what it has done, what waits, and its state.
-ghost use Rattle.std.specs.Prelude.{◌≡◌, ◌<◌, ◌+◌, ◌∷◌, ◌↔◌, [], None, Some, IfSome, true, length, IfOk, OnOk, OnErr, IsErrOf, IsTrue, IsSomeAnd, option_map};
+ghost use Rattle.std.specs.Prelude.{◌≡◌, ◌<◌, ◌+◌, ◌∷◌, ◌↔◌, [], None, Some, IfSome, true, length, IfOk, OnOk, OnErr, IsErrOf, IsTrue, IsSomeAnd, is_some, not, option_map};
 ghost use Rattle.std.specs.Arc.{arc_value};
 ghost use Rattle.event_keys.specs.declared.key.Bound.TheVariants.{At};
 ghost use Rattle.event_keys.specs.declared.message.Sign.TheVariants.{Plus, Minus};
+ghost use Rattle.event_keys.specs.Entries.{action_of};
 ghost use Rattle.event_keys.specs.Ranks.{rank, rank_of_bound};
 ghost use Rattle.raw_events.specs.Around.{is_nonempty};
 ghost use Rattle.plans.specs.Plans.{composition};
@@ -14,8 +15,8 @@ ghost use Rattle.rollback.specs.declared.refused.ProcessRefused.TheVariants.{NoM
 ghost use Rattle.task_seed.specs.Machines.{end_rank};
 ghost use Rattle.task_seed.specs.Setups.{system};
 ghost use Rattle.task_seed.specs.Turning.{key_of};
-ghost use Rattle.rollback.specs.Held.{machine_of, processed, sent_next, next_key, last_key, last_of, is_receiving, is_turning, start_record};
-ghost use Rattle.rollback.specs.Kept.{IsSmall, turn_receivers};
+ghost use Rattle.rollback.specs.Held.{machine_of, processed, sent_next, next_key, last_key, last_of, is_last_idle, is_receiving, is_turning, start_record};
+ghost use Rattle.rollback.specs.Kept.{IsSmall, entry_of, turn_receivers};
 ghost use Rattle.rollback.specs.Post.{IsPosted};
 ghost use Rattle.rollback.specs.Stepped.{next_entry, HasNextKey, stepped, IsNextSent, IsNextTurn};
 
@@ -25,7 +26,7 @@ use crate::growth::{outcome_at, post_all, receivers_of_turn, take_input, take_tu
 use crate::keys::{fits, is_below, key_of};
 use crate::refused::ProcessRefused;
 use antimessage::Bag;
-use event_keys::{Bound, Key, Signed, Turned};
+use event_keys::{Bound, Key, Outcome, Signed, Turned};
 use plans::laws::receivers_law;
 use raw_events::EventList;
 use std::alloc::Global;
@@ -160,6 +161,17 @@ impl<T: Turns> Component<T> {
         match self.done.peek_last() {
             None => None,
             Some(done) => Some(key_of(done)),
+        }
+    }
+
+    /// Whether the last done entry is a turn of its own by which it did nothing, where anything is done since the base. Such a component mostly
+    /// waits for a message.
+    pub fn is_idle(&self) -> bool
+        ensures { result ≡ is_last_idle self.now.history.done }
+    {
+        match self.done.peek_last() {
+            None => false,
+            Some(done) => is_idle_turn(done),
         }
     }
 
@@ -302,6 +314,25 @@ impl<T: Turns> Component<T> {
             Done::Input(cell) => self.pending.insert_sorted(cell),
         }
         true
+    }
+}
+
+// Whether a done entry is an own turn by which nothing was done.
+fn is_idle_turn(done: &Done) -> bool
+    ensures { result ≡ is_last_idle (entry_of done.now ∷ []) }
+{
+    match done {
+        Done::Turn(turned, _) => is_idle_outcome(&turned.value().outcome),
+        Done::Input(_) => false,
+    }
+}
+
+fn is_idle_outcome(outcome: &Outcome) -> bool
+    ensures { result ≡ not (is_some (action_of outcome.now)) }
+{
+    match outcome {
+        Outcome::Idle => true,
+        Outcome::Did(_) => false,
     }
 }
 

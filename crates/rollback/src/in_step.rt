@@ -165,6 +165,28 @@ pub(crate) fn are_same(mut left: Source<'_>, mut right: Source<'_>) -> bool
     true
 }
 
+// Whether the right source begins with all that the left one gives, in the same order. The right one loses it.
+pub(crate) fn begins_with(mut left: Source<'_>, right: &mut Source<'_>) -> bool
+    ensures { result ≡ true → (message : MessageValue) → count_source message right.old ≡ count_source message left.entry + count_source message right.new }
+{
+    while let Some(message) = left.take() {
+        if !is_same_next(Some(message), right.take()) {
+            return false;
+        }
+    }
+    true
+}
+
+// Whether no message has the sign.
+pub(crate) fn has_none_with(mut items: Iter<'_, Signed>, sign: Sign) -> bool
+    ensures { result ≡ true → (message : MessageValue) → count_as sign message items.entry ≡ 0 }
+{
+    match next_with(&mut items, sign) {
+        None => true,
+        Some(_) => false,
+    }
+}
+
 // What comes from a source, with the next message at hand.
 #[derive(Drop)]
 struct Ahead<'a> {

@@ -11,7 +11,7 @@ ghost use Rattle.rollback.specs.Levels.{all_of, signed_as, is_all_sent, is_all_t
 
 use crate::component::Component;
 use crate::done::Done;
-use crate::in_step::{Side, Source, are_in_step, are_same};
+use crate::in_step::{Side, Source, are_in_step, are_same, begins_with, has_none_with};
 use antimessage::Bag;
 use antimessage::laws::order_law;
 use event_keys::{Message, Sign, Signed};
@@ -349,26 +349,27 @@ impl Sendings<'_> {
         }
     }
 
-    // Whether nothing is to leave, and what stands is what the done turns sent, in the same order.
-    fn has_all_left(self) -> bool
+    // Whether what stands, and after it what is to leave, without an antimessage, is what the done turns sent, in the same order.
+    fn is_in_order(self) -> bool
         ensures { result ≡ true → (message : MessageValue) → count_standing message (record { standing = self.entry.standing.now; out = self.entry.out.now }) ≡ count_turns message (all_of self.entry.done.now) + count_as Minus message self.entry.out.now }
     {
-        if !self.out.is_empty() {
+        if !has_none_with(self.out.iter(), Sign::Minus) {
             return false;
         }
-        let standing = Source::with_sign(self.standing.iter(), Sign::Plus);
         let none = EventList::new();
-        are_same(
-            standing,
-            Source::antimessages(none.iter(), self.done.iter()),
-        )
+        let mut sent = Source::antimessages(none.iter(), self.done.iter());
+        let standing = Source::with_sign(self.standing.iter(), Sign::Plus);
+        if !begins_with(standing, &mut sent) {
+            return false;
+        }
+        are_same(Source::with_sign(self.out.iter(), Sign::Plus), sent)
     }
 
     // Whether one walk along both sides finds the same messages.
     fn is_in_step(self) -> bool
         ensures { result ≡ true → (message : MessageValue) → count_standing message (record { standing = self.entry.standing.now; out = self.entry.out.now }) ≡ count_turns message (all_of self.entry.done.now) + count_as Minus message self.entry.out.now }
     {
-        if self.has_all_left() {
+        if self.is_in_order() {
             return true;
         }
         let mut standing = Side::new(

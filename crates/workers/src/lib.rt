@@ -7,6 +7,7 @@ pub mod gate;
 pub mod laws;
 mod pace;
 mod patience;
+mod rounds;
 pub mod running;
 mod shared;
 mod working;

@@ -6,6 +6,9 @@ const MOST_SKIPS: u64 = 256;
 // How many entries a component has done since its base at most, whatever its window.
 const MOST_HELD: u64 = 256;
 
+// How many times in a row messages take nothing back before a component needn't be careful any more.
+const MANY_ARRIVALS: u32 = 128;
+
 // A component that is far ahead loses much to a straggler; one that is hardly ahead is visited for little. What it did beyond the messages that
 // came last and isn't committed is what the next ones may cost. So its window for that goes after what it could keep between two arrivals, and
 // grows where nothing is lost.
@@ -19,6 +22,8 @@ pub(crate) struct Pace {
     seen: u64,
     // How often its lease was passed over since.
     skips: u64,
+    // How many times in a row messages came and took nothing back.
+    kept: u32,
 }
 
 impl Pace {
@@ -28,7 +33,13 @@ impl Pace {
             ran: 0,
             seen: 0,
             skips: 0,
+            kept: MANY_ARRIVALS,
         }
+    }
+
+    // Whether messages took something back of late. Then the component is not to run on where it has sent something and waits for an answer.
+    pub(crate) fn is_careful(&self) -> bool {
+        self.kept < MANY_ARRIVALS
     }
 
     // How many of so many entries since the base were done beyond the last messages.
@@ -66,16 +77,29 @@ impl Pace {
         self.skips = 0;
     }
 
-    // Messages came or not, and so many entries were taken back. The window goes half of the way to what could be kept, or grows by one.
+    // Messages came or not, and so many entries were taken back. The window goes half of the way to what could be kept, or grows by one where it was
+    // used up.
     pub(crate) fn adapt(&mut self, came: bool, lost: usize, budget: u32) {
         if lost > 0 {
             let kept = self.ran.saturating_sub(lost as u64);
             self.window = (self.window.saturating_add(kept) / 2).max(1);
-        } else if came || self.ran >= self.window.saturating_mul(2) {
-            self.window = self.window.saturating_add(1).min(u64::from(budget));
+            self.kept = 0;
+        } else {
+            self.grow(came, budget);
         }
         if came {
             self.ran = 0;
+        }
+    }
+
+    // Nothing was taken back.
+    fn grow(&mut self, came: bool, budget: u32) {
+        let used = if came { 1 } else { 2 };
+        if self.ran >= self.window.saturating_mul(used) {
+            self.window = self.window.saturating_add(1).min(u64::from(budget));
+        }
+        if came {
+            self.kept = self.kept.saturating_add(1);
         }
     }
 

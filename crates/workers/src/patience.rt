@@ -12,7 +12,8 @@ const LOOKS_OF_FIRST: u32 = 32;
 const NAP: u64 = 50;
 
 // What a look at the exchange counts that found it away, and what one that found it there takes off; a worker rests where it comes to the
-// first of the next two numbers, and begins with the second afterwards. So it rests where the exchange is away at more than one look of four.
+// first of the next three numbers, and begins with the second afterwards, or, after a long rest, with the third. So it rests where the exchange is
+// away at more than one look of four, and one that had to rest for long looks a few times only, since each look costs those that work.
 const AWAY: u32 = 3;
 
 const THERE: u32 = 1;
@@ -21,8 +22,13 @@ const CROWDED: u32 = 24;
 
 const LESS_CROWDED: u32 = 12;
 
-// How often a rest may be twice as long as the one before.
-const MOST_DOUBLINGS: u32 = 6;
+const NEARLY_CROWDED: u32 = 21;
+
+// How often a rest may be twice as long as the one before, and how often a nap may be: a longer rest is some naps, between which the worker sees
+// whether the run has ended.
+const MOST_DOUBLINGS: u32 = 11;
+
+const MOST_NAP_DOUBLINGS: u32 = 5;
 
 // Where turns are cheap and each waits for a message, a second worker does nothing but take the exchange from the first. So a worker that finds
 // it away too often rests, each time longer, but the first worker, which never does.
@@ -35,6 +41,9 @@ pub(crate) struct Patience {
     crowd: u32,
     // How often the worker rested since it was last alone.
     rests: u32,
+    // How many naps are left of a rest, and how long each is, in microseconds.
+    naps: u32,
+    nap: u64,
 }
 
 impl Patience {
@@ -44,7 +53,19 @@ impl Patience {
             vain: 0,
             crowd: 0,
             rests: 0,
+            naps: 0,
+            nap: NAP,
         }
+    }
+
+    // Naps, if a rest isn't over yet, and answers whether it did.
+    pub(crate) fn rest_on<R: Wait>(&mut self, rt: &R) -> bool {
+        if self.naps == 0 {
+            return false;
+        }
+        self.naps -= 1;
+        nap(rt, self.nap);
+        true
     }
 
     // The exchange was had after so many vain looks. Whether the worker is to rest.
@@ -73,12 +94,24 @@ impl Patience {
         self.vain = 0;
     }
 
+    // Begins a rest, twice as long as the one before.
+    fn begin_rest(&mut self) {
+        let doublings = self.rests.saturating_add(1).min(MOST_DOUBLINGS);
+        let of_nap = doublings.min(MOST_NAP_DOUBLINGS);
+        self.crowd = if doublings == of_nap {
+            LESS_CROWDED
+        } else {
+            NEARLY_CROWDED
+        };
+        self.rests = doublings;
+        self.nap = NAP << of_nap;
+        self.naps = 1 << (doublings - of_nap);
+    }
+
     // Lets other threads go on.
     pub(crate) fn wait<R: Wait>(&mut self, rt: &R) {
         if self.is_crowded() {
-            self.crowd = LESS_CROWDED;
-            self.rests = self.rests.saturating_add(1).min(MOST_DOUBLINGS);
-            nap(rt, NAP << self.rests);
+            self.begin_rest();
         } else if self.vain < self.looks() {
             self.vain = self.vain.saturating_add(1);
             thread::yield_now();

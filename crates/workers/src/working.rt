@@ -7,6 +7,7 @@ use crate::crew::{Paced, Worker};
 use crate::fault::WorkFault;
 use crate::gate::Gate;
 use crate::patience::Patience;
+use crate::rounds::Rounds;
 use crate::shared::{Shared, end, ends, hold, note};
 use event_keys::Bound;
 use exchange::{Exchange, Lease, MeetRefused};
@@ -34,12 +35,16 @@ pub(crate) fn work<T: Turns, G: Gate<T>, R: Wait>(
     requires { IsOf shared.now worker }
 {
     let mut patience = Patience::new(worker.number);
+    let mut rounds = Rounds::new();
     let mut done = None;
     for _ in rt.forever() {
         if ends(shared) {
             break;
         }
-        let visit = match change(rt, shared, &mut worker, &mut patience, done) {
+        if patience.rest_on(rt) {
+            continue;
+        }
+        let visit = match change(rt, shared, &mut worker, &mut patience, &mut rounds, done) {
             Ok(visit) => visit,
             Err(refused) => {
                 note(rt, shared, WorkFault::Meeting(refused));
@@ -73,6 +78,7 @@ fn change<T: Turns, R: Wait>(
     shared: &Shared<T>,
     worker: &mut Worker<T>,
     patience: &mut Patience,
+    rounds: &mut Rounds,
     done: Option<Paced<T>>,
 ) -> Result<Option<Visit<T>>, MeetRefused>
     requires own { IsOf shared.now worker.old }
@@ -83,7 +89,7 @@ fn change<T: Turns, R: Wait>(
     let mut looks = 0;
     let mut lent = hold(rt, shared, &mut worker.lock, &mut looks);
     let rests = patience.note(looks);
-    let visit = go_round(rt, shared, &mut *lent.exchange, worker, done, rests);
+    let visit = go_round(rt, shared, &mut *lent.exchange, worker, rounds, done, rests);
     shared.exchange.give_back(rt, &mut worker.lock, lent);
     visit
 }
@@ -93,6 +99,7 @@ fn go_round<T: Turns, R: Wait>(
     shared: &Shared<T>,
     exchange: &mut Exchange<T>,
     worker: &mut Worker<T>,
+    rounds: &mut Rounds,
     done: Option<Paced<T>>,
     rests: bool,
 ) -> Result<Option<Visit<T>>, MeetRefused>
@@ -105,16 +112,30 @@ fn go_round<T: Turns, R: Wait>(
     ensures held { IfOk result (λ visit. IfSome visit (λ it. Holds worker.new.pass it.paced)) }
 {
     share(rt, shared, exchange, worker, done)?;
+    let mail_waits = has_mail_for_any(exchange);
+    if rounds.begin(mail_waits, shared.components) {
+        rounds.note(commit(shared, exchange, worker));
+    }
+    if rests || ends(shared) {
+        return Ok(None);
+    }
+    take_due(rt, shared, exchange, worker, rounds, mail_waits)
+}
+
+// Raises the bound, publishes the number of the turns below it, which is answered, and sees whether all is finished.
+fn commit<T: Turns>(shared: &Shared<T>, exchange: &mut Exchange<T>, worker: &mut Worker<T>) -> u64
+    requires own { IsOf shared.now worker.old }
+    ensures own { IsOf shared.now worker.new }
+    ensures setup { exchange.new.setup ≡ exchange.old.setup }
+    ensures lock { worker.new.lock ≡ worker.old.lock }
+    ensures pass { worker.new.pass ≡ worker.old.pass }
+{
     let count = exchange.commit();
     shared.published.publish(&mut worker.seat, count);
     if exchange.finished() {
         end(shared);
-        return Ok(None);
     }
-    if rests {
-        return Ok(None);
-    }
-    take_due(rt, shared, exchange, worker, count)
+    count
 }
 
 // A lease tells what was done of it, and goes back to the pool, if there is one.
@@ -158,7 +179,8 @@ fn take_due<T: Turns, R: Wait>(
     shared: &Shared<T>,
     exchange: &mut Exchange<T>,
     worker: &mut Worker<T>,
-    count: u64,
+    rounds: &mut Rounds,
+    mail_waits: bool,
 ) -> Result<Option<Visit<T>>, MeetRefused>
     requires own { IsOf shared.now worker.old }
     requires setup { (holding worker.old.lock).kind ≡ Some exchange.old.setup }
@@ -167,11 +189,16 @@ fn take_due<T: Turns, R: Wait>(
     ensures lock { worker.new.lock ≡ worker.old.lock }
     ensures held { IfOk result (λ visit. IfSome visit (λ it. Holds worker.new.pass it.paced)) }
 {
-    let waits = has_mail_for_any(exchange);
-    match take_some(rt, shared, exchange, worker, count, waits)? {
-        Some(visit) => Ok(Some(visit)),
-        None => take_some(rt, shared, exchange, worker, count, false),
+    if mail_waits {
+        let visit = take_some(rt, shared, exchange, worker, rounds.count(), true)?;
+        if visit.is_some() {
+            return Ok(visit);
+        }
     }
+    if !rounds.has_committed() {
+        rounds.note(commit(shared, exchange, worker));
+    }
+    take_some(rt, shared, exchange, worker, rounds.count(), false)
 }
 
 // Whether messages wait for some component.
@@ -283,9 +310,38 @@ fn advance<T: Turns, G: Gate<T>>(
     let most = if came { budget } else { 0 };
     let caught_up = catch_up(alloc, gate, lease, first, most)?;
     let allowed = paced.pace.allowed(lease.depth(), holds_up);
-    let count = gate.ahead(alloc, lease, allowed.min(budget - caught_up))?;
+    let most = allowed.min(budget - caught_up);
+    let count = run_on(alloc, gate, lease, most, paced.pace.is_careful())?;
     paced.pace.add(count);
     Ok(())
+}
+
+// Runs a lease on by at most so many entries, and answers how many were done. One that is careful ends where it has sent something and then did
+// nothing: it mostly waits for an answer then, and what it did until that comes would be taken back.
+fn run_on<T: Turns, G: Gate<T>>(
+    alloc: Global,
+    gate: &G,
+    lease: &mut Lease<T>,
+    most: u32,
+    is_careful: bool,
+) -> Result<u32, NoMemory>
+    ensures number { lease.new.component.number ≡ lease.old.component.number }
+    ensures setup { lease.new.component.setup ≡ lease.old.component.setup }
+{
+    if !is_careful {
+        return gate.ahead(alloc, lease, most);
+    }
+    for count in 0..most {
+        if waits_for_answer(lease) || gate.ahead(alloc, lease, 1)? == 0 {
+            return Ok(count);
+        }
+    }
+    Ok(most)
+}
+
+// Whether a lease has sent something and then did nothing.
+fn waits_for_answer<T: Turns>(lease: &Lease<T>) -> bool {
+    lease.is_sending() && lease.is_idle()
 }
 
 // Delivers what came to a lease, and answers whether anything did.
