@@ -118,7 +118,8 @@ fn next_receiver(out: &Bag, copies: &Bag) -> Option<u16>
     }
 }
 
-// Signed messages come to the stub of a component, if there is one, and copies of the messages.
+// Signed messages come to the stub of a component, if there is one, and copies of the messages. It stays a call, since most meetings send nothing.
+#[inline(never)]
 fn bring(stubs: &mut [Stub], to: u16, came: Bag, copies: Bag)
     ensures { IsBrought to came copies stubs.old stubs.new }
 {

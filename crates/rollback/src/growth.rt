@@ -99,7 +99,9 @@ pub(crate) fn outcome_at<T: Turns>(
     }
 }
 
-// One message of the action for each receiver, the first nearest to the cursor.
+// One message of the action for each receiver, the first nearest to the cursor. It stays a call, so that idle turns, which are most, don't pay for
+// it.
+#[inline(never)]
 fn signed_cells(
     alloc: Global,
     key: Key,
@@ -137,6 +139,7 @@ pub(crate) fn receivers_of_turn<T: Turns>(
 }
 
 /// What came of a turn as one message for each receiver, the first nearest to the cursor.
+#[inline(always)]
 pub(crate) fn messages_to(
     alloc: Global,
     turned: &Turned,

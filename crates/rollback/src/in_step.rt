@@ -103,6 +103,7 @@ impl<'a> Source<'a> {
         Source::Turns(Antimessages { turn, rest })
     }
 
+    #[inline(always)]
     fn take(&mut self) -> Option<&'a Message>
         ensures count { (message : MessageValue) → count_source message self.old ≡ count_next message result + count_source message self.new }
         ensures none { IfNone result ((message : MessageValue) → count_source message self.new ≡ 0) }
@@ -118,6 +119,7 @@ impl<'a> Source<'a> {
 }
 
 // Whether both are the same message, or neither is there.
+#[inline(always)]
 fn is_same_next(one: Option<&Message>, other: Option<&Message>) -> bool
     ensures { result ≡ true → (message : MessageValue) → count_next message one.entry ≡ count_next message other.entry }
 {
@@ -131,6 +133,7 @@ fn is_same_next(one: Option<&Message>, other: Option<&Message>) -> bool
 }
 
 // Whether both are the same message; nothing where neither is there.
+#[inline(always)]
 fn compare(one: Option<&Message>, other: Option<&Message>) -> Option<bool>
     ensures some { IfSome result (λ same. same ≡ true → (message : MessageValue) → count_next message one.entry ≡ count_next message other.entry) }
     ensures none { IfNone result ((size_next one.entry ≡ 0) × (size_next other.entry ≡ 0) × ((message : MessageValue) → count_next message one.entry ≡ count_next message other.entry)) }
@@ -143,6 +146,7 @@ fn compare(one: Option<&Message>, other: Option<&Message>) -> Option<bool>
 }
 
 // Both sources lose their next message; whether that was the same one.
+#[inline(always)]
 fn step_alone(left: &mut Source<'_>, right: &mut Source<'_>) -> Option<bool>
     ensures some { IfSome result (λ same. same ≡ true → (message : MessageValue) → count_source message left.old + count_source message right.new ≡ count_source message right.old + count_source message left.new) }
     ensures none { IfNone result ((message : MessageValue) → count_source message left.old ≡ count_source message right.old) }
@@ -154,6 +158,7 @@ fn step_alone(left: &mut Source<'_>, right: &mut Source<'_>) -> Option<bool>
 }
 
 // Whether two sources give the same messages in the same order; then each has every message as often as the other.
+#[inline(always)]
 pub(crate) fn are_same(mut left: Source<'_>, mut right: Source<'_>) -> bool
     ensures { result ≡ true → (message : MessageValue) → count_source message left.entry ≡ count_source message right.entry }
 {
@@ -166,6 +171,7 @@ pub(crate) fn are_same(mut left: Source<'_>, mut right: Source<'_>) -> bool
 }
 
 // Whether the right source begins with all that the left one gives, in the same order. The right one loses it.
+#[inline(always)]
 pub(crate) fn begins_with(mut left: Source<'_>, right: &mut Source<'_>) -> bool
     ensures { result ≡ true → (message : MessageValue) → count_source message right.old ≡ count_source message left.entry + count_source message right.new }
 {
@@ -178,6 +184,7 @@ pub(crate) fn begins_with(mut left: Source<'_>, right: &mut Source<'_>) -> bool
 }
 
 // Whether no message has the sign.
+#[inline(always)]
 pub(crate) fn has_none_with(mut items: Iter<'_, Signed>, sign: Sign) -> bool
     ensures { result ≡ true → (message : MessageValue) → count_as sign message items.entry ≡ 0 }
 {

@@ -256,9 +256,14 @@ impl Takings<'_> {
     fn is_in_step(self) -> bool
         ensures { result ≡ true → (message : MessageValue) → is_taken_level self.entry message ≡ true }
     {
-        if self.is_all_done() {
-            return true;
-        }
+        self.is_all_done() || self.is_merged_in_step()
+    }
+
+    // The same where something waits, which is rare, so that it stays a call.
+    #[inline(never)]
+    fn is_merged_in_step(self) -> bool
+        ensures { result ≡ true → (message : MessageValue) → is_taken_level self.entry message ≡ true }
+    {
         let mut came = Side::new(
             Source::with_sign(self.taken.iter(), Sign::Plus),
             Source::with_sign(self.owed.iter(), Sign::Minus),
@@ -280,6 +285,7 @@ impl Takings<'_> {
     }
 
     // The same of all messages to the component.
+    #[inline(never)]
     fn is_all_level(self, to: u16) -> bool
         ensures { result ≡ is_all_taken self.entry to }
     {
@@ -369,9 +375,14 @@ impl Sendings<'_> {
     fn is_in_step(self) -> bool
         ensures { result ≡ true → (message : MessageValue) → count_standing message (record { standing = self.entry.standing.now; out = self.entry.out.now }) ≡ count_turns message (all_of self.entry.done.now) + count_as Minus message self.entry.out.now }
     {
-        if self.is_in_order() {
-            return true;
-        }
+        self.is_in_order() || self.is_merged_in_step()
+    }
+
+    // The same where antimessages are to leave, which is rare, so that it stays a call.
+    #[inline(never)]
+    fn is_merged_in_step(self) -> bool
+        ensures { result ≡ true → (message : MessageValue) → count_standing message (record { standing = self.entry.standing.now; out = self.entry.out.now }) ≡ count_turns message (all_of self.entry.done.now) + count_as Minus message self.entry.out.now }
+    {
         let mut standing = Side::new(
             Source::with_sign(self.standing.iter(), Sign::Plus),
             Source::with_sign(self.out.iter(), Sign::Plus),
@@ -387,6 +398,7 @@ impl Sendings<'_> {
     }
 
     // The same of all messages of the component.
+    #[inline(never)]
     fn is_all_level(self, from: u16) -> bool
         ensures { result ≡ is_all_sent self.entry from }
     {

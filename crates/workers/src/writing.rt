@@ -27,7 +27,7 @@ const LEAST_PAUSE: u64 = 10;
 const MOST_PAUSE: u64 = 200;
 
 // How many turns are worth a look.
-const MANY_TURNS: u64 = 64;
+const MANY_TURNS: u64 = 256;
 
 // Turns that no chunk has given before, how many were given before them and with them, and whether they are the last ones.
 #[derive(Drop)]

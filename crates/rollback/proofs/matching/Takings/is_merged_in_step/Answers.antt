@@ -3,7 +3,7 @@ use Rattle.std.proofs.lemmas.Bool.{eq-eqb}
 use Rattle.event_keys.specs.declared.message.Sign.TheVariants.{Plus, Minus}
 use Rattle.rollback.specs.Levels.{count_as}
 use Rattle.rollback.specs.Sides.{count_inputs}
-use Rattle.rollback.proofs.matching.Takings.is_in_step.Goals as goal
+use Rattle.rollback.proofs.matching.Takings.is_merged_in_step.Goals as goal
 
 pub returns : goal.returns
 returns c one_is message =
