@@ -82,7 +82,8 @@ fn workers<R: Threads + Wait + Sync + Clock>(
     Ok((summary.turns, spent, out.into_inner().taken))
 }
 
-// Prints the speeds for one source, in turns a millisecond.
+// Prints the speeds for one source, in turns a millisecond. One thread is measured beside each crew, since a machine may be faster at one time than
+// at another.
 fn measure<R: Threads + Wait + Sync + Clock + Print>(
     rt: &R,
     alloc: Global,
@@ -90,9 +91,9 @@ fn measure<R: Threads + Wait + Sync + Clock + Print>(
     text: &str,
     ticks: u64,
 ) -> Result<()> {
-    let (alone, wanted) = one_thread(rt, alloc, text, ticks)?;
     for crew in [1u16, 2, 4] {
         for budget in [1u32, 8, 64, 1024] {
+            let (alone, wanted) = one_thread(rt, alloc, text, ticks)?;
             let (turns, spent, taken) = workers(rt, alloc, text, ticks, crew, budget)?;
             let same = if taken == wanted {
                 ""
