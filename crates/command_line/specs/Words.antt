@@ -22,9 +22,13 @@ file_rule name = record (new_rule name) { required = true }
 abbrev pub of_file : Text → Text → App
 of_file name file = with_rule (new_app name) (file_rule file)
 
--- the program: one of its subcommands has to be named, and the words begin after the program's name
+-- the program: one of its subcommands has to be named, or its version asked for, and the words begin after the program's name
 abbrev pub bare : App
-bare = record (new_app (codes "warp")) { top = record (new_app (codes "warp")).top { no_binary_name = true; subcommand_required = true } }
+bare = record (new_app (codes "warp")) { top = record (new_app (codes "warp")).top { no_binary_name = true; subcommand_required = true; has_version = true } }
+
+-- name, version and toolchain
+abbrev pub version_text : List ℕ
+version_text = codes "warp 0.1.0\nproved with rattle-kit-13f logic dac8208d650f15bf\n"
 
 abbrev pub print_app : App
 print_app = of_file (codes "print") (codes "F")
@@ -147,23 +151,26 @@ HasFault words kind = IsAmong kind (fault_of warp words)
 abbrev pub IsAsked : List Text → Asked → Type 0
 IsAsked words a = (fault_of warp words ≡ []) × IsNamed (subcommand_of warp words) a
 
--- a fault that isn't a call for help
+-- a fault that is no call for help and no question for the version
 pub record IsWrong (words : List Text) : Type 0 where
   pub kind : ErrorKind
   pub found : HasFault words kind
-  pub other : kind ≢ error.DisplayHelp
+  pub no_help : kind ≢ error.DisplayHelp
+  pub no_version : kind ≢ error.DisplayVersion
 
--- the words name no subcommand with its files and options
+-- the words are without fault, and name no subcommand with its files and options
 abbrev pub AskNothing : List Text → Type 0
-AskNothing words = (a : Asked) → IsNamed (subcommand_of warp words) a → ⊥
+AskNothing words = (fault_of warp words ≡ []) × ((a : Asked) → IsNamed (subcommand_of warp words) a → ⊥)
 
 abbrev pub IsRefused : List Text → Refused → Type 0
 IsRefused words refused.NoMemory = Unit {0}
 IsRefused words (refused.Help e) = HasFault words error.DisplayHelp
+IsRefused words refused.Version = HasFault words error.DisplayVersion
 IsRefused words (refused.Words e) = IsWrong words ⊎ AskNothing words
 
 -- how an error of this kind is told
 abbrev pub IsTold : ErrorKind → Refused → Type 0
 IsTold kind refused.NoMemory = kind ≡ error.OutOfMemory
 IsTold kind (refused.Help e) = kind ≡ error.DisplayHelp
-IsTold kind (refused.Words e) = (kind ≢ error.OutOfMemory) × (kind ≢ error.DisplayHelp)
+IsTold kind refused.Version = kind ≡ error.DisplayVersion
+IsTold kind (refused.Words e) = (kind ≢ error.OutOfMemory) × ((kind ≢ error.DisplayHelp) × (kind ≢ error.DisplayVersion))

@@ -6,7 +6,7 @@ ghost use Rattle.clap.specs.Words.{app_of, first_of, found_of, kind_of, rows_of,
 ghost use Rattle.command_line.specs.declared.Asked.{Asked as AskedValue};
 ghost use Rattle.command_line.specs.declared.crew.Crew.{Crew as CrewValue};
 ghost use Rattle.command_line.specs.declared.Options.{Options as OptionsValue};
-ghost use Rattle.command_line.specs.Words.{warp, file_rule, number_rule, table_rule, trace_rule, simulating, manned, print_app, reference_app, run_app, check_app, drive_app, HasCrew, HasOptions, IsAsked, IsFlag, IsNamed, IsNumber, IsRefused, IsTold};
+ghost use Rattle.command_line.specs.Words.{version_text, warp, file_rule, number_rule, table_rule, trace_rule, simulating, manned, print_app, reference_app, run_app, check_app, drive_app, HasCrew, HasOptions, IsAsked, IsFlag, IsNamed, IsNumber, IsRefused, IsTold};
 ghost use Rattle.command_line.specs.declared.Refused.TheVariants.{NoMemory};
 
 mod crew;
@@ -72,6 +72,8 @@ pub enum Refused {
     NoMemory,
     /// The words ask for help, which is the text of the error.
     Help(Error),
+    /// The words ask for the program's version.
+    Version,
     /// The words aren't those of the program; the text of the error says why.
     Words(Error),
 }
@@ -82,6 +84,13 @@ impl From<AllocError> for Refused {
     fn from(_refused: AllocError) -> Refused {
         Refused::NoMemory
     }
+}
+
+/// What `--version` writes: the program's name and version, and the toolchain by which it was proved and built, as that names itself.
+pub fn version() -> &'static str
+    ensures { result.now ≡ version_text }
+{
+    "warp 0.1.0\nproved with rattle-kit-13f logic dac8208d650f15bf\n"
 }
 
 /// Reads the words after the program's name.
@@ -110,6 +119,7 @@ fn described<'a>(alloc: Global) -> Result<Command<'a>, AllocError>
 {
     Command::new(alloc, "warp")
         .about("A parallel simulator of composed I/O automata")
+        .version(version())
         .no_binary_name(true)
         .subcommand_required(true)
         .subcommand(print(alloc)?)?
@@ -374,6 +384,7 @@ fn refusal_of(error: Error) -> Refused
     match error.kind() {
         ErrorKind::OutOfMemory => Refused::NoMemory,
         ErrorKind::DisplayHelp => Refused::Help(error),
+        ErrorKind::DisplayVersion => Refused::Version,
         _ => Refused::Words(error),
     }
 }

@@ -1,5 +1,5 @@
 -- What is committed is a beginning of the reference.
-use Rattle.std.proofs.Common.{◌≡◌, ℕ, ◌/◌, ◌%◌, ◌^◌, ◌≤◌, Option, None, Some, List, [], ◌∷◌, ◌++◌, map, reverse, refl, ap, sym, ◌∙◌, arith}
+use Rattle.std.proofs.Common.{◌≡◌, ℕ, ◌/◌, ◌%◌, ◌^◌, ◌≤◌, Option, None, Some, List, [], ◌∷◌, ◌++◌, map, reverse, refl, ap, sym, subst, ◌∙◌, arith}
 use Rattle.std.proofs.lemmas.Grind.{flat_map-append}
 use Rattle.std.proofs.lemmas.List.{map-append, reverse-append, reverse-reverse}
 use Rattle.terms.specs.Datum.{Datum}
@@ -15,6 +15,7 @@ use Rattle.virtual_time.specs.Reference.{Turn, IsReference, after, reference_bel
 use Rattle.plans.specs.declared.plan.Plan.{Plan}
 use Rattle.task_seed.specs.Machines.{machine, end_rank}
 use Rattle.task_seed.specs.Turning.{System}
+use Rattle.reference.specs.Schedules.{HasSchedules}
 use Rattle.reference.specs.Views.{turn_of, turns_of}
 use Rattle.trace.specs.declared.lines.Lines.{Lines}
 use Rattle.trace.specs.Lines.{shown_text, text_of}
@@ -65,15 +66,18 @@ low_bound m b turns law is =
 abbrev pub Begins : Machine (List Datum) Named → Type 0
 Begins m = (b c : ℕ) (turns later_turns : List (Turn Named)) → b ≤ c → IsReference m b turns → IsReference m c later_turns → (extra : List (Turn Named)) × (later_turns ≡ extra ++ turns)
 
-pub beginning : (s : System) (plan : Plan) (lines : Lines) (b : ℕ) (newest : List Turned) → Lawful (machine s) → Begins (machine s) → IsReference (machine s) end_rank (reference_below (machine s) end_rank)
-    → IsReference (machine s) b (map turn_of newest) → IsBeginning plan s lines (reverse newest)
-beginning s plan lines b newest law begins whole is =
+pub beginning : (s : System) (plan : Plan) (lines : Lines) (b : ℕ) (newest : List Turned) → HasSchedules plan s → Lawful (machine s) → Begins (machine s)
+    → IsReference (machine s) end_rank (reference_below (machine s) end_rank) → IsReference (machine s) b (map turn_of newest) → IsBeginning plan s lines (reverse newest)
+beginning s plan lines b newest schedules law begins whole is =
     let found = begins b end_rank (map turn_of newest) (reference_below (machine s) end_rank) (low_bound (machine s) b (map turn_of newest) law is) is whole in
     let extra = found.0 in
     let later : List Turned = reverse (map turned_of extra) in
+    let all : turns_of (reverse newest ++ later) ≡ reference_below (machine s) end_rank
+    = turns_joined (reverse newest) later ∙ (λ i. (newest_first (map turned_of extra) ∙ turns_again extra) i ++ newest_first newest i) ∙ sym found.1 in
     record {
+      scheduled = schedules (reverse newest) b (subst (IsReference (machine s) b) (sym (newest_first newest)) is);
       all = reverse newest ++ later;
-      are = turns_joined (reverse newest) later ∙ (λ i. (newest_first (map turned_of extra) ∙ turns_again extra) i ++ newest_first newest i) ∙ sym found.1;
+      are = record { all = all; scheduled = schedules (reverse newest ++ later) end_rank (subst (IsReference (machine s) end_rank) (sym all) whole) };
       rest = text_of plan lines later;
       begins = flat_map-append (shown_text plan lines) (reverse newest) later;
     }

@@ -3,14 +3,14 @@ use Rattle.std.specs.Prelude.{◌≡◌, ◌++◌, ◌+◌, ℕ, List, [], ◌�
 use Rattle.terms.specs.Datum.{Datum}
 use Rattle.terms.specs.Named.{Named}
 use Rattle.event_keys.specs.declared.outcome.Turned.{Turned}
-use Rattle.virtual_time.specs.Reference.{reference_below}
 use Rattle.virtual_time.specs.Replies.{Reply, Processed, Delivered, Met, RolledBack, Committed, Refused, Runs}
 use Rattle.virtual_time.specs.Worlds.{World, start_world}
 use Rattle.plans.specs.declared.plan.Plan.{Plan}
-use Rattle.task_seed.specs.Machines.{machine, end_rank}
+use Rattle.task_seed.specs.Machines.{machine}
 use Rattle.task_seed.specs.Turning.{System}
 use Rattle.world.specs.declared.step.Step.{Step}
 use Rattle.world.specs.Steps.{step_of}
+use Rattle.reference.specs.Schedules.{AreAllTurns, AreSchedule}
 use Rattle.reference.specs.Views.{turns_of}
 use Rattle.trace.specs.declared.fault.WriteFault.{WriteFault}
 use Rattle.trace.specs.declared.lines.Lines.{Lines}
@@ -33,10 +33,12 @@ abbrev pub refused_from : ℕ → List Reply → List RefusedStep
 refused_from place [] = []
 refused_from place (reply ∷ replies) = add_refused place reply (refused_from (place + 1) replies)
 
--- the text of the turns is a beginning of the text of all turns of the simulator that always takes the least key
+-- the text of the turns is a beginning of the text of all turns of the simulator that always takes the least key, and their actions are a schedule of
+-- the plan
 pub record IsBeginning (plan : Plan) (system : System) (lines : Lines) (turns : List Turned) : Type 0 where
+  pub scheduled : AreSchedule plan turns
   pub all : List Turned
-  pub are : turns_of all ≡ reference_below (machine system) end_rank
+  pub are : AreAllTurns plan system all
   pub rest : List ℕ
   pub begins : text_of plan lines all ≡ text_of plan lines turns ++ rest
 

@@ -11,6 +11,7 @@ ghost use Rattle.world.specs.Steps.{answer_of};
 ghost use Rattle.commands.specs.Driven.{IsBeginning, IsDriven, IsUndriven, refused_from};
 
 use crate::fault::DriveFault;
+use reference::laws::turns_are_schedule;
 use std::alloc::{AllocError, Global};
 use std::io::Write;
 use std::sync::Arc;
@@ -91,11 +92,12 @@ fn refused_steps(
     Ok(refused)
 }
 
-// The text of what is committed is a beginning of that of all turns. The call does nothing.
+// The text of what is committed is a beginning of that of all turns, and its actions are a schedule. The call does nothing.
 fn committed_begins<T: Turns>(world: &World<T>, lines: Lines)
     ensures { IsBeginning (plan_of world.now.setup) (system T.turn_of world.now.setup) lines (reverse world.now.committed) }
 {
     machine_is_lawful(world.setup());
+    turns_are_schedule(world.setup());
     reference_is_one::<State, Action>();
     reference_is_complete::<State, Action>();
     let _ = world.committed();

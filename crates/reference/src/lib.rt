@@ -3,6 +3,7 @@
 
 pub mod checking;
 mod frontier;
+pub mod laws;
 pub mod scheduling;
 pub mod simulator;
 mod taking;

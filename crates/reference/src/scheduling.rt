@@ -1,17 +1,16 @@
 //! All turns of a setup.
 ghost use Rattle.std.specs.Prelude.{◌≡◌, [], IfOk};
 ghost use Rattle.std.specs.BinaryHeap.{heap_items};
-ghost use Rattle.plans.specs.Plans.{composition};
-ghost use Rattle.plans.specs.Steps.{IsSchedule};
 ghost use Rattle.task_seed.specs.Setups.{system, plan_of};
 ghost use Rattle.task_seed.specs.Machines.{machine, end_rank};
 ghost use Rattle.virtual_time.specs.Reference.{IsReference, reference_below};
 ghost use Rattle.reference.specs.Standing.{taken_at, Stands};
-ghost use Rattle.reference.specs.Views.{turns_of, actions_of};
+ghost use Rattle.reference.specs.Schedules.{AreAllTurns};
+ghost use Rattle.reference.specs.Views.{turns_of};
 
 use crate::frontier::Frontier;
+use crate::laws::turns_are_schedule;
 use event_keys::Turned;
-use plans::laws::{compatible, turn_is_step};
 use std::alloc::Global;
 use task_seed::laws::machine_is_lawful;
 use task_seed::{Setup, Turns};
@@ -42,13 +41,9 @@ fn take_all<T: Turns>(
 /// All turns up to the horizon, in the order of their keys. One state of each component is kept, and all turns.
 pub fn schedule<T: Turns>(alloc: Global, setup: &Setup<T>) -> Result<Vec<Turned>, NoMemory>
     ensures reference { IfOk result (λ turns. IsReference (machine (system T.turn_of setup.now)) end_rank (turns_of turns.items)) }
-    ensures turns { IfOk result (λ turns. turns_of turns.items ≡ reference_below (machine (system T.turn_of setup.now)) end_rank) }
-    ensures schedule { IfOk result (λ turns. IsSchedule (composition (plan_of setup.now)) (actions_of turns.items)) }
+    ensures all { IfOk result (λ turns. AreAllTurns (plan_of setup.now) (system T.turn_of setup.now) turns.items) }
 {
-    machine_is_lawful(setup);
-    reference_is_complete::<State, Action>();
-    compatible(setup.plan());
-    turn_is_step(setup.plan());
+    turns_are_schedule(setup);
     let mut frontier = Frontier::start(alloc, setup)?;
     let turns = take_all(alloc, setup, &mut frontier)?;
     Ok(turns)

@@ -58,7 +58,7 @@ module _ {W : Type 0} (known : W → Option (List ℕ)) (old new : Counted W) (p
   unfinished_reported (fault.Write failed) left = inr (record {
     number_is = refl;
     written = left.cut.part;
-    stopped = record { turns = left.turns; all = left.all; cut = record { short = left.cut.short; bytes = left.cut.bytes; failures = left.cut.failures } };
+    stopped = record { turns = left.turns; are = left.are; cut = record { short = left.cut.short; bytes = left.cut.bytes; failures = left.cut.failures } };
   })
   unfinished_reported fault.ThreadRefused left = inl (inr (inr (inr (inl refl))), inr left)
   unfinished_reported fault.OutOfPlace left = inl (inr (inr (inr (inr refl))), inr left)

@@ -1,9 +1,9 @@
 -- Statuses, lines and when each report is given.
 use Rattle.std.specs.Prelude.{◌≡◌, ◌⊎◌, ◌==◌, ◌||◌, ◌&&◌, nat_le, ℕ, Bool, if◌then◌else◌, Option, None, Some, List, [], ◌++◌, codes, decimal, flat_map}
-use Rattle.clap.specs.declared.error.ErrorKind.TheVariants.{DisplayHelp}
+use Rattle.clap.specs.declared.error.ErrorKind.TheVariants.{DisplayHelp, DisplayVersion}
 use Rattle.command_line.specs.declared.Asked.{Asked}
 use Rattle.command_line.specs.declared.Asked.TheVariants as asked
-use Rattle.command_line.specs.Words.{AskNothing, HasFault, IsAsked, IsWrong}
+use Rattle.command_line.specs.Words.{AskNothing, HasFault, IsAsked, IsWrong, version_text}
 use Rattle.service.specs.declared.report.Report.{Report}
 use Rattle.service.specs.declared.report.Report.TheVariants.{Done, No, Driven, Refused, Fault, Misused}
 use Rattle.commands.specs.declared.driving.RefusedStep.{RefusedStep}
@@ -84,19 +84,29 @@ pub record IsHelped (words : List (List ℕ)) (Became : List ℕ → Type 0) : T
   pub asked : HasFault words DisplayHelp
   pub went : SomeText Became
 
--- a write of help's text failed (60)
-pub record IsHelpCut (words : List (List ℕ)) (cut : List ℕ → ℕ → Type 0) (number : ℕ) : Type 0 where
+-- the words ask for the version, and this became of its text
+pub record IsVersioned (words : List (List ℕ)) (Became : List ℕ → Type 0) : Type 0 where
+  pub asked : HasFault words DisplayVersion
+  pub went : Became version_text
+
+-- the words ask for help or for the version, and this became of the text
+abbrev pub IsInformed : List (List ℕ) → (List ℕ → Type 0) → Type 0
+IsInformed words Became = IsHelped words Became ⊎ IsVersioned words Became
+
+-- a write of that text failed (60)
+pub record IsInformedCut (words : List (List ℕ)) (cut : List ℕ → ℕ → Type 0) (number : ℕ) : Type 0 where
   pub number_is : number ≡ 60
   pub written : ℕ
-  pub stopped : IsHelped words (λ text. cut text written)
+  pub stopped : IsInformed words (λ text. cut text written)
 
--- The report on words that aren't served: help, want of memory (1), a failed write of help's text (60), or words of another program.
+-- The report on words that ask for no simulation: help or the version, want of memory (1), a failed write of such a text (60), or words of another
+-- program.
 abbrev pub IsUnserved : List (List ℕ) → Type 0 → (List ℕ → Type 0) → (List ℕ → ℕ → Type 0) → Report → Type 0
-IsUnserved words kept wrote cut Done = IsHelped words wrote
+IsUnserved words kept wrote cut Done = IsInformed words wrote
 IsUnserved words kept wrote cut No = ⊥
 IsUnserved words kept wrote cut (Driven refused) = ⊥
 IsUnserved words kept wrote cut (Refused number place) = ⊥
-IsUnserved words kept wrote cut (Fault number) = ((number ≡ 1) × kept) ⊎ IsHelpCut words cut number
+IsUnserved words kept wrote cut (Fault number) = ((number ≡ 1) × kept) ⊎ IsInformedCut words cut number
 IsUnserved words kept wrote cut Misused = (IsWrong words ⊎ AskNothing words) × kept
 
 -- the report on the words after the program's name

@@ -1,6 +1,6 @@
 //! The words of the command line, served.
 ghost use Rattle.std.specs.Prelude.{◌≡◌, ◌≢◌, ◌≤◌, ◌<◌, ℕ, List, IfOk, IfErr, length, map, string_bytes};
-ghost use Rattle.clap.specs.declared.error.ErrorKind.TheVariants.{DisplayHelp};
+ghost use Rattle.clap.specs.declared.error.ErrorKind.TheVariants.{DisplayHelp, DisplayVersion};
 ghost use Rattle.command_line.specs.Words.{HasFault, IsRefused};
 ghost use Rattle.service.specs.declared.report.Report.{Report};
 ghost use Rattle.service.specs.Reading.{IsReadOf};
@@ -17,7 +17,7 @@ use crate::running::run_file;
 use crate::simulation::{check_file, simulate_file};
 use crate::writing::say;
 use clap::error::Error;
-use command_line::{Asked, Refused, read_words};
+use command_line::{Asked, Refused, read_words, version};
 use std::alloc::{AllocError, Global};
 use std::io::Write;
 use std::sync::Wait;
@@ -32,7 +32,7 @@ pub const MOST_BYTES: u64 = 16_777_216;
 /// One byte more than a source may have: a longer file is refused for its size.
 pub(crate) const SOURCE_BYTES: u64 = ioa_front::MOST_BYTES as u64 + 1;
 
-/// Serves the words after the program's name: what is asked goes to `out`, as help does; faults and what is wrong with the words go to
+/// Serves the words after the program's name: what is asked goes to `out`, as help and the version do; faults and what is wrong with the words go to
 /// `err`, up to the first write that fails there, and the answer is the exit status. It may wait where `run` is asked for.
 pub fn serve<F: Files, W: Write + Drop, E: Write, R: Threads + Wait + Sync>(
     rt: &R,
@@ -106,6 +106,7 @@ fn refuse<W: Write, E: Write>(
     match refused {
         Refused::NoMemory => Report::Fault(1),
         Refused::Help(error) => help(alloc, error, out),
+        Refused::Version => tell_version(out),
         Refused::Words(error) => {
             let text = match text_of(alloc, error) {
                 Ok(text) => text,
@@ -137,6 +138,16 @@ fn help<W: Write>(alloc: Global, error: &Error, out: &mut Counted<W>) -> Report
         Err(_) => return Report::Fault(1),
     };
     match write_text(text.as_str().as_bytes(), out) {
+        Ok(()) => Report::Done,
+        Err(fault) => Report::Fault(fault.number()),
+    }
+}
+
+fn tell_version<W: Write>(out: &mut Counted<W>) -> Report
+    ensures report { (words : List (List ℕ)) → HasFault words DisplayVersion → IsUnserved words (out.new ≡ out.old) (IsWritten W.contents out.old out.new) (IsStopped W.contents out.old out.new) result }
+    ensures other { result ≢ Report.Misused }
+{
+    match write_text(version().as_bytes(), out) {
         Ok(()) => Report::Done,
         Err(fault) => Report::Fault(fault.number()),
     }

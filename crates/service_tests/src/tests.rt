@@ -260,9 +260,9 @@ fn assert_speaks<R: Abort + AllocGlobal + Threads + Wait + Sync>(
 }
 
 #[test]
-fn wrong_words_and_help(rt: HostRuntime) {
+fn wrong_words_help_and_version(rt: HostRuntime) {
     let files = ring_with(ROWS);
-    let rows: [(&[&str], u8, &str); 12] = [
+    let rows: [(&[&str], u8, &str); 15] = [
         (&[], 2, "Usage: warp <COMMAND>"),
         (&["run"], 2, "<F>"),
         (&["print"], 2, "<F>"),
@@ -275,6 +275,9 @@ fn wrong_words_and_help(rt: HostRuntime) {
         (&["help"], 0, "run"),
         (&["--help"], 0, "Usage: warp <COMMAND>"),
         (&["print", "-h"], 0, "print <F>"),
+        (&["--version"], 0, "warp 0.1.0\nproved with rattle-kit-"),
+        (&["-V"], 0, "warp 0.1.0\n"),
+        (&["run", "--version"], 2, "--version"),
     ];
     for (said, status, part) in rows {
         assert_speaks(&rt, said, &files, status, part);
@@ -282,15 +285,17 @@ fn wrong_words_and_help(rt: HostRuntime) {
 }
 
 #[test]
-fn help_that_is_cut(rt: HostRuntime) {
+fn help_or_version_that_is_cut(rt: HostRuntime) {
     let files = ring_with(ROWS);
-    let held = Vec::new(rt.alloc());
-    let mut out = Counted::new(Narrow { held, room: 5 });
-    let mut err = Counted::new(Vec::new(rt.alloc()));
-    let ended = status_of(&rt, &["help"], &files, &mut out, &mut err);
-    assert_eq!(rt; ended, 3);
-    assert_written(&rt, err, "fault 60\n", "help");
-    assert_eq!(rt; out.into_inner().held.len(), 5);
+    for word in ["help", "--version"] {
+        let held = Vec::new(rt.alloc());
+        let mut out = Counted::new(Narrow { held, room: 5 });
+        let mut err = Counted::new(Vec::new(rt.alloc()));
+        let ended = status_of(&rt, &[word], &files, &mut out, &mut err);
+        assert_eq!(rt; ended, 3);
+        assert_written(&rt, err, "fault 60\n", word);
+        assert_eq!(rt; out.into_inner().held.len(), 5);
+    }
 }
 
 #[test]

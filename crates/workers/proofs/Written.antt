@@ -1,13 +1,17 @@
 -- What the calling thread has written, portion after portion.
 use Rattle.std.proofs.Common.{◌≡◌, ℕ, ◌≤◌, List, [], ◌++◌, length, take, refl, ap, sym, subst, ◌∙◌, arith, length-append}
-use Rattle.std.specs.Prelude.{Option}
+use Rattle.std.specs.Prelude.{Option, map, reverse}
 use Rattle.std.proofs.lemmas.Grind.{flat_map-append}
-use Rattle.std.proofs.lemmas.List.{take-append-le, take_all}
+use Rattle.std.proofs.lemmas.List.{append-nil, take-append-le, take_all}
 use Rattle.event_keys.specs.declared.outcome.Turned.{Turned}
 use Rattle.virtual_time.specs.Reference.{reference_below}
 use Rattle.plans.specs.declared.plan.Plan.{Plan}
 use Rattle.task_seed.specs.Machines.{machine, end_rank}
 use Rattle.task_seed.specs.Turning.{System}
+use Rattle.reference.specs.Schedules.{AreAllTurns, AreSchedule, HasSchedulesBelow}
+use Rattle.reference.specs.Views.{turns_of as turns_from_last}
+use Rattle.rollback.specs.Dropped.{turn_of}
+use Rattle.rollback.specs.Kept.{reversed_onto}
 use Rattle.turn_lists.specs.Turns.{turns_of}
 use Rattle.exchange.specs.Chunks.{IsGiven}
 use Rattle.trace.specs.declared.counted.Counted.{Counted}
@@ -22,8 +26,12 @@ use Rattle.workers.specs.declared.fault.WorkFault.TheVariants.{NoMemory, Meeting
 use Rattle.workers.specs.declared.writing.Portion.{Portion}
 use Rattle.workers.specs.Portions.{IsPortion}
 use Rattle.workers.specs.Refusals.{run_fault}
-use Rattle.workers.specs.Runs.{AreAll, IsBegun, IsCut, IsUnfinished, IsWhole}
+use Rattle.workers.specs.Runs.{IsBegun, IsCut, IsUnfinished, IsWhole}
 use Rattle.workers.proofs.Growing.{as_many, grown, length_turns, turns_for, turns_joined}
+
+-- both ways to turn a list round are one
+same_turns : (turns : List Turned) → turns_from_last turns ≡ turns_of turns
+same_turns turns = sym (append-nil (reverse (map turn_of turns))) ∙ reversed_onto (map turn_of turns) []
 
 -- the lines of the first turns went out, so many turns and so many bytes
 pub record Sofar {W : Type 0} (known : W → Option (List ℕ)) (plan : Plan) (s : System) (lines : Lines) (old new : Counted W) (written bytes : ℕ) : Type 0 where
@@ -43,11 +51,18 @@ module _ (s : System) where
       turns_joined turns more ∙ ap (λ l. turns_of more ++ l) (are ∙ sym same) ∙ sym given.next
 
   -- all turns begin with these
-  all_after : (turns : List Turned) (b : ℕ) → b ≤ end_rank → turns_of turns ≡ reference_below (machine s) b → (later : List Turned) × AreAll s (turns ++ later)
+  all_after : (turns : List Turned) (b : ℕ) → b ≤ end_rank → turns_of turns ≡ reference_below (machine s) b → (later : List Turned) × (turns_of (turns ++ later) ≡ reference_below (machine s) end_rank)
   all_after turns b within are =
       let found = grown (machine s) b end_rank within in
       let later = turns_for found.0 in
       (later.0, turns_joined turns later.0 ∙ (λ i. later.1 i ++ are i) ∙ sym found.1)
+
+-- the actions of turns below a bound are a schedule
+scheduled : (plan : Plan) (s : System) → HasSchedulesBelow plan s → (turns : List Turned) (b : ℕ) → b ≤ end_rank → turns_of turns ≡ reference_below (machine s) b → AreSchedule plan turns
+scheduled plan s has turns b within are = has turns b within (same_turns turns ∙ are)
+
+all_turns : (plan : Plan) (s : System) → HasSchedulesBelow plan s → (turns : List Turned) → turns_of turns ≡ reference_below (machine s) end_rank → AreAllTurns plan s turns
+all_turns plan s has turns are = record { all = same_turns turns ∙ are; scheduled = scheduled plan s has turns end_rank (omega arith) are }
 
 module _ {W : Type 0} {known : W → Option (List ℕ)} {plan : Plan} {s : System} {lines : Lines} where
   pub starts : (out : Counted W) → Sofar known plan s lines out out 0 0
@@ -68,30 +83,31 @@ module _ {W : Type 0} {known : W → Option (List ℕ)} {plan : Plan} {s : Syste
       }
 
   -- the lines of the first turns went out
-  pub begun : {old new : Counted W} {written bytes : ℕ} → Sofar known plan s lines old new written bytes → IsBegun plan s lines (IsWritten known old new)
-  begun {old} {new} h =
+  pub begun : {old new : Counted W} {written bytes : ℕ} → HasSchedulesBelow plan s → Sofar known plan s lines old new written bytes → IsBegun plan s lines (IsWritten known old new)
+  begun {old} {new} has h =
       let rest = all_after s h.turns h.bound h.within h.are in
       let front : take (length h.turns) (h.turns ++ rest.0) ≡ h.turns = take-append-le (length h.turns) h.turns rest.0 (omega arith) ∙ take_all (length h.turns) h.turns (omega arith) in record {
         turns = h.turns ++ rest.0;
-        all = rest.1;
+        are = all_turns plan s has (h.turns ++ rest.0) rest.1;
         count = length h.turns;
+        begun = subst (AreSchedule plan) (sym front) (scheduled plan s has h.turns h.bound h.within h.are);
         became = subst (λ (l : List Turned). IsWritten known old new (text_of plan lines l)) (sym front) (record { bytes = h.puts.bytes; failures = h.puts.failures });
       }
 
   -- the lines of all turns went out
-  pub whole : {old new : Counted W} {written bytes : ℕ} (h : Sofar known plan s lines old new written bytes) → h.bound ≡ end_rank → IsWhole plan s lines (IsWritten known old new) written
-  whole h end = record { turns = h.turns; all = h.are ∙ ap (reference_below (machine s)) end; count_is = h.count; became = record { bytes = h.puts.bytes; failures = h.puts.failures } }
+  pub whole : {old new : Counted W} {written bytes : ℕ} → HasSchedulesBelow plan s → (h : Sofar known plan s lines old new written bytes) → h.bound ≡ end_rank → IsWhole plan s lines (IsWritten known old new) written
+  whole has h end = record { turns = h.turns; are = all_turns plan s has h.turns (h.are ∙ ap (reference_below (machine s)) end); count_is = h.count; became = record { bytes = h.puts.bytes; failures = h.puts.failures } }
 
   -- a portion more was the last one
-  pub last : {old mid new : Counted W} {written before after : ℕ} (portion : Portion) → Sofar known plan s lines old mid written before → (is : IsPortion s portion) → portion.first ≡ written
+  pub last : {old mid new : Counted W} {written before after : ℕ} → HasSchedulesBelow plan s → (portion : Portion) → Sofar known plan s lines old mid written before → (is : IsPortion s portion) → portion.first ≡ written
       → Puts known mid new before after (text_of plan lines portion.turns.after) → is.bound ≡ end_rank → IsWhole plan s lines (IsWritten known old new) portion.given
   unfolding more
-  last portion h is first puts end = whole (more portion h is first puts) end
+  last has portion h is first puts end = whole has (more portion h is first puts) end
 
   -- a write failed in a portion
-  pub cut : {old mid new : Counted W} {written before : ℕ} {fault : WriteFault} (portion : Portion) → Sofar known plan s lines old mid written before → IsPortion s portion → portion.first ≡ written
+  pub cut : {old mid new : Counted W} {written before : ℕ} {fault : WriteFault} → HasSchedulesBelow plan s → (portion : Portion) → Sofar known plan s lines old mid written before → IsPortion s portion → portion.first ≡ written
       → Stops known mid new before (text_of plan lines portion.turns.after) fault → IsCut plan s lines (λ text. Stops known old new 0 text fault)
-  cut {old} {mid} {new} {written} {before} {fault} portion h is first stopped =
+  cut {old} {mid} {new} {written} {before} {fault} has portion h is first stopped =
       let first_is : portion.first ≡ length h.turns = first ∙ h.count in
       let turns = h.turns ++ portion.turns.after in
       let are = next_turns s h.turns portion.turns.after h.bound portion.first is.bound h.are first_is is.next in
@@ -99,12 +115,12 @@ module _ {W : Type 0} {known : W → Option (List ℕ)} {plan : Plan} {s : Syste
       let f = shown_text plan lines in
       let text = flat_map-append f turns rest.0 ∙ ap (λ l. l ++ text_of plan lines rest.0) (flat_map-append f h.turns portion.turns.after) in record {
         turns = turns ++ rest.0;
-        all = rest.1;
+        are = all_turns plan s has (turns ++ rest.0) rest.1;
         cut = subst (λ l. Stops known old new 0 l fault) (sym text) (stops (text_of plan lines rest.0) (then_stops h.puts stopped));
       }
 
   -- what befell a worker leaves the lines of the first turns
-  pub unfinished : {old new : Counted W} {written bytes : ℕ} (fault : WorkFault) → Sofar known plan s lines old new written bytes → IsUnfinished plan s lines (IsWritten known old new) (Stops known old new 0) (run_fault fault)
-  unfinished NoMemory h = begun h
-  unfinished (Meeting refused) h = begun h
-  unfinished ThreadRefused h = begun h
+  pub unfinished : {old new : Counted W} {written bytes : ℕ} → HasSchedulesBelow plan s → (fault : WorkFault) → Sofar known plan s lines old new written bytes → IsUnfinished plan s lines (IsWritten known old new) (Stops known old new 0) (run_fault fault)
+  unfinished has NoMemory h = begun has h
+  unfinished has (Meeting refused) h = begun has h
+  unfinished has ThreadRefused h = begun has h

@@ -1,39 +1,34 @@
 -- What a run writes.
 use Rattle.std.specs.Prelude.{◌≡◌, ℕ, List, length, take}
 use Rattle.event_keys.specs.declared.outcome.Turned.{Turned}
-use Rattle.virtual_time.specs.Reference.{reference_below}
 use Rattle.plans.specs.declared.plan.Plan.{Plan}
-use Rattle.task_seed.specs.Machines.{machine, end_rank}
 use Rattle.task_seed.specs.Turning.{System}
-use Rattle.turn_lists.specs.Turns.{turns_of}
+use Rattle.reference.specs.Schedules.{AreAllTurns, AreSchedule}
 use Rattle.trace.specs.declared.fault.WriteFault.{WriteFault}
 use Rattle.trace.specs.declared.lines.Lines.{Lines}
 use Rattle.trace.specs.Lines.{text_of}
 use Rattle.workers.specs.declared.fault.RunFault.{RunFault}
 use Rattle.workers.specs.declared.fault.RunFault.TheVariants as fault
 
--- these are all turns of the simulator that always takes the least key, in the order of keys
-abbrev pub AreAll : System → List Turned → Type 0
-AreAll system turns = turns_of turns ≡ reference_below (machine system) end_rank
-
 -- the text of all turns, of which there are so many, became this
 pub record IsWhole (plan : Plan) (system : System) (lines : Lines) (Became : List ℕ → Type 0) (count : ℕ) : Type 0 where
   pub turns : List Turned
-  pub all : AreAll system turns
+  pub are : AreAllTurns plan system turns
   pub count_is : count ≡ length turns
   pub became : Became (text_of plan lines turns)
 
--- the text of the first so many of all turns became this
+-- the text of the first so many of all turns became this, and the actions of these are a schedule too
 pub record IsBegun (plan : Plan) (system : System) (lines : Lines) (Became : List ℕ → Type 0) : Type 0 where
   pub turns : List Turned
-  pub all : AreAll system turns
+  pub are : AreAllTurns plan system turns
   pub count : ℕ
+  pub begun : AreSchedule plan (take count turns)
   pub became : Became (text_of plan lines (take count turns))
 
 -- a write failed in the text of all turns
 pub record IsCut (plan : Plan) (system : System) (lines : Lines) (Cut : List ℕ → Type 0) : Type 0 where
   pub turns : List Turned
-  pub all : AreAll system turns
+  pub are : AreAllTurns plan system turns
   pub cut : Cut (text_of plan lines turns)
 
 -- why not all is written: the lines of the first turns went out, or a write failed and the text is cut

@@ -22,6 +22,7 @@ use core::mem::replace_with;
 use exchange::{Exchange, Lease};
 use gvt::{Published, Seat};
 use pools::{Pass, Pool};
+use reference::laws::turns_are_schedule;
 use std::alloc::Global;
 use std::io::Write;
 use std::sync::atomic::AtomicBool;
@@ -44,7 +45,7 @@ pub struct Summary {
 /// and the workers may wait for each other, so that what is promised holds if the call returns.
 ///
 /// What was written is a beginning of the text of the one-thread simulator that always takes the least key, and all of it where the answer
-/// isn't a fault. That several threads ran, and that what is written comes of the leases, no clause can say.
+/// isn't a fault; the actions of these turns are a schedule of the composition. That several threads ran, and that what is written comes of the leases, no clause can say.
 ///
 /// # Errors
 ///
@@ -65,6 +66,7 @@ pub fn run<T: Turns, W: Write + Drop, G: Gate<T>, R: Threads + Wait + Sync>(
     ensures whole { IfOk result (λ summary. IsWhole (plan_of (arc_value setup)) (system T.turn_of (arc_value setup)) lines (IsWritten W.contents out.old out.new) summary.turns) }
     ensures unfinished { IfErr result (IsUnfinished (plan_of (arc_value setup)) (system T.turn_of (arc_value setup)) lines (IsWritten W.contents out.old out.new) (Stops W.contents out.old out.new 0)) }
 {
+    turns_are_schedule(&setup);
     match start(rt, alloc, &setup, workers, budget) {
         Ok(begun) => run_begun(rt, alloc, &setup, begun, budget, gate, lines, out),
         Err(_refused) => Err(RunFault::NoMemory),

@@ -16,6 +16,7 @@ use event_keys::Turned;
 use exchange::Exchange;
 use plans::Plan;
 use raw_events::EventList;
+use reference::laws::turns_are_schedule;
 use std::io::Write;
 use std::sync::Wait;
 use task_seed::{Setup, Turns};
@@ -113,7 +114,7 @@ fn next_pause(pause: u64, turns: u64) -> u64 {
     }
 }
 
-// Writes portions until the last. What was written is a beginning of the text of all turns.
+// Writes portions until the last. What was written is a beginning of the text of all turns, whose actions are a schedule.
 pub(crate) fn write_all<T: Turns, W: Write, R: Wait>(
     rt: &R,
     shared: &Shared<T>,
@@ -126,6 +127,7 @@ pub(crate) fn write_all<T: Turns, W: Write, R: Wait>(
     ensures whole { IfOk result (λ summary. IsWhole (plan_of own.now) (system T.turn_of own.now) lines (IsWritten W.contents out.old out.new) summary.turns) }
     ensures unfinished { IfErr result (IsUnfinished (plan_of own.now) (system T.turn_of own.now) lines (IsWritten W.contents out.old out.new) (Stops W.contents out.old out.new 0)) }
 {
+    turns_are_schedule(own);
     let mut written = 0;
     let mut bytes = 0;
     let mut pause = LEAST_PAUSE;

@@ -32,5 +32,7 @@ pub returns : goal.returns
 returns c =
     let words : List Text = map string_bytes c.args.words.now in
     let app = c.in_ok-command.ensures.app in
+    let free : is_simple_and_free (app_of c.in_ok-command.command) ≡ true = ap is_simple_and_free app ∙ warp_is_free in
+    let faultless : fault_of warp words ≡ [] = subst (λ (a : App). fault_of a words ≡ []) app (c.in-Ok.ensures.kinds free) in
     let matched = (c.in-Ok.ensures.ok.2 (ap (λ (a : App). is_simple a) app ∙ warp_is_simple)).1 ∙ ap (λ (a : App). subcommand_of a words) app in
-    inr (λ asked named. c.in-None.ensures asked (subst (λ entered. IsNamed entered asked) (sym matched) named))
+    inr (faultless, λ asked named. c.in-None.ensures asked (subst (λ entered. IsNamed entered asked) (sym matched) named))

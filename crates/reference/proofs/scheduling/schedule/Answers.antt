@@ -1,24 +1,7 @@
-use Rattle.std.proofs.Common.{◌≡◌, ℕ, List, Some, subst}
-use Rattle.terms.specs.Datum.{Datum}
-use Rattle.terms.specs.Named.{Named}
-use Rattle.plans.specs.Compatible.{IsCompatible}
-use Rattle.plans.specs.WellFormed.{IsWellFormed}
-use Rattle.plans.specs.Plans.{composition}
-use Rattle.plans.specs.Outcomes.{outcome_of}
-use Rattle.plans.specs.Steps.{Joint, applied}
-use Rattle.virtual_time.specs.Reference.{after}
-use Rattle.task_seed.specs.Setups.{system}
-use Rattle.task_seed.specs.Machines.{machine, end_rank}
-use Rattle.reference.specs.Views.{turns_of}
-use Rattle.reference.proofs.Scheduled.{is_schedule}
+use Rattle.task_seed.specs.Machines.{end_rank}
 use Rattle.reference.proofs.scheduling.schedule.Goals as goal
 
-pub returns-clause-schedule : goal.returns-clause-schedule
-returns-clause-schedule g c =
-    let s = system g.T.Turns.turn_of c.args.setup.now in
+pub returns-clause-all : goal.returns-clause-all
+returns-clause-all g c =
     let turns = c.in_ok-turns.turns.items in
-    let one : IsCompatible s.composition = subst (λ p. IsCompatible (composition p)) c.plan.ensures c.compatible.ensures.compatible in
-    let formed : IsWellFormed s.composition = subst (λ p. IsWellFormed (composition p)) c.plan.ensures c.compatible.ensures.formed in
-    let step : (i task choice : ℕ) (state : ℕ → List Datum) (action : Named) → outcome_of s.composition i task choice (state i) ≡ Some action → Joint s.composition state action (λ j. applied s.composition j action (state j))
-    = subst (λ p. (i task choice : ℕ) (state : ℕ → List Datum) (action : Named) → outcome_of (composition p) i task choice (state i) ≡ Some action → Joint (composition p) state action (λ j. applied (composition p) j action (state j))) c.plan-2.ensures c.turn_is_step.ensures in
-    is_schedule s one formed step turns (after (machine s) (turns_of turns)).state (c.reference_is_complete.ensures.schedule (machine s) end_rank (turns_of turns) c.machine_is_lawful.ensures.lawful c.in_ok-turns.ensures.reference)
+    record { all = c.in_ok-turns.ensures.turns; scheduled = c.turns_are_schedule.ensures.reference turns end_rank c.in_ok-turns.ensures.reference }

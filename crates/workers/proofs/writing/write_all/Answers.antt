@@ -24,10 +24,10 @@ pub returns-in-Err-clause-unfinished : goal.returns-in-Err-clause-unfinished
 returns-in-Err-clause-unfinished g c =
     let own = c.args.own.now in
     subst (λ (f : RunFault). IsUnfinished (plan_of own) (system g.T.Turns.turn_of own) c.args.lines (IsWritten g.W.Write.contents c.args.out.now c.loop.out) (Stops g.W.Write.contents c.args.out.now c.loop.out 0) f) (sym c.run_fault.ensures)
-    (unfinished c.in-Err.fault c.loop.invariant.sofar)
+    (unfinished c.turns_are_schedule.ensures.below c.in-Err.fault c.loop.invariant.sofar)
 
 pub returns-then-portion-written-clause-unfinished : goal.returns-then-portion-written-clause-unfinished
-returns-then-portion-written-clause-unfinished g c = begun c.loop.invariant.sofar
+returns-then-portion-written-clause-unfinished g c = begun c.turns_are_schedule.ensures.below c.loop.invariant.sofar
 
 pub returns-in-Err-put_portion-clause-unfinished : goal.returns-in-Err-put_portion-clause-unfinished
 returns-in-Err-put_portion-clause-unfinished g c =
@@ -35,7 +35,7 @@ returns-in-Err-put_portion-clause-unfinished g c =
     let portion = c.in-Ok-Some.portion in
     let first : portion.first ≡ c.loop.written = omega arith in
     let stopped = subst (λ (p : Plan). Stops known c.loop.out c.put_portion.new.out c.loop.bytes (text_of p c.args.lines portion.turns.after) c.in-Err-put_portion.fault) c.plan.ensures c.in-Err-put_portion.ensures.err in
-    cut portion c.loop.invariant.sofar (due c.in-Ok-Some.portion c.in-Ok-Some.field-0 c.in-Ok-Some.field-0-is c.in-Ok-Some.ensures.portion) first stopped
+    cut c.turns_are_schedule.ensures.below portion c.loop.invariant.sofar (due c.in-Ok-Some.portion c.in-Ok-Some.field-0 c.in-Ok-Some.field-0-is c.in-Ok-Some.ensures.portion) first stopped
 
 pub returns-then-portion-clause-whole : goal.returns-then-portion-clause-whole
 returns-then-portion-clause-whole g c =
@@ -44,7 +44,7 @@ returns-then-portion-clause-whole g c =
     let is = (due c.in-Ok-Some.portion c.in-Ok-Some.field-0 c.in-Ok-Some.field-0-is c.in-Ok-Some.ensures.portion) in
     let first : portion.first ≡ c.loop.written = omega arith in
     let puts = subst (λ (p : Plan). Puts known c.loop.out c.put_portion.new.out c.loop.bytes c.in-Ok.after (text_of p c.args.lines portion.turns.after)) c.plan.ensures c.in-Ok.ensures.ok in
-    last portion c.loop.invariant.sofar is first puts (is.last c.if-portion.true)
+    last c.turns_are_schedule.ensures.below portion c.loop.invariant.sofar is first puts (is.last c.if-portion.true)
 
 pub loop-preserved : goal.loop-preserved
 loop-preserved g c =

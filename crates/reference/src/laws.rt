@@ -1,0 +1,20 @@
+//! The law of the simulator's schedules. Its function does nothing: its contract is the law.
+ghost use Rattle.task_seed.specs.Setups.{plan_of, system};
+ghost use Rattle.reference.specs.Schedules.{HasSchedules, HasSchedulesBelow};
+
+use plans::laws::{compatible, turn_is_step};
+use task_seed::laws::machine_is_lawful;
+use task_seed::{Setup, Turns};
+use terms::{Action, State};
+use virtual_time::reference::reference_is_complete;
+
+/// The actions of all turns of the simulator below a bound are a schedule of the composition, in Lynch's words.
+pub fn turns_are_schedule<T: Turns>(setup: &Setup<T>)
+    ensures reference { HasSchedules (plan_of setup.now) (system T.turn_of setup.now) }
+    ensures below { HasSchedulesBelow (plan_of setup.now) (system T.turn_of setup.now) }
+{
+    machine_is_lawful(setup);
+    reference_is_complete::<State, Action>();
+    compatible(setup.plan());
+    turn_is_step(setup.plan());
+}
