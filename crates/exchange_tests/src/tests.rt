@@ -1,199 +1,254 @@
-//! The exchange of the ring of two, against values worked out by hand.
-ghost use Rattle.std.specs.Prelude.{◌≡◌, IfOk};
-ghost use Rattle.plans.specs.Plans.{composition};
-ghost use Rattle.ring_source.specs.Ring.{ring_of_two};
-ghost use Rattle.task_seed.specs.Setups.{plan_of};
+//! The exchange of the ring of two and its leases, against answers worked out by hand.
 
-mod meeting;
-mod same;
+mod steps;
 
-use exchange::{Exchange, Lease, MeetRefused};
-use ring_source::ring;
-use std::alloc::{AllocGlobal, Global};
-use std::process::Abort;
-use std::sync::Arc;
-use task_seed::{Row, Setup, TableTurns};
-use terms::{NoMemory, Refusal};
+use event_keys::Bound::End;
+use exchange::MeetRefused::{self, OtherSetup, Stranger};
+use steps::Away::{Coming, Floor, Number, Runs, Settles, Stands, Waits};
+use steps::Here::{Commits, Finished, Gives, Mail, Turn};
+use steps::Step::{self, Judges, Meets, Of, On, SameExchanges, SameLeases};
+use steps::{AT_1, AT_2, AT_3, AT_4, START, assert_steps};
+use terms::Refusal;
 
-type Shared = Exchange<TableTurns>;
+const FIRST_TURN: [Step; 31] = [
+    // a fresh lease of an equal setup is known at the start
+    Meets(0, 4, Ok(START)),
+    SameExchanges(0, 1, true),
+    Of(0, Runs(1, 1)),
+    Meets(0, 0, Ok(START)),
+    Of(1, Runs(2, 2)),
+    Meets(0, 1, Ok(START)),
+    Of(1, Coming(AT_2)),
+    Of(1, Stands(2, End)),
+    On(0, Commits(1, AT_2)),
+    On(0, Gives(0, 0)),
+    Of(1, Settles(1)),
+    Meets(0, 1, Ok(AT_2)),
+    Meets(0, 0, Ok(AT_2)),
+    On(0, Gives(0, 1)),
+    On(0, Finished(false)),
+    // the same with another exchange
+    Of(2, Runs(1, 1)),
+    Meets(1, 2, Ok(START)),
+    Of(3, Runs(2, 2)),
+    Meets(1, 3, Ok(START)),
+    On(1, Commits(1, AT_2)),
+    Of(3, Settles(1)),
+    Meets(1, 3, Ok(AT_2)),
+    Meets(1, 2, Ok(AT_2)),
+    On(1, Gives(0, 1)),
+    // a fresh lease is a stranger now, and a refusal changes neither
+    Meets(0, 6, Err(Stranger)),
+    Meets(0, 8, Err(OtherSetup)),
+    SameExchanges(0, 1, true),
+    SameLeases(4, 6, true),
+    SameLeases(0, 2, true),
+    SameLeases(1, 3, true),
+    Meets(0, 0, Ok(AT_2)),
+];
 
-type Held = Lease<TableTurns>;
-
-fn row(component: u64, gap: u32) -> Row {
-    Row {
-        component,
-        gap,
-        task: 0,
-        choice: 0,
-    }
-}
-
-// Component 0 has turns at the ticks 2 and 4, component 1 at 1 and 3.
-fn setup(alloc: Global, horizon: u64) -> Result<Setup<TableTurns>, NoMemory> {
-    let plan = ring(alloc)?;
-    let rows = [row(0, 2), row(0, 2), row(1, 1), row(1, 2)];
-    let Ok(turns) = TableTurns::new(alloc, &plan, &rows) else {
-        return Err(NoMemory);
-    };
-    match Setup::new(plan, turns, horizon) {
-        Ok(setup) => Ok(setup),
-        Err(_) => Err(NoMemory),
-    }
-}
-
-fn started(alloc: Global, horizon: u64) -> Result<(Shared, Vec<Held>), NoMemory> {
-    Exchange::new(alloc, Arc::new(alloc, setup(alloc, horizon)?)?)
-}
-
-// The exchange of the ring and its leases, with ample memory.
-fn ring_of(rt: &(impl Abort + AllocGlobal), horizon: u64) -> (Shared, Vec<Held>) {
-    started(rt.alloc(), horizon).expect(rt, "memory for an exchange")
-}
-
-// The exchange alone.
-fn shared(rt: &(impl Abort + AllocGlobal), horizon: u64) -> Shared {
-    ring_of(rt, horizon).0
-}
-
-// The exchange of the ring, and the leases of its components 0 and 1.
-fn two_leased(rt: &(impl Abort + AllocGlobal), horizon: u64) -> (Shared, Held, Held) {
-    let (exchange, leases) = ring_of(rt, horizon);
-    let (first, second) = both_of(rt, leases);
-    (exchange, first, second)
-}
-
-fn both_of(rt: &impl Abort, mut leases: Vec<Held>) -> (Held, Held) {
-    let second = leases.pop().expect(rt, "a lease of component 1");
-    let first = leases.pop().expect(rt, "a lease of component 0");
-    (first, second)
-}
-
-// The lease of component 0 of another exchange.
-fn leased(rt: &(impl Abort + AllocGlobal), horizon: u64) -> Held {
-    both_of(rt, ring_of(rt, horizon).1).0
-}
-
-fn assert_commits(rt: &impl Abort, exchange: &mut Shared, count: u64) {
-    assert!(rt; exchange.commit() == count);
-}
-
-fn assert_settles(rt: &impl Abort, lease: &mut Held, count: u64) {
-    assert!(rt; lease.settle() == count);
-}
-
-fn assert_finished(rt: &impl Abort, exchange: &Shared, wanted: bool) {
-    assert!(rt; exchange.finished() == wanted);
-}
-
-fn assert_judged(
-    rt: &impl Abort,
-    exchange: &Shared,
-    lease: &Held,
-    wanted: Result<(), MeetRefused>,
-) {
-    assert!(rt; exchange.judge(lease) == wanted);
-}
-
-fn assert_runs(
-    rt: &(impl Abort + AllocGlobal),
-    lease: &mut Held,
-    number: u16,
-    budgets: &[(u32, u32)],
-) {
-    assert!(rt; lease.number() == number);
-    for (budget, count) in budgets {
-        assert_runs_ahead(rt, lease, *budget, *count);
-    }
-    assert_settles(rt, lease, 0);
-}
-
-fn assert_runs_ahead(rt: &(impl Abort + AllocGlobal), lease: &mut Held, budget: u32, count: u32) {
-    assert!(rt;
-        lease.run_ahead(rt.alloc(), budget) == Ok(count),
-        "{budget}"
-    );
-}
-
-fn assert_waits(rt: &impl Abort, lease: &Held, is_sending: bool, is_idle: bool) {
-    assert!(rt; lease.is_sending() == is_sending);
-    assert!(rt; lease.is_idle() == is_idle);
-}
-
-// All leases in the order of their components.
-fn assert_all_run(rt: &(impl Abort + AllocGlobal), leases: &mut [Held], budgets: &[(u32, u32)]) {
-    let mut number = 0;
-    for lease in leases.iter_mut() {
-        assert!(rt; number < 2);
-        assert_runs(rt, lease, number, budgets);
-        number += 1;
-    }
-    assert!(rt; number == 2);
-}
+// Each lease delivers its tray, runs ahead and meets, and the exchange commits and gives, in each of six rounds.
+const ROUNDS: [Step; 50] = [
+    Of(0, Settles(0)),
+    Of(0, Runs(5, 2)),
+    Meets(0, 0, Ok(START)),
+    Of(1, Settles(0)),
+    Of(1, Runs(5, 2)),
+    Meets(0, 1, Ok(START)),
+    On(0, Commits(1, AT_2)),
+    On(0, Gives(0, 0)),
+    // the token comes to component 1, which passes it on at the tick 3
+    Of(0, Settles(0)),
+    Of(0, Runs(5, 0)),
+    Meets(0, 0, Ok(AT_2)),
+    Of(1, Settles(1)),
+    Of(1, Runs(5, 2)),
+    Meets(0, 1, Ok(AT_2)),
+    On(0, Commits(2, AT_3)),
+    On(0, Gives(0, 1)),
+    Of(0, Settles(0)),
+    Of(0, Runs(5, 0)),
+    Meets(0, 0, Ok(AT_3)),
+    Of(1, Settles(0)),
+    Of(1, Runs(5, 0)),
+    Meets(0, 1, Ok(AT_3)),
+    On(0, Commits(2, AT_3)),
+    On(0, Gives(1, 2)),
+    // it comes back to component 0, which passes it on at the tick 4
+    Of(0, Settles(1)),
+    Of(0, Runs(5, 2)),
+    Meets(0, 0, Ok(AT_3)),
+    Of(1, Settles(0)),
+    Of(1, Runs(5, 0)),
+    Meets(0, 1, Ok(AT_3)),
+    On(0, Commits(3, AT_4)),
+    On(0, Gives(2, 2)),
+    Of(0, Settles(0)),
+    Of(0, Runs(5, 0)),
+    Meets(0, 0, Ok(AT_4)),
+    Of(1, Settles(1)),
+    Of(1, Runs(5, 1)),
+    Meets(0, 1, Ok(AT_4)),
+    On(0, Commits(4, End)),
+    On(0, Gives(2, 3)),
+    On(0, Finished(false)),
+    Of(0, Settles(0)),
+    Of(0, Runs(5, 0)),
+    Meets(0, 0, Ok(End)),
+    Of(1, Settles(0)),
+    Of(1, Runs(5, 0)),
+    Meets(0, 1, Ok(End)),
+    On(0, Commits(4, End)),
+    On(0, Gives(3, 4)),
+    On(0, Finished(true)),
+];
 
 #[test]
-fn leases_run_ahead_to_their_last_turn(rt: HostRuntime) {
-    let (exchange, mut leases) = ring_of(&rt, 1000);
-    let wanted = setup(rt.alloc(), 1000).expect(&rt, "memory");
-    assert!(rt; exchange.setup().key(1, 1) == wanted.key(1, 1));
-    assert_finished(&rt, &exchange, false);
-    assert_all_run(
-        &rt,
-        leases.as_mut_slice(),
-        &[(0, 0), (1, 1), (5, 1), (5, 0)],
-    );
+fn all_turns_come_once_and_in_order(rt: HostRuntime) {
+    assert_steps(&rt, &FIRST_TURN);
+    assert_steps(&rt, &ROUNDS);
 }
 
-// Component 0 has the token at the start, and passes it on; then it has nothing to do, as component 1 has from the start.
+const AWAY: [Step; 26] = [
+    On(0, Turn(1, 1, AT_3)),
+    On(0, Turn(1, 2, End)),
+    On(0, Finished(false)),
+    // leases run ahead to their last turn
+    Of(2, Number(0)),
+    Of(2, Runs(0, 0)),
+    Of(2, Runs(1, 1)),
+    Of(2, Runs(5, 1)),
+    Of(2, Runs(5, 0)),
+    Of(2, Settles(0)),
+    Of(3, Number(1)),
+    Of(3, Runs(0, 0)),
+    Of(3, Runs(1, 1)),
+    Of(3, Runs(5, 1)),
+    Of(3, Runs(5, 0)),
+    Of(3, Settles(0)),
+    // component 0 has the token at the start, and passes it on; then it has nothing to do, as component 1 has from the start
+    Of(4, Waits(false, false)),
+    Of(4, Runs(1, 1)),
+    Of(4, Waits(true, false)),
+    Of(4, Runs(1, 1)),
+    Of(4, Waits(true, true)),
+    Of(5, Runs(1, 1)),
+    Of(5, Waits(false, true)),
+    // nothing is below the first floor
+    On(1, Commits(0, AT_1)),
+    On(1, Commits(0, AT_1)),
+    On(1, Finished(false)),
+    On(1, Gives(0, 0)),
+];
+
+const MAIL: [Step; 23] = [
+    On(0, Mail(0, false)),
+    On(0, Mail(1, false)),
+    On(0, Mail(2, false)),
+    Of(0, Stands(0, AT_2)),
+    Of(1, Stands(0, AT_1)),
+    Of(0, Runs(1, 1)),
+    On(0, Mail(1, false)),
+    Meets(0, 0, Ok(START)),
+    On(0, Mail(1, true)),
+    On(0, Mail(0, false)),
+    Of(0, Stands(1, AT_4)),
+    Of(0, Floor(AT_4)),
+    Of(1, Runs(2, 2)),
+    Meets(0, 1, Ok(START)),
+    On(0, Mail(1, false)),
+    Of(1, Coming(AT_2)),
+    Of(1, Stands(2, End)),
+    Of(1, Floor(AT_2)),
+    On(0, Commits(1, AT_2)),
+    // the token takes the turn at the tick 3 back, and that at the tick 1 is below the bound
+    Of(1, Settles(1)),
+    Of(1, Stands(1, AT_2)),
+    Meets(0, 1, Ok(AT_2)),
+    Of(1, Stands(0, AT_2)),
+];
+
 #[test]
-fn a_lease_tells_whether_it_waits(rt: HostRuntime) {
-    let (_exchange, mut first, mut second) = two_leased(&rt, 1000);
-    assert_waits(&rt, &first, false, false);
-    assert_runs_ahead(&rt, &mut first, 1, 1);
-    assert_waits(&rt, &first, true, false);
-    assert_runs_ahead(&rt, &mut first, 1, 1);
-    assert_waits(&rt, &first, true, true);
-    assert_runs_ahead(&rt, &mut second, 1, 1);
-    assert_waits(&rt, &second, false, true);
+fn leases_tell_where_they_stand(rt: HostRuntime) {
+    assert_steps(&rt, &AWAY);
+    assert_steps(&rt, &MAIL);
 }
+
+const STRANGE: [Step; 19] = [
+    // a lease of an equal setup is known, also a turn ahead, and one of another horizon isn't
+    Judges(0, 2, Ok(())),
+    Of(2, Runs(1, 1)),
+    Judges(0, 2, Ok(())),
+    Judges(0, 3, Ok(())),
+    Of(3, Runs(1, 1)),
+    Judges(0, 3, Ok(())),
+    Judges(0, 8, Err(OtherSetup)),
+    Of(8, Runs(1, 1)),
+    Judges(0, 8, Err(OtherSetup)),
+    Judges(0, 9, Err(OtherSetup)),
+    Of(9, Runs(1, 1)),
+    Judges(0, 9, Err(OtherSetup)),
+    // one that ran ahead takes the own lease's place, which is a stranger then
+    Meets(0, 2, Ok(START)),
+    Of(4, Runs(1, 1)),
+    Meets(3, 4, Ok(START)),
+    Meets(0, 0, Err(Stranger)),
+    Meets(0, 0, Err(Stranger)),
+    SameExchanges(0, 3, true),
+    SameLeases(0, 6, true),
+];
+
+const SAME: [Step; 40] = [
+    SameLeases(0, 0, true),
+    SameLeases(0, 1, false),
+    SameLeases(0, 2, true),
+    SameLeases(1, 3, true),
+    SameExchanges(0, 1, true),
+    // with another horizon
+    SameLeases(0, 8, false),
+    SameLeases(1, 9, false),
+    SameExchanges(0, 4, false),
+    // one lease alone is a turn ahead
+    Of(4, Runs(1, 1)),
+    SameLeases(4, 6, false),
+    Of(6, Runs(1, 1)),
+    SameLeases(4, 6, true),
+    Of(5, Runs(1, 1)),
+    SameLeases(5, 7, false),
+    Of(7, Runs(1, 1)),
+    SameLeases(5, 7, true),
+    // the first commit raises the bound to the tick 1, and none raises it further before a lease meets
+    On(2, Commits(0, AT_1)),
+    SameExchanges(2, 3, false),
+    On(3, Commits(0, AT_1)),
+    SameExchanges(2, 3, true),
+    On(3, Commits(0, AT_1)),
+    SameExchanges(2, 3, true),
+    // leases that did nothing leave the exchange as it is, and one that is a turn ahead changes its stub's floor
+    Meets(0, 0, Ok(START)),
+    SameExchanges(0, 1, true),
+    Meets(0, 1, Ok(START)),
+    SameExchanges(0, 1, true),
+    Of(0, Runs(1, 1)),
+    Meets(0, 0, Ok(START)),
+    SameExchanges(0, 1, false),
+    Of(2, Runs(1, 1)),
+    Meets(1, 2, Ok(START)),
+    SameExchanges(0, 1, true),
+    SameLeases(0, 2, true),
+    Of(1, Runs(1, 1)),
+    Meets(0, 1, Ok(START)),
+    SameExchanges(0, 1, false),
+    Of(3, Runs(1, 1)),
+    Meets(1, 3, Ok(START)),
+    SameExchanges(0, 1, true),
+    SameLeases(1, 3, true),
+];
 
 #[test]
-fn nothing_is_below_the_first_floor(rt: HostRuntime) {
-    let mut exchange = shared(&rt, 1000);
-    assert_commits(&rt, &mut exchange, 0);
-    assert_commits(&rt, &mut exchange, 0);
-    assert_finished(&rt, &exchange, false);
-    let chunk = exchange.take_chunk();
-    assert!(rt; chunk.first == 0);
-    assert!(rt; chunk.turns.peek_next().is_none());
-}
-
-// Leases are judged the same before and after a turn.
-fn assert_all_judged(
-    rt: &(impl Abort + AllocGlobal),
-    exchange: &Shared,
-    leases: &mut [Held],
-    wanted: Result<(), MeetRefused>,
-) {
-    for lease in leases.iter_mut() {
-        assert_judged(rt, exchange, lease, wanted);
-        assert_runs_ahead(rt, lease, 1, 1);
-        assert_judged(rt, exchange, lease, wanted);
-    }
-}
-
-#[test]
-fn a_lease_of_an_equal_setup_is_known_and_of_another_is_not(rt: HostRuntime) {
-    let exchange = shared(&rt, 1000);
-    for (horizon, wanted) in [(1000, Ok(())), (999, Err(MeetRefused::OtherSetup))] {
-        let mut leases = ring_of(&rt, horizon).1;
-        assert_all_judged(&rt, &exchange, leases.as_mut_slice(), wanted);
-    }
-}
-
-#[test]
-fn refusals_have_numbers(rt: HostRuntime) {
-    for (refused, number) in [(MeetRefused::OtherSetup, 40), (MeetRefused::Stranger, 41)] {
-        assert_eq!(rt; refused.number(), number);
-        assert_eq!(rt; refused.place(), None);
-    }
+fn strangers_are_refused_and_equals_are_known(rt: HostRuntime) {
+    assert_steps(&rt, &STRANGE);
+    assert_steps(&rt, &SAME);
+    assert!(rt; OtherSetup.number() == 40 && OtherSetup.place().is_none());
+    assert!(rt; Stranger.number() == 41 && Stranger.place().is_none());
 }

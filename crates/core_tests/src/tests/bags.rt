@@ -1,286 +1,299 @@
 //! Bags of a few messages, by hand.
 
+use super::{assert_all, key, may_cross};
+use Step::{
+    Append, Cancel, Empty, First, Least, Meet, MeetAll, NoEqual, NoPair, NoneTo, Post, Same, Split,
+    Swap, Take, TakeEqual, WithoutAll, WithoutBelow,
+};
 use antimessage::Bag;
-use event_keys::{Bound, Key, Message, Sign, Signed};
+use event_keys::Sign::{Minus, Plus};
+use event_keys::{Bound, Message, Sign, Signed};
 use raw_events::EventCell;
 use std::alloc::Global;
-use std::test::Fail;
+use std::mem::swap;
 use terms::Action;
 
-/// A signed message with its key's tick and its receiver; all else is the same in all of them.
-#[derive(Clone, Copy, PartialEq, Eq)]
-struct Row {
-    sign: Sign,
-    tick: u64,
-    to: u16,
+/// What is done with a bag and another one, with its answer, or what is seen. A message is told by its sign, its key's tick and its
+/// receiver; all else is the same in all of them.
+#[derive(Clone, Copy)]
+enum Step {
+    Post(Sign, u64, u16),
+    /// The least of all leaves.
+    First(Sign, u64, u16),
+    /// The least to its receiver leaves.
+    Take(Sign, u64, u16),
+    /// There is none to this receiver.
+    NoneTo(u16),
+    /// The equal one leaves.
+    TakeEqual(Sign, u64, u16),
+    NoEqual(Sign, u64, u16),
+    /// The message and its antimessage leave.
+    Meet(u64, u16),
+    /// They aren't both there.
+    NoPair(u64, u16),
+    /// So many pairs leave.
+    MeetAll(u64),
+    /// The antimessages of the other bag take their messages out.
+    Cancel,
+    /// What goes to this receiver leaves, and is the other bag then.
+    Split(u16),
+    /// The other bag goes into this one.
+    Append,
+    /// What is below the tick leaves.
+    WithoutBelow(u64),
+    /// What is below the end leaves.
+    WithoutAll,
+    /// The tick of the least key.
+    Least(u64),
+    Empty,
+    /// The two bags change places.
+    Swap,
+    /// Whether the two bags are equal.
+    Same(bool),
 }
 
-const fn plus(tick: u64, to: u16) -> Row {
-    Row {
-        sign: Sign::Plus,
-        tick,
-        to,
-    }
-}
-
-const fn minus(tick: u64, to: u16) -> Row {
-    Row {
-        sign: Sign::Minus,
-        tick,
-        to,
-    }
-}
-
-fn key(tick: u64) -> Key {
-    Key {
-        tick,
-        component: 2,
-        number: 7,
-    }
-}
-
-fn signed(alloc: Global, row: Row) -> Signed {
+fn signed(alloc: Global, sign: Sign, tick: u64, to: u16) -> Signed {
     let action = Action {
         name: 5,
         args: Vec::new(alloc),
     };
     let message = Message {
-        key: key(row.tick),
+        key: key(tick, 2, 7),
         action,
-        to: row.to,
+        to,
     };
-    Signed {
-        message,
-        sign: row.sign,
-    }
+    Signed { message, sign }
 }
 
-// Whether it is what the row says, with all that is the same in all of them.
-fn is(signed: &Signed, row: Row) -> bool {
-    let message = &signed.message;
-    let is_action = message.action.name == 5 && message.action.args.is_empty();
-    is_action && message.key == key(row.tick) && message.to == row.to && signed.sign == row.sign
-}
-
-fn bag(alloc: Global, rows: &[Row]) -> Result<Bag, Fail> {
-    let mut bag = Bag::new();
-    for row in rows {
-        bag.post(EventCell::new(alloc, signed(alloc, *row))?);
-    }
-    Ok(bag)
-}
-
-// Whether the bag has just these messages, in this order.
-fn holds(bag: &Bag, rows: &[Row]) -> bool {
-    let mut messages = bag.iter();
-    for row in rows {
-        match messages.next() {
-            Some(signed) => {
-                if !is(signed, *row) {
-                    return false;
-                }
-            }
-            None => return false,
+fn posts(alloc: Global, bag: &mut Bag, signed: Signed) -> bool {
+    match EventCell::new(alloc, signed) {
+        Ok(cell) => {
+            bag.post(cell);
+            true
         }
-    }
-    messages.next().is_none()
-}
-
-fn is_taken(taken: Option<EventCell<Signed>>, wanted: Option<Row>) -> bool {
-    match (taken, wanted) {
-        (Some(cell), Some(row)) => is(&cell.into_value(), row),
-        (None, None) => true,
-        (Some(_), None) => false,
-        (None, Some(_)) => false,
+        Err(_) => false,
     }
 }
 
-fn needs_send<T: Send>(_value: &T) {}
+fn is(taken: Option<EventCell<Signed>>, wanted: &Signed) -> bool {
+    match taken {
+        Some(cell) => *cell.value() == *wanted,
+        None => false,
+    }
+}
 
-fn needs_sync<T: Sync>(_value: &T) {}
-
-// Whether these leave the bag, one after the other, each as the least to its component.
-fn takes_all(flight: &mut Bag, rows: &[(u16, Option<Row>)]) -> bool {
-    for (to, wanted) in rows {
-        if !is_taken(flight.take(*to), *wanted) {
-            return false;
+fn does(alloc: Global, bag: &mut Bag, other: &mut Bag, step: Step) -> bool {
+    match step {
+        Post(sign, tick, to) => return posts(alloc, bag, signed(alloc, sign, tick, to)),
+        First(sign, tick, to) => return is(bag.take_first(), &signed(alloc, sign, tick, to)),
+        Take(sign, tick, to) => return is(bag.take(to), &signed(alloc, sign, tick, to)),
+        NoneTo(to) => return bag.take(to).is_none(),
+        TakeEqual(sign, tick, to) => {
+            let wanted = signed(alloc, sign, tick, to);
+            return is(bag.take_equal(&wanted), &wanted);
         }
+        NoEqual(sign, tick, to) => {
+            return bag.take_equal(&signed(alloc, sign, tick, to)).is_none();
+        }
+        Meet(tick, to) => return bag.meet(&signed(alloc, Plus, tick, to).message),
+        NoPair(tick, to) => return !bag.meet(&signed(alloc, Plus, tick, to).message),
+        MeetAll(pairs) => return bag.meet_all() == pairs,
+        Least(tick) => return bag.least() == Bound::At(key(tick, 2, 7)),
+        Empty => return bag.is_empty() && bag.least() == Bound::End && bag.take_first().is_none(),
+        Same(wanted) => return (*bag == *other) == wanted && (*other == *bag) == wanted,
+        // the others have no answer
+        Cancel => bag.cancel(other),
+        Split(to) => *other = bag.split_to(to),
+        Append => bag.append(other),
+        WithoutBelow(tick) => bag.drop_below(Bound::At(key(tick, 2, 7))),
+        WithoutAll => bag.drop_below(Bound::End),
+        Swap => swap(bag, other),
     }
     true
 }
 
-#[test]
-fn takes_the_least_to_a_component(rt: HostRuntime) -> Result<(), Fail> {
-    let rows = [
-        (2, None),
-        (1, Some(plus(6, 1))),
-        (1, Some(plus(9, 1))),
-        (1, None),
-        (4, Some(plus(3, 4))),
-    ];
-    let mut flight = bag(rt.alloc(), &[plus(9, 1), plus(3, 4), plus(6, 1)])?;
-    assert!(rt; flight.least() == Bound::At(key(3)));
-    assert!(rt; takes_all(&mut flight, &rows));
-    assert!(rt; flight.is_empty() && flight.least() == Bound::End);
-    Ok(())
-}
-
-#[test]
-fn a_bag_may_go_to_other_threads(_rt: HostRuntime) {
-    let flight = Bag::new();
-    needs_send(&flight);
-    needs_sync(&flight);
-}
-
-// Whether these leave the bag first, in this order.
-fn takes_first(flight: &mut Bag, rows: &[Option<Row>]) -> bool {
-    for wanted in rows {
-        if !is_taken(flight.take_first(), *wanted) {
-            return false;
+// How many of the steps come out as they say, up to the first that doesn't.
+fn count(alloc: Global, bag: &mut Bag, other: &mut Bag, steps: &[Step]) -> usize {
+    for (k, step) in steps.iter().enumerate() {
+        if !does(alloc, bag, other, *step) {
+            return k;
         }
     }
-    true
+    steps.len()
 }
 
-#[test]
-fn the_first_is_the_least(rt: HostRuntime) -> Result<(), Fail> {
-    let mut flight = bag(rt.alloc(), &[plus(6, 1), minus(3, 4)])?;
-    assert!(rt; takes_first(&mut flight, &[Some(minus(3, 4)), Some(plus(6, 1)), None]));
-    Ok(())
-}
+const TAKEN: [Step; 22] = [
+    // the least to a receiver
+    Post(Plus, 9, 1),
+    Post(Plus, 3, 4),
+    Post(Plus, 6, 1),
+    Least(3),
+    NoneTo(2),
+    Take(Plus, 6, 1),
+    Take(Plus, 9, 1),
+    NoneTo(1),
+    Take(Plus, 3, 4),
+    Empty,
+    // the least of all
+    Post(Plus, 6, 1),
+    Post(Minus, 3, 4),
+    First(Minus, 3, 4),
+    First(Plus, 6, 1),
+    Empty,
+    // the equal one of its sign
+    Post(Minus, 6, 1),
+    Post(Plus, 3, 1),
+    NoEqual(Plus, 6, 1),
+    TakeEqual(Minus, 6, 1),
+    NoEqual(Minus, 6, 1),
+    First(Plus, 3, 1),
+    Empty,
+];
 
-// Whether the equal one leaves the bag.
-fn takes_equal(alloc: Global, flight: &mut Bag, asked: Row, wanted: Option<Row>) -> bool {
-    is_taken(flight.take_equal(&signed(alloc, asked)), wanted)
-}
-
-#[test]
-fn takes_the_equal_of_the_sign(rt: HostRuntime) -> Result<(), Fail> {
-    let six = minus(6, 1);
-    let mut flight = bag(rt.alloc(), &[six, plus(3, 1)])?;
-    assert!(rt; takes_equal(rt.alloc(), &mut flight, plus(6, 1), None));
-    assert!(rt; takes_equal(rt.alloc(), &mut flight, six, Some(six)));
-    assert!(rt; takes_equal(rt.alloc(), &mut flight, six, None));
-    assert!(rt; !flight.is_empty());
-    Ok(())
-}
-
-// Whether the bag of these messages has such a pair, and these messages without it.
-fn meets(alloc: Global, rows: &[Row], asked: Row, has: bool, left: &[Row]) -> Result<bool, Fail> {
-    let mut flight = bag(alloc, rows)?;
-    let met = flight.meet(&signed(alloc, asked).message);
-    Ok(met == has && holds(&flight, left))
-}
-
-#[test]
-fn a_pair_meets_once(rt: HostRuntime) -> Result<(), Fail> {
-    let pair = [plus(6, 1), minus(6, 1), plus(6, 1)];
-    let sorted = [plus(6, 1), plus(6, 1), minus(6, 1)];
-    let (six, other) = (plus(6, 1), plus(6, 2));
-    assert!(rt; meets(rt.alloc(), &pair, other, false, &sorted)?);
-    assert!(rt; meets(rt.alloc(), &pair, six, true, &[six])?);
-    assert!(rt; meets(rt.alloc(), &[six], six, false, &[six])?);
+const MET: [Step; 52] = [
+    // a pair meets once
+    Post(Plus, 6, 1),
+    Post(Minus, 6, 1),
+    Post(Plus, 6, 1),
+    NoPair(6, 2),
+    Meet(6, 1),
+    NoPair(6, 1),
+    First(Plus, 6, 1),
+    Empty,
     // an antimessage waits for its message
-    let alone = [minus(6, 1)];
-    assert!(rt; meets(rt.alloc(), &alone, six, false, &alone)?);
-    assert!(rt; meets(rt.alloc(), &[minus(6, 1), six], six, true, &[])?);
-    Ok(())
-}
+    Post(Minus, 6, 1),
+    NoPair(6, 1),
+    Least(6),
+    Post(Plus, 6, 1),
+    Meet(6, 1),
+    MeetAll(0),
+    Empty,
+    // all pairs meet
+    Post(Plus, 6, 1),
+    Post(Minus, 6, 1),
+    Post(Plus, 6, 1),
+    MeetAll(1),
+    First(Plus, 6, 1),
+    Empty,
+    Post(Minus, 8, 1),
+    Post(Plus, 2, 1),
+    Post(Plus, 8, 1),
+    Post(Minus, 5, 3),
+    Post(Minus, 8, 1),
+    Post(Plus, 5, 2),
+    Post(Minus, 2, 1),
+    MeetAll(2),
+    First(Plus, 5, 2),
+    First(Minus, 5, 3),
+    First(Minus, 8, 1),
+    Empty,
+    // the antimessages of the other bag alone take messages out
+    Post(Minus, 6, 1),
+    Post(Plus, 3, 1),
+    Post(Minus, 8, 1),
+    Post(Minus, 9, 1),
+    Post(Minus, 9, 1),
+    Swap,
+    Post(Plus, 6, 1),
+    Post(Plus, 6, 1),
+    Post(Minus, 6, 1),
+    Post(Plus, 3, 1),
+    Post(Plus, 9, 1),
+    Cancel,
+    First(Plus, 3, 1),
+    First(Plus, 6, 1),
+    First(Minus, 6, 1),
+    Empty,
+    Swap,
+    WithoutAll,
+    Empty,
+];
 
-// Whether so many pairs leave the bag of these messages, and these messages stay.
-fn all_meet(alloc: Global, rows: &[Row], pairs: u64, left: &[Row]) -> Result<bool, Fail> {
-    let mut flight = bag(alloc, rows)?;
-    Ok(flight.meet_all() == pairs && holds(&flight, left))
-}
+const MOVED: [Step; 56] = [
+    // the order of posts makes no difference, their number does
+    Post(Plus, 6, 1),
+    Post(Minus, 3, 1),
+    Post(Plus, 6, 1),
+    Swap,
+    Post(Plus, 6, 1),
+    Post(Plus, 6, 1),
+    Same(false),
+    Post(Minus, 3, 1),
+    Same(true),
+    TakeEqual(Plus, 6, 1),
+    Same(false),
+    WithoutAll,
+    Empty,
+    // all of the other bag goes in, each to its place
+    Swap,
+    WithoutAll,
+    Post(Plus, 9, 1),
+    Post(Plus, 6, 1),
+    Post(Minus, 2, 1),
+    Swap,
+    Post(Plus, 6, 1),
+    Post(Plus, 3, 1),
+    Append,
+    First(Minus, 2, 1),
+    First(Plus, 3, 1),
+    First(Plus, 6, 1),
+    First(Plus, 6, 1),
+    First(Plus, 9, 1),
+    Empty,
+    Swap,
+    Empty,
+    // what is below is dropped
+    Post(Plus, 6, 1),
+    Post(Minus, 3, 1),
+    Post(Plus, 9, 1),
+    WithoutBelow(6),
+    First(Plus, 6, 1),
+    WithoutAll,
+    Empty,
+    // a bag goes apart by receivers
+    Post(Plus, 9, 1),
+    Post(Minus, 3, 4),
+    Post(Minus, 6, 1),
+    Post(Plus, 6, 1),
+    Post(Plus, 6, 1),
+    Split(2),
+    Swap,
+    Empty,
+    Swap,
+    Split(1),
+    First(Minus, 3, 4),
+    Empty,
+    Swap,
+    Split(1),
+    Empty,
+    Swap,
+    First(Plus, 6, 1),
+    First(Plus, 6, 1),
+    Least(6),
+];
 
 #[test]
-fn all_pairs_meet(rt: HostRuntime) -> Result<(), Fail> {
-    let pair = [plus(6, 1), minus(6, 1), plus(6, 1)];
-    assert!(rt; all_meet(rt.alloc(), &pair, 1, &[plus(6, 1)])?);
-    let mixed = [
-        minus(8, 1),
-        plus(2, 1),
-        plus(8, 1),
-        minus(5, 3),
-        minus(8, 1),
-        plus(5, 2),
-        minus(2, 1),
-    ];
-    let left = [plus(5, 2), minus(5, 3), minus(8, 1)];
-    assert!(rt; all_meet(rt.alloc(), &mixed, 2, &left)?);
-    assert!(rt; all_meet(rt.alloc(), &[], 0, &[])?);
-    Ok(())
-}
-
-// Whether the bags of these messages are equal.
-fn are_equal(alloc: Global, first: &[Row], second: &[Row]) -> Result<bool, Fail> {
-    Ok(bag(alloc, first)? == bag(alloc, second)?)
-}
-
-#[test]
-fn the_order_of_posts_makes_no_difference(rt: HostRuntime) -> Result<(), Fail> {
-    let first = [plus(6, 1), minus(3, 1), plus(6, 1)];
-    let second = [plus(6, 1), plus(6, 1), minus(3, 1)];
-    let once = [plus(6, 1), minus(3, 1)];
-    assert!(rt; are_equal(rt.alloc(), &first, &second)?);
-    assert!(rt; !are_equal(rt.alloc(), &first, &once)?);
-    assert!(rt; !are_equal(rt.alloc(), &once, &first)?);
-    Ok(())
-}
-
-// Whether a bag of these messages takes all of those in, and has these then.
-fn takes_in(alloc: Global, rows: &[Row], more: &[Row], all: &[Row]) -> Result<bool, Fail> {
-    let mut flight = bag(alloc, rows)?;
-    let mut more = bag(alloc, more)?;
-    flight.append(&mut more);
-    Ok(holds(&flight, all) && more.is_empty())
-}
-
-#[test]
-fn one_bag_goes_into_another(rt: HostRuntime) -> Result<(), Fail> {
-    let rows = [plus(6, 1), plus(3, 1)];
-    let more = [plus(9, 1), plus(6, 1), minus(2, 1)];
-    let all = [minus(2, 1), plus(3, 1), plus(6, 1), plus(6, 1), plus(9, 1)];
-    assert!(rt; takes_in(rt.alloc(), &rows, &more, &all)?);
-    Ok(())
-}
-
-#[test]
-fn what_is_below_is_dropped(rt: HostRuntime) -> Result<(), Fail> {
-    let mut flight = bag(rt.alloc(), &[plus(6, 1), minus(3, 1), plus(9, 1)])?;
-    flight.drop_below(Bound::At(key(6)));
-    assert!(rt; holds(&flight, &[plus(6, 1), plus(9, 1)]));
-    flight.drop_below(Bound::End);
-    assert!(rt; flight.is_empty());
-    Ok(())
-}
-
-#[test]
-fn each_antimessage_of_others_takes_one(rt: HostRuntime) -> Result<(), Fail> {
-    let mine = [plus(6, 1), plus(6, 1), minus(6, 1), plus(3, 1), plus(9, 1)];
-    let theirs = [
-        minus(6, 1),
-        plus(3, 1),
-        minus(8, 1),
-        minus(9, 1),
-        minus(9, 1),
-    ];
-    let mut flight = bag(rt.alloc(), &mine)?;
-    flight.cancel(&bag(rt.alloc(), &theirs)?);
-    assert!(rt; holds(&flight, &[plus(3, 1), plus(6, 1), minus(6, 1)]));
-    Ok(())
-}
-
-#[test]
-fn a_bag_goes_apart_by_receivers(rt: HostRuntime) -> Result<(), Fail> {
-    let all = [plus(9, 1), minus(3, 4), minus(6, 1), plus(6, 1), plus(6, 1)];
-    let to_one = [plus(6, 1), plus(6, 1), minus(6, 1), plus(9, 1)];
-    let mut flight = bag(rt.alloc(), &all)?;
-    assert!(rt; flight.split_to(2).is_empty());
-    let mut split = flight.split_to(1);
-    assert!(rt; holds(&flight, &[minus(3, 4)]));
-    assert!(rt; holds(&split, &to_one));
-    assert!(rt; holds(&split.split_to(1), &to_one));
-    assert!(rt; split.is_empty());
-    Ok(())
+fn bags_hold_what_was_posted(rt: HostRuntime) {
+    let (mut bag, mut other) = (Bag::new(), Bag::new());
+    assert_all(
+        &rt,
+        count(rt.alloc(), &mut bag, &mut other, &TAKEN),
+        TAKEN.len(),
+    );
+    assert_all(
+        &rt,
+        count(rt.alloc(), &mut bag, &mut other, &MET),
+        MET.len(),
+    );
+    assert_all(
+        &rt,
+        count(rt.alloc(), &mut bag, &mut other, &MOVED),
+        MOVED.len(),
+    );
+    // the last rows leave two messages in the bag
+    let mut messages = bag.iter();
+    assert!(rt;
+        messages.next().is_some() && messages.next().is_some() && messages.next().is_none()
+    );
+    may_cross(&bag, &other);
 }

@@ -1,16 +1,9 @@
 //! Least bounds, worked out by hand.
 ghost use Rattle.gvt.specs.Least.{IsLeast};
 
-use event_keys::{Bound, Key};
+use super::key;
+use event_keys::Bound::{self, At, End};
 use gvt::least_bound;
-
-fn at(tick: u64, component: u16, number: u64) -> Bound {
-    Bound::At(Key {
-        tick,
-        component,
-        number,
-    })
-}
 
 fn least_of(bounds: &[Bound]) -> Bound
     ensures { IsLeast bounds.now result }
@@ -20,15 +13,21 @@ fn least_of(bounds: &[Bound]) -> Bound
 
 #[test]
 fn least_of_some_bounds(rt: HostRuntime) {
-    assert_eq!(rt; least_of(&[]), Bound::End);
-    assert_eq!(rt; least_of(&[Bound::End, Bound::End]), Bound::End);
-    assert_eq!(rt; least_of(&[Bound::End, at(7, 1, 3)]), at(7, 1, 3));
-    assert_eq!(rt;
-        least_of(&[at(4, 1, 0), at(3, 9, 5), at(3, 8, 6)]),
-        at(3, 8, 6)
-    );
-    assert_eq!(rt;
-        least_of(&[at(2, 1, 1), at(2, 1, 0), at(2, 2, 0)]),
-        at(2, 1, 0)
-    );
+    assert!(rt; least_of(&[]) == End);
+    // some bounds, and the least of them
+    let rows = [
+        ([End, End, End], End),
+        ([End, At(key(7, 1, 3)), End], At(key(7, 1, 3))),
+        (
+            [At(key(4, 1, 0)), At(key(3, 9, 5)), At(key(3, 8, 6))],
+            At(key(3, 8, 6)),
+        ),
+        (
+            [At(key(2, 1, 1)), At(key(2, 1, 0)), At(key(2, 2, 0))],
+            At(key(2, 1, 0)),
+        ),
+    ];
+    for (bounds, least) in rows {
+        assert!(rt; least_of(&bounds) == least);
+    }
 }

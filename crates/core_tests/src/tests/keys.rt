@@ -2,149 +2,53 @@
 ghost use Rattle.std.specs.Prelude.{◌≡◌, ◌^◌};
 ghost use Rattle.event_keys.specs.Ranks.{rank, rank_of_bound, owner_of};
 
+use super::key;
 use event_keys::{Bound, Entry, Key, Message, Outcome, Sign, Signed, Turned};
-use std::alloc::AllocError;
+use std::alloc::AllocGlobal;
 use std::process::Abort;
-use std::test::Fail;
 use terms::{Action, Scalar};
 
-fn key(tick: u64, component: u16, number: u64) -> Key {
-    Key {
-        tick,
-        component,
-        number,
+fn action(rt: &(impl Abort + AllocGlobal), name: u16, argument: i64, truth: bool) -> Action {
+    let args = [Scalar::Int(argument), Scalar::Bool(truth)];
+    Action {
+        name,
+        args: Vec::from_array(rt.alloc(), args).expect(rt, "memory for arguments"),
     }
 }
 
-fn action(rt: &HostRuntime, name: u16, argument: i64) -> Result<Action, AllocError> {
-    Ok(Action {
-        name,
-        args: vec![in rt.alloc(); Scalar::Int(argument)]?,
-    })
-}
-
-fn message(key: Key, action: &Action, to: u16) -> Result<Message, AllocError> {
-    Ok(Message {
+fn message(
+    rt: &(impl Abort + AllocGlobal),
+    key: Key,
+    name: u16,
+    argument: i64,
+    to: u16,
+) -> Message {
+    Message {
         key,
-        action: action.clone()?,
+        action: action(rt, name, argument, true),
         to,
-    })
+    }
 }
 
-fn assert_rising<T: Ord>(rt: &impl Abort, values: &[T]) {
+// A turn that was idle, or did an action of this name with this argument.
+fn turned(rt: &(impl Abort + AllocGlobal), key: Key, did: Option<(u16, i64)>) -> Turned {
+    let outcome = match did {
+        None => Outcome::Idle,
+        Some((name, argument)) => Outcome::Did(action(rt, name, argument, true)),
+    };
+    Turned { key, outcome }
+}
+
+// Whether each value is above all those before it, and equal to itself alone.
+fn rise<T: Ord>(values: &[T]) -> bool {
     for (k, earlier) in values.iter().enumerate() {
         for (n, later) in values.iter().enumerate() {
-            assert!(rt; earlier.cmp(later) == k.cmp(&n), "at {k} and {n}");
-            assert!(rt; (earlier == later) == (k == n), "at {k} and {n}");
+            if earlier.cmp(later) != k.cmp(&n) || (earlier == later) != (k == n) {
+                return false;
+            }
         }
     }
-}
-
-#[test]
-fn keys_rise_by_tick_then_component_then_number(rt: HostRuntime) {
-    let keys = [
-        key(1, 9, 9),
-        key(2, 0, 0),
-        key(2, 0, 9),
-        key(2, 1, 0),
-        key(2, 1, 1),
-        key(10, 0, 0),
-    ];
-    assert_rising(&rt, &keys);
-}
-
-#[test]
-fn end_is_above_every_key(rt: HostRuntime) {
-    let bounds = [
-        Bound::At(key(0, 0, 0)),
-        Bound::At(key(0, 0, 1)),
-        Bound::At(key(u64::MAX, u16::MAX, u64::MAX)),
-        Bound::End,
-    ];
-    assert_rising(&rt, &bounds);
-}
-
-#[test]
-fn messages_rise_by_key_then_action_then_receiver(rt: HostRuntime) -> Result<(), Fail> {
-    let low = action(&rt, 3, -5)?;
-    let high = action(&rt, 3, 2)?;
-    let messages = [
-        message(key(1, 1, 1), &high, 9)?,
-        message(key(1, 2, 0), &low, 4)?,
-        message(key(1, 2, 0), &low, 5)?,
-        message(key(1, 2, 0), &high, 0)?,
-    ];
-    assert_rising(&rt, &messages);
-    Ok(())
-}
-
-#[test]
-fn plus_is_before_minus_of_the_same_message(rt: HostRuntime) -> Result<(), Fail> {
-    let push = action(&rt, 3, 0)?;
-    let signed = [
-        Signed {
-            message: message(key(1, 0, 0), &push, 1)?,
-            sign: Sign::Plus,
-        },
-        Signed {
-            message: message(key(1, 0, 0), &push, 1)?,
-            sign: Sign::Minus,
-        },
-        Signed {
-            message: message(key(1, 0, 0), &push, 2)?,
-            sign: Sign::Plus,
-        },
-    ];
-    assert_rising(&rt, &signed);
-    Ok(())
-}
-
-#[test]
-fn an_idle_turn_is_before_any_action_and_an_own_turn_before_an_input(
-    rt: HostRuntime,
-) -> Result<(), Fail> {
-    let low = action(&rt, 3, 1)?;
-    let high = action(&rt, 4, 0)?;
-    let at = key(6, 2, 1);
-    let entries = [
-        Entry::Input(message(key(5, 9, 9), &high, 9)?),
-        Entry::Own(Turned {
-            key: at,
-            outcome: Outcome::Idle,
-        }),
-        Entry::Own(Turned {
-            key: at,
-            outcome: Outcome::Did(low.clone()?),
-        }),
-        Entry::Input(message(at, &low, 0)?),
-        Entry::Input(message(at, &low, 1)?),
-        Entry::Own(Turned {
-            key: at,
-            outcome: Outcome::Did(high.clone()?),
-        }),
-        Entry::Input(message(at, &high, 0)?),
-    ];
-    assert_rising(&rt, &entries);
-    assert!(rt; entries[0].key() == key(5, 9, 9));
-    assert!(rt; entries[1].key() == at);
-    Ok(())
-}
-
-#[test]
-fn turns_rise_by_key_then_outcome(rt: HostRuntime) -> Result<(), Fail> {
-    let push = action(&rt, 0, 0)?;
-    let turns = [
-        Turned {
-            key: key(6, 2, 1),
-            outcome: Outcome::Did(push),
-        },
-        Turned {
-            key: key(6, 2, 2),
-            outcome: Outcome::Idle,
-        },
-    ];
-    assert_rising(&rt, &turns);
-    Ok(())
+    true
 }
 
 // 2 * 2^80, 2^80 + 2^64 and 2^144.
@@ -157,6 +61,79 @@ fn ranks_by_hand()
 {}
 
 #[test]
-fn ranks_are_as_worked_out_by_hand() {
+fn keys_rise_by_tick_then_component_then_number_and_the_end_is_above_all(rt: HostRuntime) {
     ranks_by_hand();
+    let keys = [
+        key(1, 9, 9),
+        key(2, 0, 0),
+        key(2, 0, 9),
+        key(2, 1, 0),
+        key(2, 1, 1),
+        key(10, 0, 0),
+    ];
+    assert!(rt; rise(&keys));
+    let bounds = [
+        Bound::At(key(0, 0, 0)),
+        Bound::At(key(0, 0, 1)),
+        Bound::At(key(u64::MAX, u16::MAX, u64::MAX)),
+        Bound::End,
+    ];
+    assert!(rt; rise(&bounds));
+}
+
+#[test]
+fn messages_rise_by_key_then_action_then_receiver_and_then_by_sign(rt: HostRuntime) {
+    let actions = [
+        action(&rt, 1, -3, true),
+        action(&rt, 1, 2, false),
+        action(&rt, 1, 2, true),
+        action(&rt, 2, -9, false),
+    ];
+    assert!(rt; rise(&actions));
+    let copy = actions[0].clone().expect(&rt, "memory for a copy");
+    assert!(rt; copy == actions[0]);
+    let messages = [
+        message(&rt, key(1, 1, 1), 3, 2, 9),
+        message(&rt, key(1, 2, 0), 3, -5, 4),
+        message(&rt, key(1, 2, 0), 3, -5, 5),
+        message(&rt, key(1, 2, 0), 3, 2, 0),
+    ];
+    assert!(rt; rise(&messages));
+    let signed = [
+        Signed {
+            message: message(&rt, key(1, 0, 0), 3, 0, 1),
+            sign: Sign::Plus,
+        },
+        Signed {
+            message: message(&rt, key(1, 0, 0), 3, 0, 1),
+            sign: Sign::Minus,
+        },
+        Signed {
+            message: message(&rt, key(1, 0, 0), 3, 0, 2),
+            sign: Sign::Plus,
+        },
+    ];
+    assert!(rt; rise(&signed));
+}
+
+// An idle turn is before any action, and an own turn before an input of the same action.
+#[test]
+fn entries_rise_by_key_then_action_and_then_by_receiver(rt: HostRuntime) {
+    let at = key(6, 2, 1);
+    let entries = [
+        Entry::Input(message(&rt, key(5, 9, 9), 4, 0, 9)),
+        Entry::Own(turned(&rt, at, None)),
+        Entry::Own(turned(&rt, at, Some((3, 1)))),
+        Entry::Input(message(&rt, at, 3, 1, 0)),
+        Entry::Input(message(&rt, at, 3, 1, 1)),
+        Entry::Own(turned(&rt, at, Some((4, 0)))),
+        Entry::Input(message(&rt, at, 4, 0, 0)),
+    ];
+    assert!(rt; rise(&entries));
+    assert!(rt; entries[0].key() == key(5, 9, 9) && entries[1].key() == at);
+    let turns = [
+        turned(&rt, at, Some((0, 0))),
+        turned(&rt, key(6, 2, 2), None),
+    ];
+    assert!(rt; rise(&turns));
 }

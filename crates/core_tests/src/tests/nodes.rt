@@ -1,175 +1,248 @@
+//! Lists of nodes with a cursor, by hand.
+
+use super::{assert_all, may_cross};
+use Step::{
+    Append, Empty, First, Insert, Items, Last, Next, PassAll, PassBack, PassNext, Same, Swap,
+    TakeAboveFive, TakeEqual, TakeFirst, TakeLast,
+};
 use raw_events::{EventCell, EventList};
-use std::alloc::AllocError;
-use std::process::Abort;
+use std::alloc::{AllocError, Global};
+use std::mem::swap;
 use std::rc::Rc;
-use std::test::Fail;
-
-fn needs_send<T: Send>(_value: &T) {}
-
-fn needs_sync<T: Sync>(_value: &T) {}
 
 // At every item that may move, or be shared.
-fn may_move<T: Send>(list: &EventList<T>, cell: &EventCell<T>) {
-    needs_send(list);
-    needs_send(cell);
+fn nodes_may_cross<S: Send, T: Sync>(
+    moved: &EventList<S>,
+    moved_cell: &EventCell<S>,
+    shared: &EventList<T>,
+    shared_cell: &EventCell<T>,
+) {
+    may_cross(moved, shared);
+    may_cross(moved_cell, shared_cell);
 }
 
-fn may_be_shared<T: Sync>(list: &EventList<T>, cell: &EventCell<T>) {
-    needs_sync(list);
-    needs_sync(cell);
+/// What is done with a list and another one, with its answer, or what is seen.
+#[derive(Clone, Copy)]
+enum Step {
+    Insert(u64),
+    PassNext(bool),
+    PassBack(bool),
+    PassAll,
+    /// The first item of all is seen.
+    First(Option<u64>),
+    /// The item before the cursor is seen.
+    Last(Option<u64>),
+    /// The item after the cursor is seen.
+    Next(Option<u64>),
+    TakeFirst(Option<u64>),
+    TakeLast(Option<u64>),
+    /// The first after the cursor that equals a number is taken.
+    TakeEqual(u64, Option<u64>),
+    /// The first after the cursor that is above 5 is taken.
+    TakeAboveFive(Option<u64>),
+    /// The four items are gone through.
+    Items([u64; 4]),
+    Empty,
+    /// The other list goes to the end of this one.
+    Append,
+    /// The two lists change places.
+    Swap,
+    /// Whether the two lists are equal.
+    Same(bool),
 }
 
 fn value_of(cell: Option<EventCell<u64>>) -> Option<u64> {
-    cell.map(|cell| cell.into_value())
+    match cell {
+        Some(cell) => Some(cell.into_value()),
+        None => None,
+    }
 }
 
-// Takes the list apart, and compares it with the items before the cursor and those after it, each in the list's order.
-fn assert_items(rt: &impl Abort, mut list: EventList<u64>, before: &[u64], after: &[u64]) {
-    for value in before.iter().rev() {
-        is(rt, value_of(list.take_last()), Some(*value));
+// The cell is made with another value, and gets this one in its place.
+fn insert(alloc: Global, list: &mut EventList<u64>, value: u64) -> Result<(), AllocError> {
+    let mut cell = EventCell::new(alloc, 0)?;
+    *cell.value_mut() = value;
+    list.insert_sorted(cell);
+    Ok(())
+}
+
+fn has_items(list: &EventList<u64>, wanted: [u64; 4]) -> bool {
+    let mut items = list.iter();
+    for value in wanted {
+        if items.next().copied() != Some(value) {
+            return false;
+        }
     }
-    is(rt, value_of(list.take_last()), None);
-    for value in after {
-        is(rt, value_of(list.take_first()), Some(*value));
+    items.next().is_none()
+}
+
+fn does(alloc: Global, list: &mut EventList<u64>, other: &mut EventList<u64>, step: Step) -> bool {
+    match step {
+        Insert(value) => return insert(alloc, list, value).is_ok(),
+        PassNext(wanted) => return list.pass_next() == wanted,
+        PassBack(wanted) => return list.pass_back() == wanted,
+        First(wanted) => return list.peek_first().copied() == wanted,
+        Last(wanted) => return list.peek_last().copied() == wanted,
+        Next(wanted) => return list.peek_next().copied() == wanted,
+        TakeFirst(wanted) => return value_of(list.take_first()) == wanted,
+        TakeLast(wanted) => return value_of(list.take_last()) == wanted,
+        TakeEqual(value, wanted) => return value_of(list.take_equal(&value)) == wanted,
+        TakeAboveFive(wanted) => {
+            return value_of(list.take_where(|value| *value > 5)) == wanted;
+        }
+        Items(wanted) => return has_items(list, wanted),
+        Empty => return list.peek_first().is_none() && list.iter().next().is_none(),
+        Same(wanted) => return (*list == *other) == wanted,
+        // the others have no answer
+        PassAll => list.pass_all(),
+        Append => list.append_all(other),
+        Swap => swap(list, other),
     }
-    is(rt, value_of(list.take_first()), None);
+    true
+}
+
+// How many of the steps come out as they say, up to the first that doesn't.
+fn count(
+    alloc: Global,
+    list: &mut EventList<u64>,
+    other: &mut EventList<u64>,
+    steps: &[Step],
+) -> usize {
+    for (k, step) in steps.iter().enumerate() {
+        if !does(alloc, list, other, *step) {
+            return k;
+        }
+    }
+    steps.len()
 }
 
 // 1 and 3 before the cursor, 5 and 7 after it.
-fn row<R: AllocGlobal>(rt: &R) -> Result<EventList<u64>, Fail> {
+const ROW: [Step; 29] = [
+    Empty,
+    Insert(7),
+    Insert(5),
+    Insert(3),
+    Insert(1),
+    PassNext(true),
+    PassNext(true),
+    First(Some(1)),
+    Last(Some(3)),
+    Next(Some(5)),
+    Insert(5),
+    TakeEqual(5, Some(5)),
+    TakeEqual(6, None),
+    TakeEqual(3, None),
+    PassBack(true),
+    Last(Some(1)),
+    Next(Some(3)),
+    TakeLast(Some(1)),
+    PassBack(false),
+    First(Some(3)),
+    TakeLast(None),
+    TakeFirst(Some(3)),
+    First(Some(5)),
+    PassAll,
+    PassNext(false),
+    TakeLast(Some(7)),
+    TakeLast(Some(5)),
+    TakeLast(None),
+    Empty,
+];
+
+const CALLS: [Step; 62] = [
+    // where there is nothing
+    Append,
+    PassNext(false),
+    PassBack(false),
+    TakeFirst(None),
+    TakeLast(None),
+    TakeEqual(1, None),
+    TakeAboveFive(None),
+    Next(None),
+    Last(None),
+    Empty,
+    Insert(7),
+    Insert(5),
+    Insert(3),
+    Insert(1),
+    // gone through in order, wherever the cursor stands
+    PassNext(true),
+    PassNext(true),
+    Items([1, 3, 5, 7]),
+    PassBack(true),
+    Items([1, 3, 5, 7]),
+    PassBack(true),
+    Items([1, 3, 5, 7]),
+    // the first that passes a test
+    TakeAboveFive(Some(7)),
+    Insert(9),
+    Insert(7),
+    TakeAboveFive(Some(7)),
+    TakeAboveFive(Some(9)),
+    TakeAboveFive(None),
+    Insert(7),
+    // equal where both sides are
+    Swap,
+    Insert(7),
+    Insert(5),
+    Insert(3),
+    Insert(1),
+    Same(true),
+    PassNext(true),
+    Same(false),
+    PassNext(true),
+    Swap,
+    PassNext(true),
+    PassNext(true),
+    Same(true),
+    TakeEqual(7, Some(7)),
+    Same(false),
+    Insert(7),
+    // both sides of the other list go to the end
+    Append,
+    Swap,
+    Next(None),
+    Last(None),
+    Empty,
+    Swap,
+    Same(false),
+    TakeLast(Some(3)),
+    TakeLast(Some(1)),
+    TakeLast(None),
+    TakeFirst(Some(5)),
+    TakeFirst(Some(7)),
+    TakeFirst(Some(1)),
+    TakeFirst(Some(3)),
+    TakeFirst(Some(5)),
+    TakeFirst(Some(7)),
+    TakeFirst(None),
+    Empty,
+];
+
+#[test]
+fn lists_answer_on_both_sides_of_the_cursor(rt: HostRuntime) {
+    let (mut list, mut other) = (EventList::new(), EventList::new());
+    assert_all(
+        &rt,
+        count(rt.alloc(), &mut list, &mut other, &ROW),
+        ROW.len(),
+    );
+    assert_all(
+        &rt,
+        count(rt.alloc(), &mut list, &mut other, &CALLS),
+        CALLS.len(),
+    );
+}
+
+#[test]
+fn drops_a_long_list(rt: HostRuntime) {
     let mut list = EventList::new();
-    for value in [7u64, 5, 3, 1] {
-        list.insert_sorted(EventCell::new(rt.alloc(), value)?);
+    for value in 0..1_000_000u64 {
+        list.push_last(EventCell::new(rt.alloc(), value).expect(&rt, "memory for a node"));
     }
-    list.pass_next();
-    list.pass_next();
-    Ok(list)
-}
-
-fn is(rt: &impl Abort, found: Option<u64>, wanted: Option<u64>) {
-    assert_eq!(rt; found, wanted);
-}
-
-#[test]
-fn calls_on_a_row(rt: HostRuntime) -> Result<(), Fail> {
-    let mut list = row(&rt)?;
-    is(&rt, list.peek_first().copied(), Some(1));
-    is(&rt, list.peek_last().copied(), Some(3));
-    is(&rt, list.peek_next().copied(), Some(5));
-    list.insert_sorted(EventCell::new(rt.alloc(), 5)?);
-    is(&rt, value_of(list.take_equal(&5)), Some(5));
-    is(&rt, value_of(list.take_equal(&6)), None);
-    is(&rt, value_of(list.take_equal(&3)), None);
-    assert_eq!(rt; list.pass_back(), true);
-    is(&rt, list.peek_last().copied(), Some(1));
-    is(&rt, list.peek_next().copied(), Some(3));
-    is(&rt, value_of(list.take_last()), Some(1));
-    assert_eq!(rt; list.pass_back(), false);
-    is(&rt, list.peek_first().copied(), Some(3));
-    is(&rt, value_of(list.take_last()), None);
-    is(&rt, value_of(list.take_first()), Some(3));
-    is(&rt, list.peek_first().copied(), Some(5));
-    list.pass_all();
-    assert_items(&rt, list, &[5, 7], &[]);
-    Ok(())
-}
-
-// A caller that names its error.
-fn cell<R: AllocGlobal>(rt: &R, value: u64) -> Result<EventCell<u64>, AllocError> {
-    Ok(EventCell::new(rt.alloc(), value)?)
-}
-
-#[test]
-fn takes_the_first_that_passes(rt: HostRuntime) -> Result<(), Fail> {
-    let mut list = row(&rt)?;
-    list.insert_sorted(cell(&rt, 9)?);
-    assert_eq!(rt; value_of(list.take_where(|value| *value > 5)), Some(7));
-    assert_eq!(rt; value_of(list.take_where(|value| *value < 5)), None);
-    assert_items(&rt, list, &[1, 3], &[5, 9]);
-    Ok(())
-}
-
-#[test]
-fn answers_where_there_is_nothing(rt: HostRuntime) -> Result<(), Fail> {
-    let mut list: EventList<u64> = EventList::new();
-    let mut other = EventList::new();
-    list.append_all(&mut other);
-    assert_eq!(rt; list.pass_next(), false);
-    assert_eq!(rt; list.pass_back(), false);
-    assert_eq!(rt; list.peek_next().is_none(), true);
-    assert_eq!(rt; list.peek_last().is_none(), true);
-    assert_eq!(rt; list.peek_first().is_none(), true);
-    assert_eq!(rt; value_of(list.take_first()), None);
-    assert_eq!(rt; value_of(list.take_last()), None);
-    assert_eq!(rt; value_of(list.take_equal(&1)), None);
-    Ok(())
-}
-
-#[test]
-fn appends_both_sides(rt: HostRuntime) -> Result<(), Fail> {
-    let mut list = row(&rt)?;
-    let mut other = row(&rt)?;
-    list.append_all(&mut other);
-    assert_eq!(rt; other.peek_last().is_none(), true);
-    assert_eq!(rt; other.peek_next().is_none(), true);
-    assert_items(&rt, list, &[1, 3], &[5, 7, 1, 3, 5, 7]);
-    Ok(())
-}
-
-#[test]
-fn iterates_in_order(rt: HostRuntime) -> Result<(), Fail> {
-    let mut list = row(&rt)?;
-    for moves in 0..3u32 {
-        let mut items = Vec::new(rt.alloc());
-        for item in list.iter() {
-            items.push(*item)?;
-        }
-        assert_eq!(rt;
-            items,
-            vec![in rt.alloc(); 1, 3, 5, 7]?,
-            "after {moves} moves"
-        );
-        list.pass_back();
-    }
-    let empty: EventList<u64> = EventList::new();
-    assert_eq!(rt; empty.iter().next().is_none(), true);
-    Ok(())
-}
-
-#[test]
-fn equal_where_both_sides_are(rt: HostRuntime) -> Result<(), Fail> {
-    let mut list = row(&rt)?;
-    let mut other = row(&rt)?;
-    assert_eq!(rt; list == other, true);
-    list.pass_next();
-    assert_eq!(rt; list == other, false);
-    other.pass_next();
-    assert_eq!(rt; list == other, true);
-    drop(other.take_first());
-    assert_eq!(rt; list == other, false);
-    Ok(())
-}
-
-#[test]
-fn changes_a_value_in_its_place(rt: HostRuntime) -> Result<(), Fail> {
-    let mut list = row(&rt)?;
-    let mut cell = EventCell::new(rt.alloc(), 4u64)?;
-    may_move(&list, &cell);
-    may_be_shared(&list, &cell);
-    *cell.value_mut() = 6;
-    list.insert_sorted(cell);
-    assert_items(&rt, list, &[1, 3], &[5, 6, 7]);
-    Ok(())
-}
-
-#[test]
-fn drops_a_long_list(rt: HostRuntime) -> Result<(), Fail> {
-    let mut list = EventList::new();
-    for value in 0..1000000u64 {
-        list.push_last(EventCell::new(rt.alloc(), value)?);
-    }
-    assert_eq!(rt; list.peek_last().copied(), Some(999999));
-    Ok(())
+    assert!(rt; list.peek_last().copied() == Some(999_999));
+    let cell = EventCell::new(rt.alloc(), 0u64).expect(&rt, "memory for a node");
+    nodes_may_cross(&list, &cell, &list, &cell);
 }
 
 // Plays the row on shared items, and lets go of all that it has after so many calls.
@@ -207,28 +280,30 @@ fn play(
 }
 
 #[test]
-fn drops_each_item_once(rt: HostRuntime) -> Result<(), Fail> {
-    let one = Rc::new(rt.alloc(), 1u64)?;
-    let three = Rc::new(rt.alloc(), 3u64)?;
-    let five = Rc::new(rt.alloc(), 5u64)?;
-    let seven = Rc::new(rt.alloc(), 7u64)?;
-    let another_five = Rc::new(rt.alloc(), 5u64)?;
-    let six = Rc::new(rt.alloc(), 6u64)?;
+fn drops_each_item_once(rt: HostRuntime) {
+    let one = Rc::new(rt.alloc(), 1u64).expect(&rt, "memory for an item");
+    let three = Rc::new(rt.alloc(), 3u64).expect(&rt, "memory for an item");
+    let five = Rc::new(rt.alloc(), 5u64).expect(&rt, "memory for an item");
+    let seven = Rc::new(rt.alloc(), 7u64).expect(&rt, "memory for an item");
+    let another_five = Rc::new(rt.alloc(), 5u64).expect(&rt, "memory for an item");
+    let six = Rc::new(rt.alloc(), 6u64).expect(&rt, "memory for an item");
     for calls in 0..6u32 {
         let mut list = EventList::new();
         for item in [&seven, &five, &three, &one] {
-            list.insert_sorted(EventCell::new(rt.alloc(), item.clone()?)?);
+            let shared = item.clone().expect(&rt, "one more reference");
+            let cell = EventCell::new(rt.alloc(), shared).expect(&rt, "memory for a node");
+            list.insert_sorted(cell);
         }
         list.pass_next();
         list.pass_next();
-        let cell = EventCell::new(rt.alloc(), another_five.clone()?)?;
+        let shared = another_five.clone().expect(&rt, "one more reference");
+        let cell = EventCell::new(rt.alloc(), shared).expect(&rt, "memory for a node");
         for item in [&one, &three, &five, &seven, &another_five] {
-            assert_eq!(rt; Rc::strong_count(item), 2);
+            assert!(rt; Rc::strong_count(item) == 2);
         }
         play(list, cell, &five, &six, calls);
         for item in [&one, &three, &five, &seven, &another_five] {
-            assert_eq!(rt; Rc::strong_count(item), 1, "after {calls} calls");
+            assert!(rt; Rc::strong_count(item) == 1, "after {calls} calls");
         }
     }
-    Ok(())
 }

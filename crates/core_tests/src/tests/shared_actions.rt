@@ -1,9 +1,10 @@
 //! Parameters and entries against each other, by values worked out by hand.
 
+use Listed::{Enumeration, Range};
+use Param::{Between, Const, Member, Whole};
 use overlaps::{Span, is_shared, meet, overlap, span_of};
 use plans::{Entry, Kind, Param};
 use std::alloc::Global;
-use std::test::Fail;
 use terms::{Effect, Listed, NoMemory, Scalar, Term};
 
 const FORMALS: [Scalar; 3] = [Scalar::Int(3), Scalar::Bool(true), Scalar::Member(3)];
@@ -14,74 +15,50 @@ const OTHERS: [Scalar; 3] = [
     Scalar::Member(4),
 ];
 
-const LAST_MEMBERS: Listed = Listed::Enumeration {
-    first: 65_000,
-    count: 535,
-};
+const FIRST_TWO: Param = Member(Range { low: 0, count: 2 });
 
-fn numbers(low: i64, count: u16) -> Param {
-    Param::Member(Listed::Range { low, count })
-}
+const FIRST_FOUR: Param = Member(Range { low: 0, count: 4 });
 
-fn members(first: u16, count: u16) -> Param {
-    Param::Member(Listed::Enumeration { first, count })
-}
+const LATER_TWO: Param = Member(Range { low: 2, count: 2 });
 
-fn agree(param: Param, other: Param) -> bool {
-    meet(span_of(&FORMALS, &param), span_of(&OTHERS, &other))
-}
-
-#[test]
-fn a_value_against_a_type(rt: HostRuntime) -> Result<(), Fail> {
-    let three = Param::Const(0);
-    assert!(rt; agree(three, numbers(0, 4)));
-    assert!(rt; !agree(three, numbers(0, 3)));
-    assert!(rt; agree(three, Param::Between(3, 3)));
-    assert!(rt; agree(three, Param::Whole));
-    assert!(rt; !agree(three, members(0, 9)));
-    assert!(rt; agree(Param::Between(4, i64::MAX), Param::Const(0)));
-    assert!(rt; !agree(Param::Between(4, i64::MAX - 1), Param::Const(0)));
-    assert!(rt; agree(Param::Const(1), Param::Member(Listed::Bool)));
-    assert!(rt; agree(members(0, 5), Param::Const(2)));
-    assert!(rt; !agree(members(0, 4), Param::Const(2)));
-    Ok(())
-}
-
-#[test]
-fn a_value_against_a_value(rt: HostRuntime) -> Result<(), Fail> {
-    assert!(rt; !agree(Param::Const(0), Param::Const(0)));
-    assert!(rt; !agree(Param::Const(1), Param::Const(1)));
-    assert!(rt; !agree(Param::Const(2), Param::Const(2)));
-    let member = span_of(&FORMALS, &Param::Const(2));
-    let number = span_of(&FORMALS, &Param::Const(0));
-    assert!(rt; meet(member, member));
-    assert!(rt; !meet(member, number));
-    assert_eq!(rt; number, Span::Numbers(3, 4));
-    Ok(())
-}
-
-#[test]
-fn a_type_against_a_type(rt: HostRuntime) -> Result<(), Fail> {
-    assert!(rt; !agree(numbers(0, 2), numbers(2, 2)));
-    assert!(rt; agree(numbers(0, 3), numbers(2, 2)));
-    assert!(rt; agree(numbers(0, 2), Param::Whole));
-    assert!(rt; agree(Param::Whole, Param::Whole));
-    assert!(rt; !agree(Param::Whole, Param::Member(Listed::Bool)));
-    assert!(rt; !agree(members(0, 3), members(3, 3)));
-    assert!(rt; agree(Param::Member(LAST_MEMBERS), members(65_534, 1)));
-    Ok(())
-}
-
-#[test]
-fn lists_of_parameters(rt: HostRuntime) -> Result<(), Fail> {
-    let pair = [Param::Const(0), numbers(0, 2)];
-    assert!(rt; overlap(&FORMALS, &[], &OTHERS, &[]));
-    assert!(rt; overlap(&FORMALS, &pair, &OTHERS, &[numbers(0, 4), Param::Whole]));
-    assert!(rt; !overlap(&FORMALS, &pair, &OTHERS, &[numbers(0, 4), numbers(2, 2)]));
-    assert!(rt; !overlap(&FORMALS, &pair, &OTHERS, &[numbers(0, 4)]));
-    assert!(rt; !overlap(&FORMALS, &[], &OTHERS, &pair));
-    Ok(())
-}
+// Parameters of the formals and of the others, and whether some value stands for both: a value against a type, a value against a value, and
+// a type against a type.
+const ROWS: [(Param, Param, bool); 20] = [
+    (Const(0), FIRST_FOUR, true),
+    (Const(0), Member(Range { low: 0, count: 3 }), false),
+    (Const(0), Between(3, 3), true),
+    (Const(0), Whole, true),
+    (Const(0), Member(Enumeration { first: 0, count: 9 }), false),
+    (Between(4, i64::MAX), Const(0), true),
+    (Between(4, i64::MAX - 1), Const(0), false),
+    (Const(1), Member(Listed::Bool), true),
+    (Member(Enumeration { first: 0, count: 5 }), Const(2), true),
+    (Member(Enumeration { first: 0, count: 4 }), Const(2), false),
+    (Const(0), Const(0), false),
+    (Const(1), Const(1), false),
+    (Const(2), Const(2), false),
+    (FIRST_TWO, LATER_TWO, false),
+    (Member(Range { low: 0, count: 3 }), LATER_TWO, true),
+    (FIRST_TWO, Whole, true),
+    (Whole, Whole, true),
+    (Whole, Member(Listed::Bool), false),
+    (
+        Member(Enumeration { first: 0, count: 3 }),
+        Member(Enumeration { first: 3, count: 3 }),
+        false,
+    ),
+    (
+        Member(Enumeration {
+            first: 65_000,
+            count: 535,
+        }),
+        Member(Enumeration {
+            first: 65_534,
+            count: 1,
+        }),
+        true,
+    ),
+];
 
 fn entry(alloc: Global, name: u16, param: Param) -> Result<Entry, NoMemory> {
     Ok(Entry {
@@ -94,13 +71,24 @@ fn entry(alloc: Global, name: u16, param: Param) -> Result<Entry, NoMemory> {
 }
 
 #[test]
-fn entries_of_one_name_and_of_two(rt: HostRuntime) -> Result<(), Fail> {
-    let alloc = rt.alloc();
-    let three = entry(alloc, 1, Param::Const(0))?;
-    let any = entry(alloc, 1, Param::Whole)?;
-    let other = entry(alloc, 2, Param::Whole)?;
+fn entries_share_an_action_where_their_parameters_have_values_in_common(rt: HostRuntime) {
+    for (k, (param, other, wanted)) in ROWS.iter().enumerate() {
+        let is_met = meet(span_of(&FORMALS, param), span_of(&OTHERS, other));
+        assert!(rt; is_met == *wanted, "row {k}");
+    }
+    let member = span_of(&FORMALS, &Const(2));
+    assert!(rt; meet(member, member) && !meet(member, Span::Numbers(3, 4)));
+    assert!(rt; span_of(&FORMALS, &Const(0)) == Span::Numbers(3, 4));
+    let pair = [Const(0), FIRST_TWO];
+    assert!(rt; overlap(&FORMALS, &[], &OTHERS, &[]));
+    assert!(rt; overlap(&FORMALS, &pair, &OTHERS, &[FIRST_FOUR, Whole]));
+    assert!(rt; !overlap(&FORMALS, &pair, &OTHERS, &[FIRST_FOUR, LATER_TWO]));
+    assert!(rt; !overlap(&FORMALS, &pair, &OTHERS, &[FIRST_FOUR]));
+    assert!(rt; !overlap(&FORMALS, &[], &OTHERS, &pair));
+    let three = entry(rt.alloc(), 1, Const(0)).expect(&rt, "memory for an entry");
+    let any = entry(rt.alloc(), 1, Whole).expect(&rt, "memory for an entry");
+    let other = entry(rt.alloc(), 2, Whole).expect(&rt, "memory for an entry");
     assert!(rt; is_shared(&FORMALS, &three, &OTHERS, &any));
     assert!(rt; !is_shared(&FORMALS, &three, &OTHERS, &other));
     assert!(rt; !is_shared(&FORMALS, &three, &OTHERS, &three));
-    Ok(())
 }

@@ -1,69 +1,72 @@
-//! Stores of three variables, against values worked out by hand.
+//! Stores of three variables, against values worked out by hand: a number, an array of two numbers, and a sequence of two.
 
-use super::given::Word::Int;
-use super::given::{env, has_list, has_number, list, term};
-use std::alloc::{AllocGlobal, Global};
-use std::process::Abort;
-use std::test::Fail;
-use terms::{Cells, Effect, Listed, NoMemory, Scalar, State, Value, run};
+use super::assert_all;
+use super::words::{are, env, list};
+use Step::{
+    AssignItem, Clear, Forget, Mark, Marks, Number, Pair, Put, Same, Set, SetTwice, Start, Swap,
+    Undo,
+};
+use std::alloc::Global;
+use std::mem::swap;
+use terms::{Cells, Effect, Listed, NoMemory, Scalar, State, Term, Value, run};
 use undo_records::Store;
 
-/// What is done with its answer, or what is seen.
+/// What is done with a store and another one, with its answer, or what is seen.
 #[derive(Clone, Copy)]
 enum Step {
+    /// This store starts anew with 5, 1 and 2, 3 and 4, and the other one with this number, 1 and the second, 3 and the last.
+    Start(i64, i64, i64),
     Mark,
     /// Whether there was a mark.
     Undo(bool),
-    /// The first state is forgotten.
+    /// The first state is forgotten; there is a mark.
     Forget,
     Marks(usize),
     /// The cell 0 gets a number.
     Set(i64),
     /// The item of a cell gets a number.
     Put(usize, usize, i64),
-    /// The cell gets a list of the number twice.
-    SetTwice(usize, i64),
-    /// The cell gets the empty list.
-    Clear(usize),
+    /// The cell 1 gets a list of the number twice.
+    SetTwice(i64),
+    /// The cell 2 gets the empty list.
+    Clear,
     /// The item 1 of the cell 1 is assigned 5.
     AssignItem,
     /// The number in the cell 0.
     Number(i64),
     /// The two items of the cell 1.
     Pair(i64, i64),
+    /// The two stores change places.
+    Swap,
+    /// Whether their first states are the same.
+    Same(bool),
 }
-
-use Step::{Clear, Forget, Mark, Marks, Number, Pair, Put, Set, SetTwice, Undo};
 
 fn number(n: i64) -> Value {
     Value::of_scalar(Scalar::Int(n))
 }
 
-// A number, an array of 1 and another number, and a sequence of 3 and the last number.
-fn mixed(alloc: Global, start: (i64, i64, i64)) -> Result<State, NoMemory> {
-    let (n, second, last) = start;
-    let array = list(alloc, &[1, second])?;
-    let sequence = list(alloc, &[3, last])?;
-    let cells = Vec::from_array(alloc, [number(n), array, sequence])?;
-    Ok(State::new(cells))
+fn is_number(value: &Value, n: i64) -> bool {
+    !value.is_list() && value.scalar() == Scalar::Int(n)
 }
 
 const START: (i64, i64, i64) = (5, 2, 4);
 
+// A store with this number, 1 and the second number in the array, and 3 and the last number in the sequence.
 fn store(alloc: Global, start: (i64, i64, i64)) -> Result<Store, NoMemory> {
-    Store::new(alloc, mixed(alloc, start)?)
+    let (n, second, last) = start;
+    let array = list(alloc, &[1, second])?;
+    let sequence = list(alloc, &[3, last])?;
+    let cells = Vec::from_array(alloc, [number(n), array, sequence])?;
+    Store::new(alloc, State::new(cells))
 }
 
-fn assign_item(alloc: Global) -> Result<Effect, NoMemory> {
+// The item of the array at 1 is assigned 5.
+fn assign_item(alloc: Global, store: &mut Store) -> Result<(), NoMemory> {
     let pair = Listed::Range { low: 0, count: 2 };
-    let at = term(alloc, &[Int(1)])?;
-    Ok(Effect::AssignItem(1, at, pair, term(alloc, &[Int(5)])?))
-}
-
-// The item 1 of the cell 1 is assigned 5.
-fn assign<C: Cells>(alloc: Global, cells: &mut C) -> Result<(), NoMemory> {
-    let effect = assign_item(alloc)?;
-    run(alloc, &effect, &env(), cells)
+    let at = Term::Known(Scalar::Int(1));
+    let effect = Effect::AssignItem(1, at, pair, Term::Known(Scalar::Int(5)));
+    run(alloc, &effect, &env(), store)
 }
 
 // Whether there was a state to forget.
@@ -75,38 +78,58 @@ fn forgets_first(store: &mut Store) -> bool {
     true
 }
 
-fn does(alloc: Global, store: &mut Store, step: Step) -> Result<bool, NoMemory> {
-    match step {
-        Step::Mark => store.mark(alloc)?,
-        Step::Undo(wanted) => return Ok(store.undo() == wanted),
-        Step::Forget => return Ok(forgets_first(store)),
-        Step::Marks(count) => return Ok(store.marks() == count),
-        Step::Set(n) => store.set(0, number(n))?,
-        Step::Put(cell, at, n) => store.set_at(cell, at, number(n))?,
-        Step::SetTwice(cell, n) => store.set(cell, list(alloc, &[n, n])?)?,
-        Step::Clear(cell) => store.set(cell, Value::of_items(Vec::new(alloc)))?,
-        Step::AssignItem => assign(alloc, store)?,
-        Step::Number(n) => return Ok(has_number(store, 0, n)),
-        Step::Pair(first, second) => return has_list(alloc, store, 1, &[first, second]),
-    }
-    Ok(true)
+// Both stores start anew.
+fn restart(
+    alloc: Global,
+    one: &mut Store,
+    other: &mut Store,
+    start: (i64, i64, i64),
+) -> Result<(), NoMemory> {
+    *one = store(alloc, START)?;
+    *other = store(alloc, start)?;
+    Ok(())
 }
 
-fn runs(alloc: Global, store: &mut Store, steps: &[Step]) -> Result<bool, NoMemory> {
-    for step in steps {
-        if !does(alloc, store, *step)? {
-            return Ok(false);
+fn does(alloc: Global, store: &mut Store, other: &mut Store, step: Step) -> bool {
+    match step {
+        Start(n, second, last) => restart(alloc, store, other, (n, second, last)).is_ok(),
+        Mark => store.mark(alloc).is_ok(),
+        Undo(wanted) => store.undo() == wanted,
+        Forget => forgets_first(store),
+        Marks(count) => store.marks() == count,
+        Set(n) => store.set(0, number(n)).is_ok(),
+        Put(cell, at, n) => store.set_at(cell, at, number(n)).is_ok(),
+        SetTwice(n) => match list(alloc, &[n, n]) {
+            Ok(twice) => store.set(1, twice).is_ok(),
+            Err(_) => false,
+        },
+        Clear => store.set(2, Value::of_items(Vec::new(alloc))).is_ok(),
+        AssignItem => assign_item(alloc, store).is_ok(),
+        Number(n) => matches!(store.get(0), Some(value) if is_number(value, n)),
+        Pair(first, second) => matches!(store.get(1), Some(value) if are(value, &[first, second])),
+        Swap => {
+            swap(store, other);
+            true
+        }
+        Same(wanted) => {
+            store.has_same_first(other) == wanted && other.has_same_first(store) == wanted
         }
     }
-    Ok(true)
 }
 
-fn all_run(alloc: Global, steps: &[Step]) -> Result<bool, NoMemory> {
-    let mut store = store(alloc, START)?;
-    runs(alloc, &mut store, steps)
+// How many of the steps come out as they say, up to the first that doesn't.
+fn count(alloc: Global, one: &mut Store, other: &mut Store, steps: &[Step]) -> usize {
+    for (k, step) in steps.iter().enumerate() {
+        if !does(alloc, one, other, *step) {
+            return k;
+        }
+    }
+    steps.len()
 }
 
-const TO_EACH_MARK: [Step; 14] = [
+const OF_ONE: [Step; 59] = [
+    // to each mark
+    Start(5, 2, 4),
     Mark,
     Set(6),
     Set(7),
@@ -121,15 +144,8 @@ const TO_EACH_MARK: [Step; 14] = [
     Number(5),
     Undo(false),
     Marks(0),
-];
-
-#[test]
-fn undoes_to_each_mark(rt: HostRuntime) -> Result<(), Fail> {
-    assert!(rt; all_run(rt.alloc(), &TO_EACH_MARK)?);
-    Ok(())
-}
-
-const FORGETTING: [Step; 8] = [
+    // the first state is forgotten
+    Start(5, 2, 4),
     Mark,
     Set(6),
     Mark,
@@ -138,17 +154,10 @@ const FORGETTING: [Step; 8] = [
     Undo(true),
     Number(6),
     Undo(false),
-];
-
-#[test]
-fn forgets_the_first_states(rt: HostRuntime) -> Result<(), Fail> {
-    assert!(rt; all_run(rt.alloc(), &FORGETTING)?);
-    Ok(())
-}
-
-const OF_AN_ITEM: [Step; 11] = [
+    // an item of an array, assigned and set; there is no third item
+    Start(5, 2, 4),
     Mark,
-    Step::AssignItem,
+    AssignItem,
     Pair(1, 5),
     Undo(true),
     Pair(1, 2),
@@ -158,16 +167,8 @@ const OF_AN_ITEM: [Step; 11] = [
     Pair(1, 5),
     Undo(true),
     Pair(1, 2),
-];
-
-#[test]
-fn undoes_an_item_of_an_array(rt: HostRuntime) -> Result<(), Fail> {
-    assert!(rt; all_run(rt.alloc(), &OF_AN_ITEM)?);
-    Ok(())
-}
-
-// The same places again and again, in turn, as a loop writes them: a number, both items, then the whole array.
-const IN_TURN: [Step; 22] = [
+    // the same places again and again, in turn, as a loop writes them: a number, both items, then the whole array
+    Start(5, 2, 4),
     Mark,
     Set(6),
     Put(1, 1, 7),
@@ -177,10 +178,10 @@ const IN_TURN: [Step; 22] = [
     Set(4),
     Mark,
     Put(1, 1, 6),
-    SetTwice(1, 2),
+    SetTwice(2),
     Put(1, 1, 5),
     Put(1, 0, 4),
-    SetTwice(1, 8),
+    SetTwice(8),
     Set(9),
     Set(1),
     Pair(8, 8),
@@ -192,159 +193,121 @@ const IN_TURN: [Step; 22] = [
     Pair(1, 2),
 ];
 
-#[test]
-fn undoes_what_was_written_again_and_again(rt: HostRuntime) -> Result<(), Fail> {
-    assert!(rt; all_run(rt.alloc(), &IN_TURN)?);
-    Ok(())
-}
-
-#[test]
-fn a_state_takes_an_item(rt: HostRuntime) -> Result<(), Fail> {
-    let mut state = mixed(rt.alloc(), START)?;
-    state.set_at(1, 1, number(5))?;
-    assert!(rt; has_list(rt.alloc(), &state, 1, &[1, 5])?);
-    Ok(())
-}
-
-#[test]
-fn a_state_is_assigned_an_item(rt: HostRuntime) -> Result<(), Fail> {
-    let mut state = mixed(rt.alloc(), START)?;
-    assign(rt.alloc(), &mut state)?;
-    assert!(rt; has_list(rt.alloc(), &state, 1, &[1, 5])?);
-    Ok(())
-}
-
-// Marks, and writes items, whole cells and a sequence.
-fn is_written_over(alloc: Global, store: &mut Store, n: i64) -> Result<bool, NoMemory> {
-    let steps = [
-        Mark,
-        Put(1, 0, n),
-        Put(1, 0, 3),
-        Clear(2),
-        SetTwice(1, n),
-        Put(1, 1, 7),
-        Set(n),
-    ];
-    runs(alloc, store, &steps)
-}
-
-/// What is done to one of two stores, or whether their first states are the same.
-#[derive(Clone, Copy)]
-enum Both {
-    One(Step),
-    Other(Step),
-    OneOver(i64),
-    OtherOver(i64),
-    Same(bool),
-}
-
-use Both::{One, OneOver, Other, OtherOver, Same};
-
-fn is_so(
-    alloc: Global,
-    store: &mut Store,
-    other: &mut Store,
-    step: Both,
-) -> Result<bool, NoMemory> {
-    match step {
-        Both::One(step) => does(alloc, store, step),
-        Both::Other(step) => does(alloc, other, step),
-        Both::OneOver(n) => is_written_over(alloc, store, n),
-        Both::OtherOver(n) => is_written_over(alloc, other, n),
-        Both::Same(wanted) => {
-            Ok(store.has_same_first(other) == wanted && other.has_same_first(store) == wanted)
-        }
-    }
-}
-
-// A store and one that starts so.
-fn assert_both(
-    rt: &(impl Abort + AllocGlobal),
-    start: (i64, i64, i64),
-    steps: &[Both],
-) -> Result<(), NoMemory> {
-    let mut one = store(rt.alloc(), START)?;
-    let mut other = store(rt.alloc(), start)?;
-    for (k, step) in steps.iter().enumerate() {
-        assert!(rt;
-            is_so(rt.alloc(), &mut one, &mut other, *step)?,
-            "at step {k}"
-        );
-    }
-    Ok(())
-}
-
-const WRITTEN_OVER: [Both; 9] = [
-    OneOver(8),
+const OF_TWO: [Step; 90] = [
+    // first states are the same whatever is written
+    Start(5, 2, 4),
+    Mark,
+    Put(1, 0, 8),
+    Put(1, 0, 3),
+    Clear,
+    SetTwice(8),
+    Put(1, 1, 7),
+    Set(8),
     Same(true),
-    OneOver(9),
-    OtherOver(6),
+    Mark,
+    Put(1, 0, 9),
+    Put(1, 0, 3),
+    Clear,
+    SetTwice(9),
+    Put(1, 1, 7),
+    Set(9),
+    Swap,
+    Mark,
+    Put(1, 0, 6),
+    Put(1, 0, 3),
+    Clear,
+    SetTwice(6),
+    Put(1, 1, 7),
+    Set(6),
     Same(true),
-    One(Undo(true)),
+    Swap,
+    Undo(true),
     Same(true),
-    One(Undo(true)),
+    Undo(true),
     Same(true),
-];
-
-#[test]
-fn first_states_are_the_same_whatever_is_written(rt: HostRuntime) -> Result<(), Fail> {
-    Ok(assert_both(&rt, START, &WRITTEN_OVER)?)
-}
-
-const OTHER_OVER: [Both; 3] = [Same(false), OtherOver(8), Same(false)];
-
-#[test]
-fn other_first_states_differ(rt: HostRuntime) -> Result<(), Fail> {
-    assert_both(&rt, (6, 2, 4), &OTHER_OVER)?;
-    Ok(assert_both(&rt, (5, 2, 6), &OTHER_OVER)?)
-}
-
-// The current states are the same here.
-const BOTH_OVER: [Both; 3] = [OneOver(8), OtherOver(8), Same(false)];
-
-#[test]
-fn states_that_become_the_same_differ_first(rt: HostRuntime) -> Result<(), Fail> {
-    Ok(assert_both(&rt, (6, 2, 4), &BOTH_OVER)?)
-}
-
-// Of one item of an array alone.
-const ITEM_DIFFERS: [Both; 3] = [One(Mark), One(Put(1, 1, 3)), Same(false)];
-
-const ITEM_IS_SAME: [Both; 3] = [One(Mark), One(Put(1, 1, 3)), Same(true)];
-
-#[test]
-fn one_item_is_compared_as_it_was_first(rt: HostRuntime) -> Result<(), Fail> {
-    assert_both(&rt, (5, 3, 4), &ITEM_DIFFERS)?;
-    Ok(assert_both(&rt, START, &ITEM_IS_SAME)?)
-}
-
-#[test]
-fn a_store_of_fewer_variables_differs(rt: HostRuntime) -> Result<(), Fail> {
-    let cells = Vec::from_array(rt.alloc(), [number(5)])?;
-    let other = Store::new(rt.alloc(), State::new(cells))?;
-    assert!(rt; !store(rt.alloc(), START)?.has_same_first(&other));
-    Ok(())
-}
-
-const BOTH_FORGOTTEN: [Both; 13] = [
-    OneOver(8),
-    OtherOver(8),
-    OneOver(9),
-    OtherOver(9),
+    // another number, and another item of the sequence
+    Start(6, 2, 4),
     Same(false),
-    One(Marks(2)),
-    Other(Marks(2)),
-    One(Forget),
+    Swap,
+    Mark,
+    Put(1, 0, 8),
+    Put(1, 0, 3),
+    Clear,
+    SetTwice(8),
+    Put(1, 1, 7),
+    Set(8),
     Same(false),
-    Other(Forget),
+    Start(5, 2, 6),
+    Same(false),
+    Swap,
+    Mark,
+    Put(1, 0, 8),
+    Put(1, 0, 3),
+    Clear,
+    SetTwice(8),
+    Put(1, 1, 7),
+    Set(8),
+    Same(false),
+    // the current states are the same here
+    Start(6, 2, 4),
+    Mark,
+    Set(8),
+    Swap,
+    Mark,
+    Set(8),
+    Same(false),
+    // one item is compared as it was first
+    Start(5, 3, 4),
+    Mark,
+    Put(1, 1, 3),
+    Same(false),
+    Start(5, 2, 4),
+    Mark,
+    Put(1, 1, 3),
     Same(true),
-    Other(Forget),
+    // a first state that is forgotten is not compared
+    Start(6, 2, 7),
+    Mark,
+    Set(8),
+    Clear,
+    Mark,
+    Set(9),
+    Swap,
+    Mark,
+    Set(8),
+    Clear,
+    Mark,
+    Set(9),
+    Marks(2),
+    Same(false),
+    Swap,
+    Marks(2),
+    Forget,
+    Same(false),
+    Swap,
+    Forget,
+    Same(true),
+    Forget,
     Same(false),
 ];
 
 #[test]
-fn a_first_state_that_is_forgotten_is_not_compared(rt: HostRuntime) -> Result<(), Fail> {
-    Ok(assert_both(&rt, (6, 2, 7), &BOTH_FORGOTTEN)?)
+fn stores_go_back_to_their_marks(rt: HostRuntime) {
+    let mut one = made(rt.alloc()).expect(&rt, "memory for a store");
+    let mut other = made(rt.alloc()).expect(&rt, "memory for a store");
+    assert_all(
+        &rt,
+        count(rt.alloc(), &mut one, &mut other, &OF_ONE),
+        OF_ONE.len(),
+    );
+    assert_all(
+        &rt,
+        count(rt.alloc(), &mut one, &mut other, &OF_TWO),
+        OF_TWO.len(),
+    );
+    let cells = Vec::from_array(rt.alloc(), [number(5)]).expect(&rt, "memory for a state");
+    let fewer = Store::new(rt.alloc(), State::new(cells)).expect(&rt, "memory for a store");
+    assert!(rt; !one.has_same_first(&fewer));
 }
 
 // A store that is made whichever single request for memory is refused.
@@ -355,46 +318,33 @@ fn made(alloc: Global) -> Result<Store, NoMemory> {
     }
 }
 
-// Where the step is refused, the store has these marks, this number and this second item, and the step is served when it is
-// made again.
-fn is_served_or_kept(
-    alloc: Global,
-    store: &mut Store,
-    step: Step,
-    kept: (usize, i64, i64),
-) -> Result<bool, NoMemory> {
-    if does(alloc, store, step).is_ok() {
-        return Ok(true);
-    }
-    let (marks, n, second) = kept;
-    let is_kept = runs(alloc, store, &[Marks(marks), Number(n), Pair(1, second)])?;
-    Ok(is_kept && does(alloc, store, step)?)
-}
-
-/// Under `rt try --test --fail-alloc N`, with each N in turn.
+/// Under `rt try --test --fail-alloc N`, with each N in turn: where a step is refused, the store has these marks, this number and this
+/// second item, and the step is served when it is made again.
 #[test]
-fn a_refused_call_leaves_the_store(rt: HostRuntime) -> Result<(), Fail> {
-    let mut store = made(rt.alloc())?;
-    for (step, kept) in [
-        (Mark, (0, 5, 2)),
-        (Set(6), (1, 5, 2)),
-        (Mark, (1, 6, 2)),
-        (Put(1, 1, 9), (2, 6, 2)),
+fn a_refused_call_leaves_the_store(rt: HostRuntime) {
+    let mut store = made(rt.alloc()).expect(&rt, "memory for a store");
+    let mut other = made(rt.alloc()).expect(&rt, "memory for a store");
+    for (step, marks, n, second) in [
+        (Mark, 0, 5, 2),
+        (Set(6), 1, 5, 2),
+        (Mark, 1, 6, 2),
+        (Put(1, 1, 9), 2, 6, 2),
     ] {
-        assert!(rt; is_served_or_kept(rt.alloc(), &mut store, step, kept)?);
+        if does(rt.alloc(), &mut store, &mut other, step) {
+            continue;
+        }
+        let kept = [Marks(marks), Number(n), Pair(1, second), step];
+        assert_all(&rt, count(rt.alloc(), &mut store, &mut other, &kept), 4);
     }
-    assert!(rt; runs(rt.alloc(), &mut store, &[Marks(2), Number(6), Pair(1, 9)])?);
-    Ok(())
+    let last = [Marks(2), Number(6), Pair(1, 9)];
+    assert_all(&rt, count(rt.alloc(), &mut store, &mut other, &last), 3);
 }
 
 /// Under `rt try --test --fail-alloc N`, with each N in turn: the last mark is served, as it asks for no memory.
 #[test]
-fn a_mark_after_undo_is_served(rt: HostRuntime) -> Result<(), Fail> {
-    let mut store = made(rt.alloc())?;
-    if store.mark(rt.alloc()).is_err() {
-        store.mark(rt.alloc())?;
-    }
-    assert!(rt; store.undo());
+fn a_mark_after_undo_is_served(rt: HostRuntime) {
+    let mut store = made(rt.alloc()).expect(&rt, "memory for a store");
+    let is_marked = store.mark(rt.alloc()).is_ok() || store.mark(rt.alloc()).is_ok();
+    assert!(rt; is_marked && store.undo());
     assert!(rt; store.mark(rt.alloc()).is_ok());
-    Ok(())
 }

@@ -1,52 +1,28 @@
-//! A counted writer over memory, and one that can't be flushed.
+//! A counted writer over memory, which may have little room.
 
 mod turns;
 
 use std::alloc::AllocGlobal;
 use std::io::{self, ErrorKind, Write};
-use std::test::Fail;
 use trace::Counted;
 
-#[derive(Drop)]
-struct Stuck;
-
-impl Write for Stuck {
-    fn write(&mut self, _buf: &[u8]) -> io::Result<usize> {
-        Err(io::Error::from(ErrorKind::Other))
-    }
-
-    fn flush(&mut self) -> io::Result<()> {
-        Err(io::Error::from(ErrorKind::Other))
-    }
-}
-
-#[test]
-fn hands_its_writer_back(rt: HostRuntime) -> Result<(), Fail> {
-    let held = Vec::from_array(rt.alloc(), [7u8])?;
-    let mut counted = Counted::new(held);
-    assert!(rt; counted.flush());
-    assert_eq!(rt; counted.failures(), 0);
-    assert_eq!(rt; counted.into_inner().as_slice(), [7u8].as_slice());
-    Ok(())
-}
-
-#[test]
-fn does_not_count_a_flush(rt: HostRuntime) {
-    let mut counted = Counted::new(Stuck);
-    assert!(rt; !counted.flush());
-    assert_eq!(rt; counted.failures(), 0);
-}
-
-// A writer over memory that takes at most `step` bytes a write and `room` bytes in all.
+/// A writer over memory that takes at most `step` bytes a write and `room` bytes in all. Then it takes none, or gives an error of this
+/// kind where there is one; with one it can't be flushed either.
 #[derive(Drop)]
 struct Narrow {
     held: Vec<u8>,
     step: usize,
     room: usize,
+    error: Option<ErrorKind>,
 }
 
 impl Write for Narrow {
     fn write(&mut self, buf: &[u8]) -> io::Result<usize> {
+        if let Some(kind) = self.error
+            && self.room == 0
+        {
+            return Err(io::Error::from(kind));
+        }
         let count = buf.len().min(self.step).min(self.room);
         self.held.extend_from_slice(&buf[..count])?;
         self.room -= count;
@@ -54,24 +30,40 @@ impl Write for Narrow {
     }
 
     fn flush(&mut self) -> io::Result<()> {
-        Ok(())
+        match self.error {
+            Some(kind) => Err(io::Error::from(kind)),
+            None => Ok(()),
+        }
     }
 }
 
-fn counted_narrow(rt: &impl AllocGlobal, step: usize, room: usize) -> Counted<Narrow> {
+fn counted(
+    rt: &impl AllocGlobal,
+    step: usize,
+    room: usize,
+    error: Option<ErrorKind>,
+) -> Counted<Narrow> {
     Counted::new(Narrow {
         held: Vec::new(rt.alloc()),
         step,
         room,
+        error,
     })
 }
 
 #[test]
-fn counts_errors_and_writes_of_no_bytes(rt: HostRuntime) -> Result<(), Fail> {
-    let mut stuck = Counted::new(Stuck);
-    assert!(rt; stuck.write(b"a").is_err());
-    assert_eq!(rt; stuck.failures(), 1);
-    let mut counted = counted_narrow(&rt, 2, 3);
+fn does_not_count_a_flush(rt: HostRuntime) {
+    let mut stuck = counted(&rt, 1, 1, Some(ErrorKind::Other));
+    assert!(rt; !stuck.flush() && stuck.failures() == 0);
+    let mut fine = counted(&rt, 1, 1, None);
+    assert!(rt; fine.flush() && fine.failures() == 0);
+}
+
+#[test]
+fn counts_errors_and_writes_of_no_bytes(rt: HostRuntime) {
+    let mut stuck = counted(&rt, 1, 0, Some(ErrorKind::Interrupted));
+    assert!(rt; stuck.write(b"a").is_err() && stuck.failures() == 1);
+    let mut narrow = counted(&rt, 2, 3, None);
     for (piece, taken, failures) in [
         ("", 0, 0),
         ("abc", 2, 0),
@@ -79,24 +71,15 @@ fn counts_errors_and_writes_of_no_bytes(rt: HostRuntime) -> Result<(), Fail> {
         ("d", 0, 1),
         ("", 0, 1),
     ] {
-        assert!(rt; counted.failures() < 2);
-        assert_eq!(rt; counted.write(piece.as_bytes())?, taken, "{piece}");
-        assert_eq!(rt; counted.failures(), failures, "{piece}");
+        let found = narrow.write(piece.as_bytes()).ok();
+        assert!(rt;
+            found == Some(taken) && narrow.failures() == failures,
+            "{piece}"
+        );
     }
-    assert_eq!(rt; counted.into_inner().held.as_slice(), b"abc".as_slice());
-    Ok(())
-}
-
-#[test]
-fn writes_a_piece_up_to_the_first_failure(rt: HostRuntime) {
-    let mut counted = counted_narrow(&rt, 2, 9);
-    assert_eq!(rt; counted.failures(), 0);
-    assert_eq!(rt; counted.write_piece(b"hello"), Ok(()));
-    assert_eq!(rt; counted.failures(), 0);
-    assert_eq!(rt; counted.write_piece(b"world"), Err(4));
-    assert_eq!(rt; counted.failures(), 1);
-    assert_eq!(rt;
-        counted.into_inner().held.as_slice(),
-        b"helloworl".as_slice()
-    );
+    assert!(rt; narrow.into_inner().held.as_slice() == b"abc".as_slice());
+    let mut pieces = counted(&rt, 2, 9, None);
+    assert!(rt; pieces.write_piece(b"hello") == Ok(()) && pieces.failures() == 0);
+    assert!(rt; pieces.write_piece(b"world") == Err(4) && pieces.failures() == 1);
+    assert!(rt; pieces.into_inner().held.as_slice() == b"helloworl".as_slice());
 }

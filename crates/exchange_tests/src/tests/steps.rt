@@ -1,0 +1,231 @@
+//! Steps of exchanges of the ring and of their leases, each with its answer, and what runs them.
+
+use event_keys::{Bound, Key, Outcome};
+use exchange::{Exchange, Lease, MeetRefused};
+use ring_source::ring;
+use std::alloc::{AllocGlobal, Global};
+use std::process::Abort;
+use std::sync::Arc;
+use task_seed::{Row, Setup, TableTurns};
+use terms::NoMemory;
+
+type Shared = Exchange<TableTurns>;
+
+type Held = Lease<TableTurns>;
+
+/// What a lease does away from any exchange, with its answer, or what it tells.
+#[derive(Clone, Copy)]
+pub(crate) enum Away {
+    Number(u16),
+    /// At most so many entries are done, and so many are.
+    Runs(u32, u32),
+    /// So many messages are delivered.
+    Settles(u64),
+    /// How many done entries can be taken back, and the key of the next one.
+    Stands(usize, Bound),
+    Floor(Bound),
+    /// The least key of what waits in the tray.
+    Coming(Bound),
+    /// Whether messages wait to leave, and whether the last done turn was idle.
+    Waits(bool, bool),
+}
+
+/// What an exchange does, with its answer, or what it tells.
+#[derive(Clone, Copy)]
+pub(crate) enum Here {
+    /// The number of the turns below the bound, and the bound.
+    Commits(u64, Bound),
+    /// The chunk has the turns from one place up to another, in the order of all.
+    Gives(usize, usize),
+    /// Whether messages wait for a component.
+    Mail(u16, bool),
+    Finished(bool),
+    /// The key of a component's turn in the setup, or the end where there is none.
+    Turn(u16, u64, Bound),
+}
+
+/// What is done with exchanges and leases, each named by its place.
+#[derive(Clone, Copy)]
+pub(crate) enum Step {
+    /// Of a lease.
+    Of(usize, Away),
+    /// On an exchange.
+    On(usize, Here),
+    /// An exchange judges a lease.
+    Judges(usize, usize, Result<(), MeetRefused>),
+    /// An exchange meets a lease.
+    Meets(usize, usize, Result<Bound, MeetRefused>),
+    /// Whether two leases are equal.
+    SameLeases(usize, usize, bool),
+    /// Whether two exchanges are equal.
+    SameExchanges(usize, usize, bool),
+}
+
+/// Below it there is no turn.
+pub(crate) const START: Bound = Bound::At(Key {
+    tick: 0,
+    component: 0,
+    number: 0,
+});
+
+/// The key of the ring's turn at the tick 1, which is component 1's, and so on.
+pub(crate) const AT_1: Bound = Bound::At(Key {
+    tick: 1,
+    component: 1,
+    number: 0,
+});
+
+pub(crate) const AT_2: Bound = Bound::At(Key {
+    tick: 2,
+    component: 0,
+    number: 0,
+});
+
+pub(crate) const AT_3: Bound = Bound::At(Key {
+    tick: 3,
+    component: 1,
+    number: 1,
+});
+
+pub(crate) const AT_4: Bound = Bound::At(Key {
+    tick: 4,
+    component: 0,
+    number: 1,
+});
+
+// All turns in order, and whether each is idle.
+const TURNS: [(Bound, bool); 4] = [(AT_1, true), (AT_2, false), (AT_3, false), (AT_4, false)];
+
+const fn row(component: u64, gap: u32) -> Row {
+    Row {
+        component,
+        gap,
+        task: 0,
+        choice: 0,
+    }
+}
+
+// Component 0 has turns at the ticks 2 and 4, component 1 at 1 and 3.
+fn setup(alloc: Global, horizon: u64) -> Result<Setup<TableTurns>, NoMemory> {
+    let plan = ring(alloc)?;
+    let rows = [row(0, 2), row(0, 2), row(1, 1), row(1, 2)];
+    let Ok(turns) = TableTurns::new(alloc, &plan, &rows) else {
+        return Err(NoMemory);
+    };
+    match Setup::new(plan, turns, horizon) {
+        Ok(setup) => Ok(setup),
+        Err(_) => Err(NoMemory),
+    }
+}
+
+fn started(alloc: Global, horizon: u64) -> Result<(Shared, Vec<Held>), NoMemory> {
+    Exchange::new(alloc, Arc::new(alloc, setup(alloc, horizon)?)?)
+}
+
+fn tells(alloc: Global, lease: &mut Held, away: Away) -> bool {
+    match away {
+        Away::Number(wanted) => lease.number() == wanted,
+        Away::Runs(most, wanted) => lease.run_ahead(alloc, most) == Ok(wanted),
+        Away::Settles(wanted) => lease.settle() == wanted,
+        Away::Stands(depth, next) => lease.depth() == depth && lease.next() == next,
+        Away::Floor(wanted) => lease.floor() == wanted,
+        Away::Coming(wanted) => lease.least_coming() == wanted,
+        Away::Waits(sends, idles) => lease.is_sending() == sends && lease.is_idle() == idles,
+    }
+}
+
+// Whether the next chunk has the turns from one place up to another.
+fn gives(exchange: &mut Shared, from: usize, to: usize) -> bool {
+    let chunk = exchange.take_chunk();
+    let mut turns = chunk.turns.iter();
+    for (key, is_idle) in TURNS.get(from..to).unwrap_or(&[]) {
+        let is_next = match turns.next() {
+            Some(turned) => {
+                let has_idled = matches!(turned.outcome, Outcome::Idle);
+                Bound::At(turned.key) == *key && has_idled == *is_idle
+            }
+            None => false,
+        };
+        if !is_next {
+            return false;
+        }
+    }
+    let is_last = turns.next().is_none();
+    is_last && chunk.first == from as u64 && exchange.given() == to as u64
+}
+
+fn answers(exchange: &mut Shared, here: Here) -> bool {
+    match here {
+        Here::Commits(count, bound) => exchange.commit() == count && exchange.bound() == bound,
+        Here::Gives(from, to) => gives(exchange, from, to),
+        Here::Mail(number, wanted) => exchange.has_mail(number) == wanted,
+        Here::Finished(wanted) => exchange.finished() == wanted,
+        Here::Turn(component, number, wanted) => match exchange.setup().key(component, number) {
+            Some(key) => Bound::At(key) == wanted,
+            None => wanted == Bound::End,
+        },
+    }
+}
+
+fn does(alloc: Global, exchanges: &mut [Shared], leases: &mut [Held], step: Step) -> bool {
+    match step {
+        Step::Of(place, away) => match leases.get_mut(place) {
+            Some(lease) => tells(alloc, lease, away),
+            None => false,
+        },
+        Step::On(place, here) => match exchanges.get_mut(place) {
+            Some(exchange) => answers(exchange, here),
+            None => false,
+        },
+        Step::Judges(place, other, wanted) => match (exchanges.get(place), leases.get(other)) {
+            (Some(exchange), Some(lease)) => exchange.judge(lease) == wanted,
+            _ => false,
+        },
+        Step::Meets(place, other, wanted) => match (
+            exchanges.get_mut(place),
+            leases.get_mut(other),
+        ) {
+            (Some(exchange), Some(lease)) => exchange.meet(lease) == wanted,
+            _ => false,
+        },
+        Step::SameLeases(place, other, wanted) => match (leases.get(place), leases.get(other)) {
+            (Some(lease), Some(other)) => (*lease == *other) == wanted,
+            _ => false,
+        },
+        Step::SameExchanges(place, other, wanted) => match (
+            exchanges.get(place),
+            exchanges.get(other),
+        ) {
+            (Some(exchange), Some(other)) => (*exchange == *other) == wanted,
+            _ => false,
+        },
+    }
+}
+
+// How many of the steps come out as they say, up to the first that doesn't.
+fn count(alloc: Global, exchanges: &mut [Shared], leases: &mut [Held], steps: &[Step]) -> usize {
+    for (k, step) in steps.iter().enumerate() {
+        if !does(alloc, exchanges, leases, *step) {
+            return k;
+        }
+    }
+    steps.len()
+}
+
+/// All steps come out as they say; else the first number is the place of one that doesn't, counted from 0. There are four exchanges of
+/// equal setups, and one with another horizon. The leases of the first are the leases 0 and 1, those of the next 2 and 3, and so on.
+pub(crate) fn assert_steps(rt: &(impl Abort + AllocGlobal), steps: &[Step]) {
+    let mut exchanges = Vec::new(rt.alloc());
+    let mut leases = Vec::new(rt.alloc());
+    for horizon in [1000, 1000, 1000, 1000, 999] {
+        let (exchange, mut own) = started(rt.alloc(), horizon).expect(rt, "memory for an exchange");
+        assert!(rt; exchanges.push(exchange).is_ok() && leases.append(&mut own).is_ok());
+    }
+    let right = count(
+        rt.alloc(),
+        exchanges.as_mut_slice(),
+        leases.as_mut_slice(),
+        steps,
+    );
+    assert_eq!(rt; right, steps.len());
+}
