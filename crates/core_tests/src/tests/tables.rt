@@ -1,9 +1,9 @@
 //! Tables and keys at values that were worked out by hand.
 use event_keys::Key;
-use plans::Plan;
 use ring_source::ring;
-use std::alloc::{AllocGlobal, Global};
+use std::alloc::AllocGlobal;
 use std::process::Abort;
+use task_seed::TableTurnsError::{GapOutOfRange, NoSuchComponent, TaskOutOfRange};
 use task_seed::{ReadTableError, Row, Setup, SetupError, TableTurns, read_table};
 use terms::Refusal;
 
@@ -61,30 +61,31 @@ fn a_table_is_read_or_its_first_bad_line_is_named(rt: HostRuntime) {
     assert!(rt; fault.number() == 29 && fault.place() == Some(7));
 }
 
-// Whether the rows are refused for this fault of this line.
-fn refuses(alloc: Global, plan: &Plan, rows: &[Row], number: u8, line: usize) -> bool {
-    match TableTurns::new(alloc, plan, rows) {
-        Ok(_) => false,
-        Err(fault) => fault.number() == number && fault.place() == Some(line),
-    }
-}
-
 #[test]
 fn the_first_fault_of_the_rows_is_named(rt: HostRuntime) {
     let plan = ring(rt.alloc()).expect(&rt, "memory for a plan");
     let last = row(2, 0, 9, 0);
-    for (faulty, number) in [
-        (row(1, 0, 0, 0), 27),
-        (row(1, 65_536, 0, 0), 27),
-        (row(1, 1, 1, 0), 28),
-        (row(2, 1, 0, 0), 30),
-        (row(2, 0, 9, 0), 27),
-        (row(1, 0, 9, 0), 27),
-        (row(65_536, 1, 0, 0), 30),
+    // a row with its fault, where it stands on the first line and where on the second
+    for (faulty, first, second) in [
+        (row(1, 0, 0, 0), GapOutOfRange(1), GapOutOfRange(2)),
+        (row(1, 65_536, 0, 0), GapOutOfRange(1), GapOutOfRange(2)),
+        (row(1, 1, 1, 0), TaskOutOfRange(1), TaskOutOfRange(2)),
+        (row(2, 1, 0, 0), NoSuchComponent(1), NoSuchComponent(2)),
+        (row(2, 0, 9, 0), GapOutOfRange(1), GapOutOfRange(2)),
+        (row(1, 0, 9, 0), GapOutOfRange(1), GapOutOfRange(2)),
+        (row(65_536, 1, 0, 0), NoSuchComponent(1), NoSuchComponent(2)),
     ] {
-        assert!(rt; refuses(rt.alloc(), &plan, &[faulty, last], number, 1));
+        let found = TableTurns::new(rt.alloc(), &plan, &[faulty, last]).err();
+        assert!(rt; found == Some(first));
         let rows = [row(0, 65_535, 0, 7), faulty, last];
-        assert!(rt; refuses(rt.alloc(), &plan, &rows, number, 2));
+        assert!(rt; TableTurns::new(rt.alloc(), &plan, &rows).err() == Some(second));
+    }
+    for (fault, number) in [
+        (GapOutOfRange(5), 27),
+        (TaskOutOfRange(5), 28),
+        (NoSuchComponent(5), 30),
+    ] {
+        assert!(rt; fault.number() == number && fault.place() == Some(5));
     }
 }
 

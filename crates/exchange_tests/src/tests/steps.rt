@@ -1,7 +1,7 @@
 //! Steps of exchanges of the ring and of their leases, each with its answer, and what runs them.
 
 use event_keys::{Bound, Key, Outcome};
-use exchange::{Exchange, Lease, MeetRefused};
+use exchange::{Chunk, Exchange, Lease, MeetRefused};
 use ring_source::ring;
 use std::alloc::{AllocGlobal, Global};
 use std::process::Abort;
@@ -106,20 +106,16 @@ const fn row(component: u64, gap: u32) -> Row {
 }
 
 // Component 0 has turns at the ticks 2 and 4, component 1 at 1 and 3.
-fn setup(alloc: Global, horizon: u64) -> Result<Setup<TableTurns>, NoMemory> {
+fn setup(alloc: Global, horizon: u64) -> Result<Arc<Setup<TableTurns>>, NoMemory> {
     let plan = ring(alloc)?;
     let rows = [row(0, 2), row(0, 2), row(1, 1), row(1, 2)];
     let Ok(turns) = TableTurns::new(alloc, &plan, &rows) else {
         return Err(NoMemory);
     };
     match Setup::new(plan, turns, horizon) {
-        Ok(setup) => Ok(setup),
+        Ok(setup) => Ok(Arc::new(alloc, setup)?),
         Err(_) => Err(NoMemory),
     }
-}
-
-fn started(alloc: Global, horizon: u64) -> Result<(Shared, Vec<Held>), NoMemory> {
-    Exchange::new(alloc, Arc::new(alloc, setup(alloc, horizon)?)?)
 }
 
 fn tells(alloc: Global, lease: &mut Held, away: Away) -> bool {
@@ -134,9 +130,8 @@ fn tells(alloc: Global, lease: &mut Held, away: Away) -> bool {
     }
 }
 
-// Whether the next chunk has the turns from one place up to another.
-fn gives(exchange: &mut Shared, from: usize, to: usize) -> bool {
-    let chunk = exchange.take_chunk();
+// Whether a chunk has the turns from one place up to another.
+fn has_turns(chunk: &Chunk, from: usize, to: usize) -> bool {
     let mut turns = chunk.turns.iter();
     for (key, is_idle) in TURNS.get(from..to).unwrap_or(&[]) {
         let is_next = match turns.next() {
@@ -150,14 +145,15 @@ fn gives(exchange: &mut Shared, from: usize, to: usize) -> bool {
             return false;
         }
     }
-    let is_last = turns.next().is_none();
-    is_last && chunk.first == from as u64 && exchange.given() == to as u64
+    turns.next().is_none() && chunk.first == from as u64
 }
 
 fn answers(exchange: &mut Shared, here: Here) -> bool {
     match here {
         Here::Commits(count, bound) => exchange.commit() == count && exchange.bound() == bound,
-        Here::Gives(from, to) => gives(exchange, from, to),
+        Here::Gives(from, to) => {
+            has_turns(&exchange.take_chunk(), from, to) && exchange.given() == to as u64
+        }
         Here::Mail(number, wanted) => exchange.has_mail(number) == wanted,
         Here::Finished(wanted) => exchange.finished() == wanted,
         Here::Turn(component, number, wanted) => match exchange.setup().key(component, number) {
@@ -218,7 +214,9 @@ pub(crate) fn assert_steps(rt: &(impl Abort + AllocGlobal), steps: &[Step]) {
     let mut exchanges = Vec::new(rt.alloc());
     let mut leases = Vec::new(rt.alloc());
     for horizon in [1000, 1000, 1000, 1000, 999] {
-        let (exchange, mut own) = started(rt.alloc(), horizon).expect(rt, "memory for an exchange");
+        let setup = setup(rt.alloc(), horizon).expect(rt, "memory for a setup");
+        let started = Exchange::new(rt.alloc(), setup);
+        let (exchange, mut own) = started.expect(rt, "memory for an exchange");
         assert!(rt; exchanges.push(exchange).is_ok() && leases.append(&mut own).is_ok());
     }
     let right = count(
