@@ -110,7 +110,7 @@ fn other_words_are_refused(rt: HostRuntime) -> Result<(), Fail> {
         &["print", "-x"],
         &["last", "a"],
         &["Print", "a"],
-        &["--version"],
+        &["print", "--version"],
         &["print", "--seed", "1", "a"],
         &["print", "a", "run", "b"],
         &["run", "a", "--workers", "0"],
