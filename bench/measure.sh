@@ -6,19 +6,22 @@
 #   sources    what reading a source of 65,536 bytes and composing 64 components cost
 #   drives     how many steps a world does in a millisecond, and what meetings and commits of an exchange cost
 #   instructions   how many instructions the program takes a turn, by callgrind, on the loads in bench/loads
+#   times      how many turns a second it takes on them, and how fast workers are beside one thread
 set -eu
 top=$(cd "$(dirname "${BASH_SOURCE[0]}")/.." && pwd)
 case ${1:-} in
 component | reference | sources) program=benches words=("$1") ;;
 run) program=benches words=(run "$top/examples/lcr.ioa") ;;
 drives) program=drives words=(run) ;;
-instructions)
+instructions | times)
+    # builds the program if that in dist/ is none of this checkout
     "$top/warp" --version >&2
-    "$top/dist/is-built" && exec "$top/bench/instructions.py" "$top/crates/warp/out/warp"
-    exec "$top/bench/instructions.py" "$top/dist/warp-x86_64-linux-gnu"
+    program=$top/dist/warp-x86_64-linux-gnu
+    ! "$top/dist/is-built" || program=$top/crates/warp/out/warp
+    exec "$top/bench/$1.py" "$program"
     ;;
 *)
-    sed -n '2,8s/^# //p' "$0" >&2
+    sed -n '2,9s/^# //p' "$0" >&2
     exit 2
     ;;
 esac
