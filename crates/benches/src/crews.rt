@@ -6,7 +6,7 @@ use crate::texts::{ring, steps};
 use anyhow::Result;
 use commands::simulate;
 use plans::Plan;
-use sources::compose_source;
+use compose::compose_source;
 use std::alloc::{Alloc, AllocGlobal, Global};
 use std::io::{self, Write};
 use std::sync::{Arc, Wait};

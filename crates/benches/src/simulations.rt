@@ -2,7 +2,7 @@
 use crate::texts::ring;
 use anyhow::Result;
 use reference::schedule;
-use sources::compose_source;
+use compose::compose_source;
 use std::alloc::{AllocGlobal, Global};
 use std::time::{Clock, Instant};
 use task_seed::{SeedTurns, Setup};

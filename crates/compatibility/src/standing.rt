@@ -3,8 +3,8 @@ ghost use Rattle.std.specs.Prelude.{◌≡◌, ◌++◌, true, false, map, IfOk,
 ghost use Rattle.plans.specs.Automata.{composed, instance_of, transition_of};
 ghost use Rattle.compatibility.specs.Standings.{stood, stood_in, stands, Clash};
 
+use crate::entries::is_shared;
 use crate::rule::{Rule, is_barred};
-use overlaps::is_shared;
 use plans::{Automaton, Component, Entry};
 use std::alloc::Global;
 use terms::{NoMemory, Scalar};

@@ -1,1 +1,3 @@
+pub mod Composed
 pub mod Faults
+pub mod Refusals

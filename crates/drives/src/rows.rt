@@ -2,7 +2,7 @@
 
 use crate::subject::RING;
 use anyhow::Result;
-use sources::compose_source;
+use compose::compose_source;
 use std::alloc::Global;
 use std::sync::Arc;
 use task_seed::{Setup, TableTurns, read_table};

@@ -3,7 +3,7 @@
 use anyhow::Result;
 use event_keys::{Message, Outcome, Turned};
 use reference::schedule;
-use sources::compose_source;
+use compose::compose_source;
 use std::alloc::Global;
 use std::sync::Arc;
 use task_seed::{SeedTurns, Setup};

@@ -3,9 +3,9 @@ use Rattle.std.proofs.Common.{◌≡◌, ◌≤◌, ◌⊎◌, inl, inr, ℕ, Li
 use Rattle.std.specs.Prelude.{Option, if◌then◌else◌}
 use Rattle.std.proofs.lemmas.Bool.Decides.{nat_tests}
 use Rattle.plans.specs.declared.plan.Plan.{Plan}
-use Rattle.sources.specs.declared.fault.SourceError.{SourceError}
-use Rattle.sources.specs.Composed.{IsComposed, IsRefused}
-use Rattle.sources.specs.Refusals.{source_number, source_place}
+use Rattle.compose.specs.declared.source_error.SourceError.{SourceError}
+use Rattle.compose.specs.Composed.{IsComposed, IsRefused}
+use Rattle.compose.specs.Refusals.{source_number, source_place}
 use Rattle.service.specs.declared.report.Report.{Report}
 use Rattle.service.specs.declared.report.Report.TheVariants.{Refused, Fault}
 use Rattle.service.specs.Compositions.{HasNoPlan, HasPlan}

@@ -1,9 +1,9 @@
 -- What a source file is composed to, and why it isn't.
 use Rattle.std.specs.Prelude.{◌≡◌, ◌≢◌, ℕ, Option, List}
 use Rattle.plans.specs.declared.plan.Plan.{Plan}
-use Rattle.sources.specs.declared.fault.SourceError.{SourceError}
-use Rattle.sources.specs.Composed.{IsComposed, IsRefused}
-use Rattle.sources.specs.Refusals.{source_number, source_place}
+use Rattle.compose.specs.declared.source_error.SourceError.{SourceError}
+use Rattle.compose.specs.Composed.{IsComposed, IsRefused}
+use Rattle.compose.specs.Refusals.{source_number, source_place}
 use Rattle.service.specs.declared.report.Report.{Report}
 use Rattle.service.specs.declared.report.Report.TheVariants.{Done, No, Driven, Refused, Fault, Misused}
 use Rattle.service.specs.Unread.{IsUnread}

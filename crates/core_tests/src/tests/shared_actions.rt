@@ -2,7 +2,7 @@
 
 use Listed::{Enumeration, Range};
 use Param::{Between, Const, Member, Whole};
-use overlaps::{Span, is_shared, meet, overlap, span_of};
+use compatibility::{Span, is_shared, meet, overlap, span_of};
 use plans::{Entry, Kind, Param};
 use std::alloc::Global;
 use terms::{Effect, Listed, NoMemory, Scalar, Term};

@@ -1,5 +1,5 @@
 use Rattle.std.proofs.Common.{subst}
-use Rattle.sources.specs.Composed.{IsComposed}
+use Rattle.compose.specs.Composed.{IsComposed}
 use Rattle.service.proofs.Reporting.{plan_found}
 use Rattle.service.proofs.simulation.plan_of.Goals as goal
 

@@ -1,2 +1,0 @@
-pub mod Composed
-pub mod Refusals
