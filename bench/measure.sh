@@ -4,15 +4,14 @@
 #   reference  how many turns the one-thread simulator takes in a millisecond
 #   run        how many turns workers commit in a millisecond, beside the one-thread simulator
 #   sources    what reading a source of 65,536 bytes and composing 64 components cost
-#   drives     how many steps a world does in a millisecond, and what meetings and commits of an exchange cost
+#   worlds     how many steps a world does in a millisecond, and what meetings and commits of an exchange cost
 #   instructions   how many instructions the program takes a turn, by callgrind, on the loads in bench/loads
 #   times      how many turns a second it takes on them, and how fast workers are beside one thread
 set -eu
 top=$(cd "$(dirname "${BASH_SOURCE[0]}")/.." && pwd)
 case ${1:-} in
-component | reference | sources) program=benches words=("$1") ;;
-run) program=benches words=(run "$top/examples/lcr.ioa") ;;
-drives) program=drives words=(run) ;;
+component | reference | sources | worlds) words=("$1") ;;
+run) words=(run "$top/examples/lcr.ioa") ;;
 instructions | times)
     # builds the program if that in dist/ is none of this checkout
     "$top/warp" --version >&2
@@ -25,7 +24,7 @@ instructions | times)
     exit 2
     ;;
 esac
-cd "$top/crates/$program"
-# rt runs what it has built: `benches` writes nothing without a word, and `drives` drives random lists with that of its file `args`.
+cd "$top/crates/benches"
+# rt runs what it has built: with the word of its file `args` it drives random lists.
 rt run >&2
-exec "out/$program" "${words[@]}"
+exec out/benches "${words[@]}"

@@ -1,8 +1,8 @@
 //! How many turns the one-thread simulator takes in a millisecond.
 use crate::texts::ring;
 use anyhow::Result;
-use reference::schedule;
 use compose::compose_source;
+use reference::schedule;
 use std::alloc::{AllocGlobal, Global};
 use std::time::{Clock, Instant};
 use task_seed::{SeedTurns, Setup};

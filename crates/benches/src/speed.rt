@@ -1,18 +1,18 @@
 //! How many steps a world does in a millisecond, and what meetings and commits cost.
 
 use crate::orderly::orderly;
-use crate::subject::{CROWD, RING, Subject, crowd_of, ring_of};
+use crate::subject::{CROWD, RING, Subject};
+use crate::texts::{crowd, ring};
 use anyhow::Result;
 use exchange::Exchange;
 use std::alloc::{AllocGlobal, Global};
-use std::process::ExitCode;
 use std::sync::Arc;
 use std::time::{Clock, Instant};
 use world::World;
 
 /// Prints the steps that a world does in a millisecond, in lists of 10^3 to 10^6 steps with a commit after each 64th turn, and the nanoseconds
 /// of a lease's meetings and of a commit.
-pub fn measure(rt: &(impl Print + Clock + AllocGlobal)) -> Result<ExitCode> {
+pub fn measure(rt: &(impl Print + Clock + AllocGlobal)) -> Result<()> {
     for (name, source) in [("ring of two", RING), ("crowd of three", CROWD)] {
         for count in [1_000usize, 10_000, 100_000, 1_000_000] {
             let (steps, spent) = drive(rt, rt.alloc(), source, count)?;
@@ -21,12 +21,12 @@ pub fn measure(rt: &(impl Print + Clock + AllocGlobal)) -> Result<ExitCode> {
         }
     }
     for components in [2u64, 64] {
-        let ring = ring_of(rt.alloc(), components)?;
+        let ring = ring(rt.alloc(), components)?;
         meetings(rt, "ring", ring.as_str(), components)?;
-        let crowd = crowd_of(rt.alloc(), components)?;
+        let crowd = crowd(rt.alloc(), components)?;
         meetings(rt, "crowd", crowd.as_str(), components)?;
     }
-    Ok(ExitCode::from(0))
+    Ok(())
 }
 
 // Prints what meetings and commits cost after 10 and 1,000 entries.
