@@ -31,8 +31,8 @@ use Rattle.undo_records.specs.First.{same_state}
 use Rattle.undo_records.specs.States.{States}
 use Rattle.virtual_time.specs.Entries.{Entry, Own, entry_key, number}
 use Rattle.task_seed.specs.Turning.{System, has_turns, ticks, key_at, key_of}
-use Rattle.rollback.specs.declared.done.Done.{Done}
-use Rattle.rollback.specs.declared.done.Done.TheVariants.{Turn, Input}
+use Rattle.message_balance.specs.declared.done.Done.{Done}
+use Rattle.message_balance.specs.declared.done.Done.TheVariants.{Turn, Input}
 use Rattle.rollback.specs.Flight.{items_of, AllGo}
 use Rattle.rollback.specs.Kept.{entry_of, entries_of, IsSmall, IsReady, AllReady, base_state, record_of, IsQueue, IsKept}
 use Rattle.rollback.specs.Same.{same_item, same_entry, same_events, same_held, same_done}

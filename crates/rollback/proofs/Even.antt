@@ -1,4 +1,4 @@
--- Where each message is level, all are.
+-- What one walk along both sides shows of the messages that a component sent.
 use Rattle.std.proofs.Common.{◌≡◌, ℕ, zero, suc, ◌+◌, ◌<◌, ◌≤◌, ◌==◌, ◌&&◌, ◌||◌, not, Bool, true, false, cond, List, [], ◌∷◌, map, reverse, refl, ap, sym, subst, ◌∙◌, arith}
 use Rattle.std.specs.Prelude.{count_by, nat_lt}
 use mathlib.Core.List.{reverse_aux}
@@ -21,52 +21,15 @@ use Rattle.plans.specs.Receivers.{Rising}
 use Rattle.plans.specs.Signatures.{receivers_of}
 use Rattle.virtual_time.specs.Entries.{number}
 use Rattle.task_seed.specs.Turning.{System}
-use Rattle.rollback.specs.declared.done.Done.{Done}
-use Rattle.rollback.specs.declared.done.Done.TheVariants.{Turn, Input}
-use Rattle.rollback.specs.declared.matching.Sendings.{Sendings}
-use Rattle.rollback.specs.declared.matching.Takings.{Takings}
+use Rattle.message_balance.specs.declared.done.Done.{Done}
+use Rattle.message_balance.specs.declared.done.Done.TheVariants.{Turn, Input}
+use Rattle.message_balance.specs.declared.sent.Sent.{Sent}
 use Rattle.rollback.specs.Kept.{AllReady, IsReady, entries_of, signed_of}
-use Rattle.rollback.specs.Levels.{all_of, count_as, count_standing, is_all_sent, is_all_taken, is_input_level, is_sending_of, is_sent_if_from, is_sent_level, is_taken_if_to, is_taken_level, is_turn_level}
+use Rattle.message_balance.specs.Balance.{all_of, count_as, count_standing, is_all_sent, is_all_taken, is_input_balanced, is_sending_of, is_sent_if_from, is_sent_balanced, is_taken_if_to, is_taken_balanced, is_turn_balanced}
 use Rattle.rollback.specs.Post.{signed_to}
-use Rattle.rollback.specs.Sides.{count_turns}
-use Rattle.rollback.proofs.Levels.{all_before, count_next, count_none, count_reversed}
-
-all_pass : {X : Type 0} (p : X → Bool) → ((x : X) → p x ≡ true) → (xs : List X) → list_all p xs ≡ true
-all_pass p h [] = refl
-all_pass p h (x ∷ xs) = let first = h x in let rest = all_pass p h xs in (λ v. first v && rest v)
-
-either : (a b : Bool) → b ≡ true → (a || b) ≡ true
-either true b h = refl
-either false b h = h
-
-pub all_taken : (t : Takings) (to : ℕ) → ((m : Message) → is_taken_level t m ≡ true) → is_all_taken t to ≡ true
-all_taken t to h =
-    let one : (x : Signed) → is_taken_if_to t to x ≡ true = λ x. either (not (x.message.to == to)) (is_taken_level t x.message) (h x.message) in
-    let input : (d : Done) → is_input_level t d ≡ true = each in
-    let taken = all_pass (is_taken_if_to t to) one t.taken.now in
-    let tray = all_pass (is_taken_if_to t to) one t.tray.now in
-    let pending = all_pass (is_taken_if_to t to) one (all_of t.pending.now) in
-    let owed = all_pass (is_taken_if_to t to) one (all_of t.owed.now) in
-    let done = all_pass (is_input_level t) input (all_of t.done.now) in
-    (λ v. (((taken v && tray v) && pending v) && owed v) && done v)
-  where
-    each : (d : Done) → is_input_level t d ≡ true
-    each (Turn turned antimessages) = refl
-    each (Input signed) = h signed.message
-
-all_sent : (t : Sendings) (from : ℕ) → ((m : Message) → is_sent_level t m ≡ true) → is_all_sent t from ≡ true
-all_sent t from h =
-    let standing = all_pass (is_sent_if_from t from) one t.standing.now in
-    let out = all_pass (is_sent_if_from t from) one t.out.now in
-    let done = all_pass (is_turn_level t from) each (all_of t.done.now) in
-    (λ v. (standing v && out v) && done v)
-  where
-    one : (x : Signed) → is_sent_if_from t from x ≡ true
-    one x = either (not (x.message.key.component == from)) (is_sent_level t x.message) (h x.message)
-
-    each : (d : Done) → is_turn_level t from d ≡ true
-    each (Turn turned antimessages) = all_pass (is_sent_if_from t from) one (all_of antimessages)
-    each (Input signed) = refl
+use Rattle.message_balance.specs.Walks.{count_turns}
+use Rattle.message_balance.proofs.AllBalanced.{all_sent}
+use Rattle.message_balance.proofs.Counting.{all_before, count_next, count_none, count_reversed}
 
 -- a turn sends each message at most once, since its receivers are listed once
 one_at_most : (n : ℕ) → n ≤ 1 → n ≡ cond (nat_lt 0 n) 1 0
@@ -136,7 +99,7 @@ module _ (s : System) (i : ℕ) (once : (composition : List Instance) (action : 
       ap (count_turns m) all ∙ along ∙ turns_count first done.before ready ∙ sym (count_reversed (is_sending_of m) done.before) ∙ sym (ap (count_by (is_sending_of m)) all)
 
 -- what one walk along both sides shows of the messages that a component sent
-pub all_sent_by : (s : System) (i first : ℕ) → ((composition : List Instance) (action : Named) (sender : ℕ) → Rising 0 (receivers_of composition action sender)) → (t : Sendings) → AllReady s i first t.done.now.before → t.done.now.after ≡ []
+pub all_sent_by : (s : System) (i first : ℕ) → ((composition : List Instance) (action : Named) (sender : ℕ) → Rising 0 (receivers_of composition action sender)) → (t : Sent) → AllReady s i first t.done.now.before → t.done.now.after ≡ []
     → ((m : Message) → count_standing m (record { standing = t.standing.now; out = t.out.now }) ≡ count_turns m (all_of t.done.now) + count_as Minus m t.out.now) → is_all_sent t i ≡ true
 all_sent_by s i first once t ready ahead h =
     all_sent t i (λ m. eq-eqb _ _ (h m ∙ ap (λ n. n + count_as Minus m t.out.now) (all_turns_count s i once m first t.done.now ready ahead)))

@@ -22,8 +22,9 @@ use Rattle.virtual_time.specs.Bags.{hit, times}
 use Rattle.task_seed.specs.Machines.{machine}
 use Rattle.task_seed.specs.Turning.{System}
 use Rattle.rollback.specs.Flight.{IsComparable, goes, in_flight, is_sign, item_of}
-use Rattle.rollback.specs.Levels.{signed_as}
-use Rattle.rollback.proofs.Levels.{count_next, hit_or, none_or, times_count}
+use Rattle.message_balance.specs.Balance.{signed_as}
+use Rattle.message_balance.proofs.Counting.{count_next}
+use Rattle.rollback.proofs.Levels.{hit_or, none_or, times_count}
 
 module _ (s : System) (sign : Sign) (j k : ℕ) (a : Named) where
   -- how often one message counts

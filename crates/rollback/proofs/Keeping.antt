@@ -36,8 +36,8 @@ use Rattle.virtual_time.specs.Entries.{Entry, Own, Input as Received, Item, by_o
 use Rattle.virtual_time.specs.Records.{Record, own_next, least_of, next_of}
 use Rattle.task_seed.specs.Turning.{System, has_turns, ticks, key_at, key_of}
 use Rattle.task_seed.specs.Machines.{machine, turn_rank, turn_outcome, end_rank}
-use Rattle.rollback.specs.declared.done.Done.{Done}
-use Rattle.rollback.specs.declared.done.Done.TheVariants.{Turn, Input}
+use Rattle.message_balance.specs.declared.done.Done.{Done}
+use Rattle.message_balance.specs.declared.done.Done.TheVariants.{Turn, Input}
 use Rattle.rollback.specs.Flight.{goes, is_sign, item_of, items_of, AllGo}
 use Rattle.rollback.specs.Replays.{replays_below}
 use Rattle.rollback.specs.Kept.{entry_of, entries_of, signed_of, IsSmall, AllReady, IsTimed, base_state, record_of, IsReplayed, IsQueue, IsKept}

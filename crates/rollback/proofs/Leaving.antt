@@ -16,7 +16,7 @@ use Rattle.virtual_time.specs.Bags as theory
 use Rattle.task_seed.specs.Machines.{machine}
 use Rattle.task_seed.specs.Turning.{System}
 use Rattle.rollback.specs.Flight.{goes, in_flight, item_of}
-use Rattle.rollback.specs.Levels.{signed_as}
+use Rattle.message_balance.specs.Balance.{signed_as}
 use Rattle.rollback.proofs.Flight.{item_same}
 use Rattle.rollback.proofs.Flights.{times_are}
 

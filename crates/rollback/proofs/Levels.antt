@@ -1,12 +1,6 @@
 -- Counts of messages in the code are those of the theory.
-use Rattle.std.proofs.Common.{◌≡◌, ℕ, ◌+◌, ◌==◌, ◌&&◌, ◌⊎◌, inl, inr, Bool, true, false, cond, List, [], ◌∷◌, ◌++◌, reverse, refl, ap, sym, ◌∙◌, if◌then◌else◌, arith}
-use Rattle.std.specs.Prelude.{count_by}
-use Rattle.std.specs.List.{list_all}
-use mathlib.Core.List.{reverse_aux}
+use Rattle.std.proofs.Common.{◌≡◌, ℕ, ◌+◌, ◌==◌, ◌&&◌, ◌⊎◌, inl, inr, Bool, true, false, cond, List, [], ◌∷◌, refl, ap, sym, ◌∙◌, if◌then◌else◌, arith}
 use Rattle.std.proofs.lemmas.Bool.{and_parts, eqb-true}
-use Rattle.std.proofs.lemmas.List.{append-nil}
-use Rattle.std.proofs.lemmas.List.Sums.{sum_by-cons}
-use Rattle.std.proofs.lemmas.List.Sorted.{IsPermutation-reverse, sum_by-IsPermutation}
 use Rattle.std.specs.Cmp.{Equal-is}
 use Rattle.terms.specs.Named.{Named}
 use Rattle.event_keys.specs.Apart.{action_apart}
@@ -15,7 +9,6 @@ use Rattle.event_keys.specs.Ranks.{rank}
 use Rattle.event_keys.specs.declared.message.Message.{Message}
 use Rattle.event_keys.specs.declared.message.Sign.{Sign}
 use Rattle.event_keys.specs.declared.message.Signed.{Signed}
-use Rattle.raw_events.specs.Around.{Around}
 use Rattle.antimessage.proofs.Counting.{signed_decides}
 use Rattle.antimessage.specs.Bags.{is_one}
 use Rattle.antimessage.specs.Counts.{Each, is_same}
@@ -25,22 +18,12 @@ use Rattle.virtual_time.specs.Entries.{Item}
 use Rattle.task_seed.specs.Machines.{machine, same_action}
 use Rattle.task_seed.specs.Turning.{System}
 use Rattle.rollback.specs.Flight.{goes, in_flight, item_of}
-use Rattle.rollback.specs.Levels.{all_of, count_as, signed_as}
+use Rattle.message_balance.specs.Balance.{count_as, signed_as}
+use Rattle.message_balance.proofs.Counting.{count_next, count_none}
 use Rattle.rollback.proofs.Flight.{hit_same}
 
 pub action_is : (a b : Named) → same_action a b ≡ true → a ≡ b
 action_is a b h = action_apart a b ((Equal-is (action_order a b)).0 h)
-
-plus_none : (n : ℕ) → n ≡ 0 + n
-plus_none n = omega arith
-
-module _ {X : Type 0} (p : X → Bool) where
-  -- one more is counted, or it isn't
-  pub count_next : (x : X) (xs : List X) → cond (p x) 1 0 + count_by p xs ≡ count_by p (x ∷ xs)
-  count_next x xs = sym (sum_by-cons (λ y. cond (p y) 1 0) x xs)
-
-  pub count_none : (x : X) (xs : List X) → p x ≡ false → count_by p xs ≡ count_by p (x ∷ xs)
-  count_none x xs h = plus_none (count_by p xs) ∙ ap (λ (b : Bool). cond b 1 0 + count_by p xs) (sym h) ∙ count_next x xs
 
 -- a message that goes elsewhere is another
 pub elsewhere : (sign : Sign) (j : ℕ) (x y : Signed) → goes sign j y ≡ true → goes sign j x ≡ false → is_same x y ≡ false
@@ -93,40 +76,3 @@ module _ (s : System) where
         → (times (machine s) (if b then item_of x ∷ in_flight sign j xs else in_flight sign j xs) k a ≡ 0) ⊎ P
     go rest false p = rest
     go rest true p = both_or P (hit (machine s) (item_of x) k a) (times (machine s) (in_flight sign j xs) k a) (hit_or P (item_of x) k a (h x e.0 p)) rest
-
-shuffled : (a b c : Bool) → (a && (b && c)) ≡ ((b && a) && c)
-shuffled true true c = refl
-shuffled true false c = refl
-shuffled false true c = refl
-shuffled false false c = refl
-
-and_true : (a : Bool) → (a && true) ≡ a
-and_true true = refl
-and_true false = refl
-
-module _ {X : Type 0} where
-  -- all of a list, its cursor at the end or at the front
-  pub all_before : (xs : Around X) → xs.after ≡ [] → all_of xs ≡ reverse xs.before
-  all_before xs h = ap (λ ys. reverse xs.before ++ ys) h ∙ append-nil (reverse xs.before)
-
-  pub all_after : (xs : Around X) → xs.before ≡ [] → all_of xs ≡ xs.after
-  all_after xs h = ap (λ ys. reverse ys ++ xs.after) h
-
-  pub count_reversed : (p : X → Bool) (xs : List X) → count_by p (reverse xs) ≡ count_by p xs
-  count_reversed p xs = sum_by-IsPermutation (λ x. cond (p x) 1 0) xs (reverse xs) (IsPermutation-reverse xs)
-
-  all_along : (p : X → Bool) (xs ys : List X) → list_all p (reverse_aux xs ys) ≡ (list_all p xs && list_all p ys)
-  all_along p [] ys = refl
-  all_along p (x ∷ xs) ys = all_along p xs (x ∷ ys) ∙ shuffled (list_all p xs) (p x) (list_all p ys)
-
-  pub all_reversed : (p : X → Bool) (xs : List X) → list_all p (reverse xs) ≡ list_all p xs
-  all_reversed p xs = all_along p xs [] ∙ and_true (list_all p xs)
-
-  -- each passes
-  pub each_passes : (p : X → Bool) (Q : X → Type 0) → ((x : X) → Q x → p x ≡ true) → (xs : List X) → Each Q xs → list_all p xs ≡ true
-  each_passes p Q h [] e = refl
-  each_passes p Q h (x ∷ xs) e = let first = h x e.0 in let rest = each_passes p Q h xs e.1 in (λ v. first v && rest v)
-
-  pub passes_each : (p : X → Bool) (Q : X → Type 0) (xs : List X) → Each Q xs → list_all p xs ≡ true → Each (λ x. Q x × (p x ≡ true)) xs
-  passes_each p Q [] e h = tt
-  passes_each p Q (x ∷ xs) e h = let parts = and_parts (p x) (list_all p xs) h in ((e.0, parts.0), passes_each p Q xs e.1 parts.1)

@@ -18,5 +18,4 @@ mod Taken
 mod Standing
 mod Lowest
 mod Leaving
-mod InStep
 mod Even

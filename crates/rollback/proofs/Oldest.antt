@@ -7,8 +7,8 @@ use Rattle.event_keys.specs.declared.key.Key.{Key}
 use Rattle.event_keys.specs.declared.outcome.Turned.{Turned}
 use Rattle.raw_events.specs.Around.{Around, first_of, last, without_first_of}
 use Rattle.virtual_time.specs.Entries.{entry_key, latest}
-use Rattle.rollback.specs.declared.done.Done.{Done}
-use Rattle.rollback.specs.declared.done.Done.TheVariants.{Turn, Input}
+use Rattle.message_balance.specs.declared.done.Done.{Done}
+use Rattle.message_balance.specs.declared.done.Done.TheVariants.{Turn, Input}
 use Rattle.rollback.specs.Dropped.{dones_below, dones_from, is_done_below, key_in, newest_key, oldest_below, turn_in, turns_in, without_oldest_below}
 use Rattle.rollback.specs.Falling.{Falls}
 use Rattle.rollback.specs.Kept.{entries_of, entry_of, onto}

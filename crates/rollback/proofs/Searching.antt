@@ -9,8 +9,8 @@ use Rattle.event_keys.specs.Ranks.{rank}
 use Rattle.antimessage.specs.Counts.{plus}
 use Rattle.antimessage.proofs.Counting.{signed_decides}
 use Rattle.virtual_time.specs.Entries.{entry_key, latest}
-use Rattle.rollback.specs.declared.done.Done.{Done}
-use Rattle.rollback.specs.declared.done.Done.TheVariants.{Turn, Input}
+use Rattle.message_balance.specs.declared.done.Done.{Done}
+use Rattle.message_balance.specs.declared.done.Done.TheVariants.{Turn, Input}
 use Rattle.rollback.specs.Falling.{Falls}
 use Rattle.rollback.specs.Kept.{entry_of, entries_of, is_any_input, is_entry_input, is_first_input, is_first_passed}
 

@@ -1,4 +1,4 @@
--- All messages of a component are level exactly where those stand that are said.
+-- All messages of a component are balanced exactly where those stand that are said.
 use Rattle.std.proofs.Common.{◌≡◌, ℕ, ◌+◌, ◌<◌, ◌^◌, ◌==◌, ◌&&◌, ◌||◌, ◌⊎◌, inl, not, Bool, true, false, cond, Option, None, Some, List, [], ◌∷◌, map, reverse, refl, ap, sym, subst, ◌∙◌, if◌then◌else◌, arith}
 use Rattle.std.specs.Prelude.{count_by, nat_lt, ◌↔◌}
 use Rattle.std.specs.List.{list_all}
@@ -28,17 +28,18 @@ use Rattle.virtual_time.specs.Bags.{hit, hit_own, owns, same_item, sends, times}
 use Rattle.virtual_time.specs.Entries.{number}
 use Rattle.task_seed.specs.Machines.{machine, same_action}
 use Rattle.task_seed.specs.Turning.{System, has_turns, key_at, key_of, ticks}
-use Rattle.rollback.specs.declared.done.Done.{Done}
-use Rattle.rollback.specs.declared.done.Done.TheVariants.{Turn, Input}
-use Rattle.rollback.specs.declared.matching.Sendings.{Sendings}
+use Rattle.message_balance.specs.declared.done.Done.{Done}
+use Rattle.message_balance.specs.declared.done.Done.TheVariants.{Turn, Input}
+use Rattle.message_balance.specs.declared.sent.Sent.{Sent}
 use Rattle.rollback.specs.Flight.{in_flight, item_of}
 use Rattle.rollback.specs.Kept.{AllReady, IsKept, IsReady, IsSmall, entries_of, record_of, signed_of}
-use Rattle.rollback.specs.Levels.{all_of, count_as, is_all_sent, is_sending_of, is_sent_if_from, is_sent_level, is_turn_level}
+use Rattle.message_balance.specs.Balance.{all_of, count_as, is_all_sent, is_sending_of, is_sent_if_from, is_sent_balanced, is_turn_balanced}
 use Rattle.rollback.specs.Matched.{IsStanding}
 use Rattle.rollback.specs.Post.{signed_to}
 use Rattle.rollback.proofs.Flight.{item_same}
 use Rattle.rollback.proofs.Sending.{end_is}
-use Rattle.rollback.proofs.Levels.{action_is, all_before, all_reversed, both_or, count_next, count_none, count_reversed, each_passes, elsewhere, hit_or, none_or, passes_each, same_or, times_count}
+use Rattle.message_balance.proofs.Counting.{all_before, all_reversed, count_next, count_none, count_reversed, each_passes, passes_each}
+use Rattle.rollback.proofs.Levels.{action_is, both_or, elsewhere, hit_or, none_or, same_or, times_count}
 
 and_true : (a : Bool) → a ≡ (a && true)
 and_true true = refl
@@ -141,41 +142,41 @@ module _ (s : System) (i : ℕ) (small : i < 2 ^ 16) (all : (composition : List 
         ap (λ l. cond (receives s.composition l m.action m.to) (owns (machine s) (entries_of ds) (rank m.key) m.action) 0) (rank_owner m.key f.0 f.1 ∙ eqb-true m.key.component i own)
         ∙ owns_count first ds ready
 
-  module _ (t : Sendings) (first : ℕ) (standing_fits : Each Fits t.standing.now) (out_fits : Each Fits t.out.now) (ready : AllReady s i first t.done.now.before) (ahead : t.done.now.after ≡ []) where
+  module _ (t : Sent) (first : ℕ) (standing_fits : Each Fits t.standing.now) (out_fits : Each Fits t.out.now) (ready : AllReady s i first t.done.now.before) (ahead : t.done.now.after ≡ []) where
     abbrev left : ℕ → Named → ℕ → ℕ
     left k a j = times (machine s) (in_flight Plus j t.standing.now) k a + times (machine s) (in_flight Plus j t.out.now) k a
 
     abbrev right : ℕ → Named → ℕ → ℕ
     right k a j = sends (machine s) (entries_of t.done.now.before) k a j + times (machine s) (in_flight Minus j t.out.now) k a
 
-    level_is : (m : Message) → (m.key.component == i) ≡ true → Fits (plus m) → is_sent_level t m ≡ (left (rank m.key) m.action m.to == right (rank m.key) m.action m.to)
-    level_is m own f =
+    balanced_is : (m : Message) → (m.key.component == i) ≡ true → Fits (plus m) → is_sent_balanced t m ≡ (left (rank m.key) m.action m.to == right (rank m.key) m.action m.to)
+    balanced_is m own f =
         let standing = times_count s Plus m.to m (itself m.to) f t.standing.now standing_fits in
         let pluses = times_count s Plus m.to m (itself m.to) f t.out.now out_fits in
         let done = sends_count m f own first t.done.now.before ready ∙ sym (ap (count_by (is_sending_of m)) (all_before t.done.now ahead) ∙ count_reversed (is_sending_of m) t.done.now.before) in
         let minuses = times_count s Minus m.to m (itself m.to) f t.out.now out_fits in
         sym (λ v. (standing v + pluses v) == (done v + minuses v))
 
-    abbrev IsLevel : ℕ → Named → ℕ → Type 0
-    IsLevel k a j = left k a j ≡ right k a j
+    abbrev IsBalanced : ℕ → Named → ℕ → Type 0
+    IsBalanced k a j = left k a j ≡ right k a j
 
     own_key : (key : Key) (k : ℕ) → KeyFits key → rank key ≡ k → owner_of k ≡ i → (key.component == i) ≡ true
     own_key key k f same owned = eq-eqb key.component i (sym (rank_owner key f.0 f.1) ∙ ap owner_of same ∙ owned)
 
-    -- what a level message shows
-    level_at : (x : Signed) (k : ℕ) (a : Named) (j : ℕ) → owner_of k ≡ i → Fits x → is_sent_if_from t i x ≡ true → rank x.message.key ≡ k → x.message.action ≡ a → x.message.to ≡ j → IsLevel k a j
-    level_at x k a j owned f h same_key same_action same_place =
+    -- what a balanced message shows
+    balanced_at : (x : Signed) (k : ℕ) (a : Named) (j : ℕ) → owner_of k ≡ i → Fits x → is_sent_if_from t i x ≡ true → rank x.message.key ≡ k → x.message.action ≡ a → x.message.to ≡ j → IsBalanced k a j
+    balanced_at x k a j owned f h same_key same_action same_place =
         let own = own_key x.message.key k f same_key owned in
-        let told : is_sent_level t x.message ≡ true = ap (λ b. not b || is_sent_level t x.message) (sym own) ∙ h in
-        let level : IsLevel (rank x.message.key) x.message.action x.message.to = eqb-true _ _ (sym (level_is x.message own f) ∙ told) in
-        subst (λ l. IsLevel k a l) same_place (subst (λ b. IsLevel k b x.message.to) same_action (subst (λ l. IsLevel l x.message.action x.message.to) same_key level))
+        let told : is_sent_balanced t x.message ≡ true = ap (λ b. not b || is_sent_balanced t x.message) (sym own) ∙ h in
+        let balanced : IsBalanced (rank x.message.key) x.message.action x.message.to = eqb-true _ _ (sym (balanced_is x.message own f) ∙ told) in
+        subst (λ l. IsBalanced k a l) same_place (subst (λ b. IsBalanced k b x.message.to) same_action (subst (λ l. IsBalanced l x.message.action x.message.to) same_key balanced))
 
     abbrev IsGood : Signed → Type 0
     IsGood x = Fits x × (is_sent_if_from t i x ≡ true)
 
     module _ (k : ℕ) (a : Named) (j : ℕ) (owned : owner_of k ≡ i) where
-      list_or : (sign : Sign) (xs : List Signed) → Each Fits xs → list_all (is_sent_if_from t i) xs ≡ true → (times (machine s) (in_flight sign j xs) k a ≡ 0) ⊎ IsLevel k a j
-      list_or sign xs e h = none_or s (IsLevel k a j) IsGood sign j k a (λ x q g sk sa. level_at x k a j owned q.0 q.1 sk sa (eqb-true x.message.to j (and_parts _ (x.message.to == j) g).1)) xs (passes_each (is_sent_if_from t i) Fits xs e h)
+      list_or : (sign : Sign) (xs : List Signed) → Each Fits xs → list_all (is_sent_if_from t i) xs ≡ true → (times (machine s) (in_flight sign j xs) k a ≡ 0) ⊎ IsBalanced k a j
+      list_or sign xs e h = none_or s (IsBalanced k a j) IsGood sign j k a (λ x q g sk sa. balanced_at x k a j owned q.0 q.1 sk sa (eqb-true x.message.to j (and_parts _ (x.message.to == j) g).1)) xs (passes_each (is_sent_if_from t i) Fits xs e h)
 
       receiver_at : (p : Signed → Bool) (made : ℕ → Signed) (js : List ℕ) → IsIn j js ≡ true → list_all p (map made js) ≡ true → p (made j) ≡ true
       receiver_at p made [] there h = cc
@@ -188,50 +189,50 @@ module _ (s : System) (i : ℕ) (small : i < 2 ^ 16) (all : (composition : List 
           go false e in_it here later = later in_it
 
       outcome_or : (key : Key) (o : Outcome) → KeyFits key → receives s.composition i a j ≡ true → list_all (is_sent_if_from t i) (signed_of s Minus i key o) ≡ true
-          → (hit_own (machine s) (rank key) (action_of o) k a ≡ 0) ⊎ IsLevel k a j
+          → (hit_own (machine s) (rank key) (action_of o) k a ≡ 0) ⊎ IsBalanced k a j
       outcome_or key Idle g takes h = inl refl
       outcome_or key (Did b) g takes h =
-          hit_or s (IsLevel k a j) (record { key = rank key; action = b }) k a (λ sk sa.
+          hit_or s (IsBalanced k a j) (record { key = rank key; action = b }) k a (λ sk sa.
           let there : IsIn j (receivers_of s.composition b i) ≡ true = all s.composition b i j ∙ ap (λ c. receives s.composition i c j) sa ∙ takes in
-          level_at (signed_to Minus key b j) k a j owned g (receiver_at (is_sent_if_from t i) (signed_to Minus key b) (receivers_of s.composition b i) there h) sk sa refl)
+          balanced_at (signed_to Minus key b j) k a j owned g (receiver_at (is_sent_if_from t i) (signed_to Minus key b) (receivers_of s.composition b i) there h) sk sa refl)
 
-      owns_or : (ds : List Done) → AllReady s i first ds → receives s.composition i a j ≡ true → list_all (is_turn_level t i) ds ≡ true → (owns (machine s) (entries_of ds) k a ≡ 0) ⊎ IsLevel k a j
+      owns_or : (ds : List Done) → AllReady s i first ds → receives s.composition i a j ≡ true → list_all (is_turn_balanced t i) ds ≡ true → (owns (machine s) (entries_of ds) k a ≡ 0) ⊎ IsBalanced k a j
       owns_or [] ready takes h = inl refl
       owns_or (Turn turned minuses ∷ ds) ready takes h =
-          let parts = and_parts (is_turn_level t i (Turn turned minuses)) (list_all (is_turn_level t i) ds) h in
+          let parts = and_parts (is_turn_balanced t i (Turn turned minuses)) (list_all (is_turn_balanced t i) ds) h in
           let ends : minuses.after ≡ [] = ap (λ (q : Around Signed). q.after) ready.0.2 in
           let listed : all_of minuses ≡ reverse (signed_of s Minus i turned.key turned.outcome) = all_before minuses ends ∙ ap (λ (q : Around Signed). reverse q.before) ready.0.2 in
           let each : list_all (is_sent_if_from t i) (signed_of s Minus i turned.key turned.outcome) ≡ true =
           sym (ap (list_all (is_sent_if_from t i)) listed ∙ all_reversed (is_sent_if_from t i) (signed_of s Minus i turned.key turned.outcome)) ∙ parts.0 in
-          both_or (IsLevel k a j) (hit_own (machine s) (rank turned.key) (action_of turned.outcome) k a) (owns (machine s) (entries_of ds) k a)
+          both_or (IsBalanced k a j) (hit_own (machine s) (rank turned.key) (action_of turned.outcome) k a) (owns (machine s) (entries_of ds) k a)
           (outcome_or turned.key turned.outcome (key_fits (number first (entries_of ds)) turned.key ready.0.0 ready.0.1) takes each)
           (owns_or ds ready.1 takes parts.1)
       owns_or (Input y ∷ ds) ready takes h = owns_or ds ready.1 takes h
 
-      sends_or : (ds : List Done) → AllReady s i first ds → list_all (is_turn_level t i) ds ≡ true → (sends (machine s) (entries_of ds) k a j ≡ 0) ⊎ IsLevel k a j
+      sends_or : (ds : List Done) → AllReady s i first ds → list_all (is_turn_balanced t i) ds ≡ true → (sends (machine s) (entries_of ds) k a j ≡ 0) ⊎ IsBalanced k a j
       unfolding sends
       sends_or ds ready h = go (receives s.composition (owner_of k) a j) refl where
-        go : (b : Bool) → receives s.composition (owner_of k) a j ≡ b → (cond b (owns (machine s) (entries_of ds) k a) 0 ≡ 0) ⊎ IsLevel k a j
+        go : (b : Bool) → receives s.composition (owner_of k) a j ≡ b → (cond b (owns (machine s) (entries_of ds) k a) 0 ≡ 0) ⊎ IsBalanced k a j
         go false e = inl refl
         go true e = owns_or ds ready (ap (λ l. receives s.composition l a j) (sym owned) ∙ e) h
 
-      standing_from : is_all_sent t i ≡ true → IsLevel k a j
+      standing_from : is_all_sent t i ≡ true → IsBalanced k a j
       standing_from h =
-          let one = and_parts _ (list_all (is_turn_level t i) (all_of t.done.now)) h in
+          let one = and_parts _ (list_all (is_turn_balanced t i) (all_of t.done.now)) h in
           let two = and_parts (list_all (is_sent_if_from t i) t.standing.now) (list_all (is_sent_if_from t i) t.out.now) one.0 in
-          let done : list_all (is_turn_level t i) t.done.now.before ≡ true = sym (ap (list_all (is_turn_level t i)) (all_before t.done.now ahead) ∙ all_reversed (is_turn_level t i) t.done.now.before) ∙ one.1 in
+          let done : list_all (is_turn_balanced t i) t.done.now.before ≡ true = sym (ap (list_all (is_turn_balanced t i)) (all_before t.done.now ahead) ∙ all_reversed (is_turn_balanced t i) t.done.now.before) ∙ one.1 in
           same_or (left k a j) (right k a j)
-          (both_or (IsLevel k a j) _ _ (list_or Plus t.standing.now standing_fits two.0) (list_or Plus t.out.now out_fits two.1))
-          (both_or (IsLevel k a j) _ _ (sends_or t.done.now.before ready done) (list_or Minus t.out.now out_fits two.1))
+          (both_or (IsBalanced k a j) _ _ (list_or Plus t.standing.now standing_fits two.0) (list_or Plus t.out.now out_fits two.1))
+          (both_or (IsBalanced k a j) _ _ (sends_or t.done.now.before ready done) (list_or Minus t.out.now out_fits two.1))
 
-    module _ (h : (k : ℕ) (a : Named) (j : ℕ) → owner_of k ≡ i → IsLevel k a j) where
+    module _ (h : (k : ℕ) (a : Named) (j : ℕ) → owner_of k ≡ i → IsBalanced k a j) where
       good_by : (x : Signed) → Fits x → is_sent_if_from t i x ≡ true
       good_by x f = go (x.message.key.component == i) refl where
-        go : (b : Bool) → (x.message.key.component == i) ≡ b → (not b || is_sent_level t x.message) ≡ true
+        go : (b : Bool) → (x.message.key.component == i) ≡ b → (not b || is_sent_balanced t x.message) ≡ true
         go false e = refl
         go true e =
             let owned : owner_of (rank x.message.key) ≡ i = rank_owner x.message.key f.0 f.1 ∙ eqb-true x.message.key.component i e in
-            level_is x.message e f ∙ eq-eqb _ _ (h (rank x.message.key) x.message.action x.message.to owned)
+            balanced_is x.message e f ∙ eq-eqb _ _ (h (rank x.message.key) x.message.action x.message.to owned)
 
       list_by : (xs : List Signed) → Each Fits xs → list_all (is_sent_if_from t i) xs ≡ true
       list_by xs e = each_passes (is_sent_if_from t i) Fits good_by xs e
@@ -244,7 +245,7 @@ module _ (s : System) (i : ℕ) (small : i < 2 ^ 16) (all : (composition : List 
       outcome_by key Idle g = refl
       outcome_by key (Did b) g = made_by key b g (receivers_of s.composition b i)
 
-      turns_by : (ds : List Done) → AllReady s i first ds → list_all (is_turn_level t i) ds ≡ true
+      turns_by : (ds : List Done) → AllReady s i first ds → list_all (is_turn_balanced t i) ds ≡ true
       turns_by [] ready = refl
       turns_by (Turn turned minuses ∷ ds) ready =
           let ends : minuses.after ≡ [] = ap (λ (q : Around Signed). q.after) ready.0.2 in
@@ -260,11 +261,11 @@ module _ (s : System) (i : ℕ) (small : i < 2 ^ 16) (all : (composition : List 
       standing_by =
           let standing = list_by t.standing.now standing_fits in
           let out = list_by t.out.now out_fits in
-          let done = (ap (list_all (is_turn_level t i)) (all_before t.done.now ahead) ∙ all_reversed (is_turn_level t i) t.done.now.before) ∙ turns_by t.done.now.before ready in
+          let done = (ap (list_all (is_turn_balanced t i)) (all_before t.done.now ahead) ∙ all_reversed (is_turn_balanced t i) t.done.now.before) ∙ turns_by t.done.now.before ready in
           (λ v. (standing v && out v) && done v)
 
-  -- the fields are level exactly where the messages stand
-  pub standing_is : (first : ℕ) (states : States) (own : Option Key) (pending owed : Around Signed) (t : Sendings) (b : Bool) → b ≡ is_all_sent t i → IsKept s i first states t.done.now pending owed own → IsInOrder t.standing.now → IsInOrder t.out.now
+  -- the fields are balanced exactly where the messages stand
+  pub standing_is : (first : ℕ) (states : States) (own : Option Key) (pending owed : Around Signed) (t : Sent) (b : Bool) → b ≡ is_all_sent t i → IsKept s i first states t.done.now pending owed own → IsInOrder t.standing.now → IsInOrder t.out.now
       → (b ≡ true) ↔ IsStanding (machine s) i (record_of states first t.done.now pending owed) t.standing.now t.out.now
   standing_is first states own pending owed t b e kept standing out =
       (λ h k a j owned. standing_from t first standing.fits out.fits kept.ready kept.ahead k a j owned (sym e ∙ h), λ h. e ∙ standing_by t first standing.fits out.fits kept.ready kept.ahead h)

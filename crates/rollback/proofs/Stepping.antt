@@ -24,8 +24,8 @@ use Rattle.virtual_time.specs.Entries.{Entry, Own, Input as Received, by_own, nu
 use Rattle.virtual_time.specs.Records.{Record, next_of, roll_back_of, sent, unsent, without_first, undone as undone_by_theory}
 use Rattle.task_seed.specs.Turning.{System}
 use Rattle.task_seed.specs.Machines.{machine, turn_outcome}
-use Rattle.rollback.specs.declared.done.Done.{Done}
-use Rattle.rollback.specs.declared.done.Done.TheVariants.{Turn, Input}
+use Rattle.message_balance.specs.declared.done.Done.{Done}
+use Rattle.message_balance.specs.declared.done.Done.TheVariants.{Turn, Input}
 use Rattle.rollback.specs.Flight.{item_of, items_of}
 use Rattle.rollback.specs.Kept.{entries_of, record_of, IsReplayed, AllReady, IsKept}
 use Rattle.rollback.specs.Stepped.{IsComingTurn}

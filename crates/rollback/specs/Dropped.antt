@@ -7,8 +7,8 @@ use Rattle.event_keys.specs.Entries.{action_of}
 use Rattle.event_keys.specs.Ranks.{rank}
 use Rattle.virtual_time.specs.Entries.{entry_key}
 use Rattle.virtual_time.specs.Reference.{Turn as Taken}
-use Rattle.rollback.specs.declared.done.Done.{Done}
-use Rattle.rollback.specs.declared.done.Done.TheVariants.{Turn, Input}
+use Rattle.message_balance.specs.declared.done.Done.{Done}
+use Rattle.message_balance.specs.declared.done.Done.TheVariants.{Turn, Input}
 use Rattle.rollback.specs.Kept.{entry_of}
 
 -- a turn of the code as one of the theory

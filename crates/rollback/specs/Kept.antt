@@ -24,8 +24,8 @@ use Rattle.virtual_time.specs.Entries.{Entry, Own, Input as Received, entry_key,
 use Rattle.virtual_time.specs.Records.{Record}
 use Rattle.task_seed.specs.Turning.{System, key_of}
 use Rattle.task_seed.specs.Machines.{machine, end_rank}
-use Rattle.rollback.specs.declared.done.Done.{Done}
-use Rattle.rollback.specs.declared.done.Done.TheVariants.{Turn, Input}
+use Rattle.message_balance.specs.declared.done.Done.{Done}
+use Rattle.message_balance.specs.declared.done.Done.TheVariants.{Turn, Input}
 use Rattle.rollback.specs.Falling.{IsFalling}
 use Rattle.rollback.specs.Flight.{goes, item_of, items_of, AllGo}
 use Rattle.rollback.specs.Post.{signed_to}

@@ -12,6 +12,4 @@ pub mod Dropped
 pub mod Runs
 pub mod Same
 pub mod SameLaws
-pub mod Levels
 pub mod Matched
-pub mod Sides

@@ -10,8 +10,8 @@ use Rattle.undo_records.specs.First.{same_state}
 use Rattle.virtual_time.specs.Entries.{Entry, Own, Input as Received, Item}
 use Rattle.virtual_time.specs.Records.{Record}
 use Rattle.task_seed.specs.Machines.{same_action}
-use Rattle.rollback.specs.declared.done.Done.{Done}
-use Rattle.rollback.specs.declared.done.Done.TheVariants.{Turn, Input}
+use Rattle.message_balance.specs.declared.done.Done.{Done}
+use Rattle.message_balance.specs.declared.done.Done.TheVariants.{Turn, Input}
 use Rattle.rollback.specs.Held.{Held}
 
 -- both idle, or the same action

@@ -26,8 +26,8 @@ use Rattle.virtual_time.specs.Entries.{Entry, Own, Input as Received, Item}
 use Rattle.virtual_time.specs.Records.{Record}
 use Rattle.task_seed.specs.Setups.{plan_of, source_of, horizon_of}
 use Rattle.task_seed.specs.Machines.{same_action}
-use Rattle.rollback.specs.declared.done.Done.{Done}
-use Rattle.rollback.specs.declared.done.Done.TheVariants.{Turn, Input}
+use Rattle.message_balance.specs.declared.done.Done.{Done}
+use Rattle.message_balance.specs.declared.done.Done.TheVariants.{Turn, Input}
 use Rattle.rollback.specs.Held.{Held}
 use Rattle.rollback.specs.Same.{same_outcome, same_item, same_entry, same_base, same_events, same_held, same_done}
 

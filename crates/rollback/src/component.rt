@@ -21,7 +21,7 @@ ghost use Rattle.rollback.specs.Post.{IsPosted};
 ghost use Rattle.rollback.specs.Stepped.{next_entry, HasNextKey, stepped, IsNextSent, IsNextTurn};
 
 use crate::ahead::Ahead;
-use crate::done::Done;
+use message_balance::Done;
 use crate::growth::{outcome_at, post_all, receivers_of_turn, take_input, take_turn};
 use crate::keys::{fits, is_below, key_of};
 use crate::refused::ProcessRefused;

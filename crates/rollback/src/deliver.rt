@@ -14,7 +14,7 @@ ghost use Rattle.rollback.specs.Kept.{IsTimed, entries_of, is_done_later, is_ent
 ghost use Rattle.rollback.specs.Post.{IsPosted, opposite, opposed};
 
 use crate::component::Component;
-use crate::done::Done;
+use message_balance::Done;
 use crate::keys::{fits, is_below, key_of};
 use antimessage::Bag;
 use event_keys::{Sign, Signed};

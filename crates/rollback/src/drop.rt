@@ -9,7 +9,7 @@ ghost use Rattle.rollback.specs.Kept.{entries_of, onto};
 ghost use Rattle.rollback.specs.Dropped.{turn_of, dones_below, dones_from, key_in, newest_key, number_after, oldest_below, turn_in, turns_in, without_oldest_below};
 
 use crate::component::Component;
-use crate::done::Done;
+use message_balance::Done;
 use crate::keys::{is_below_bound, key_of};
 use event_keys::{Bound, Key, Turned};
 use raw_events::{EventCell, EventList};

@@ -16,7 +16,7 @@ ghost use Rattle.rollback.specs.Held.{machine_of};
 ghost use Rattle.rollback.specs.Kept.{signed_by, signed_of, turn_receivers, IsGivenBack};
 ghost use Rattle.rollback.specs.Post.{signed_to, post_all, IsPosted};
 
-use crate::done::Done;
+use message_balance::Done;
 use crate::keys::fits;
 use antimessage::Bag;
 use antimessage::laws::order_law;

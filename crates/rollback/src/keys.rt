@@ -6,7 +6,7 @@ ghost use Rattle.virtual_time.specs.Entries.{entry_key};
 ghost use Rattle.task_seed.specs.Machines.{end_rank};
 ghost use Rattle.rollback.specs.Kept.{entry_of};
 
-use crate::done::Done;
+use message_balance::Done;
 use event_keys::laws::{bound_rank_law, key_rank_law, rank_law};
 use event_keys::{Bound, Key};
 

@@ -4,7 +4,7 @@ ghost use Rattle.rollback.specs.Same.{same_held, same_done};
 ghost use Rattle.rollback.specs.SameLaws.{setup_equiv, same_held_equiv, same_done_per};
 
 use crate::component::Component;
-use crate::done::Done;
+use message_balance::Done;
 use task_seed::{Setup, Turns};
 
 // Done entries are equal where they are the same turn with the same outcome, or the same input. The antimessages that lie

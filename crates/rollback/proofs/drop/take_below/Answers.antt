@@ -2,7 +2,7 @@ use Rattle.std.proofs.Common.{◌≡◌, ◌<◌, ◌++◌, None, Some, length, 
 use Rattle.event_keys.specs.declared.outcome.Turned.{Turned}
 use Rattle.event_keys.specs.Ranks.{rank_of_bound}
 use Rattle.raw_events.specs.Around.{Around}
-use Rattle.rollback.specs.declared.done.Done.{Done}
+use Rattle.message_balance.specs.declared.done.Done.{Done}
 use Rattle.rollback.specs.Dropped.{dones_below, dones_from, key_in, oldest_below, turn_in, turns_in, without_oldest_below}
 use Rattle.rollback.specs.Falling.{Falls}
 use Rattle.rollback.specs.Kept.{entries_of}

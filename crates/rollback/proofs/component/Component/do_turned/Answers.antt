@@ -8,7 +8,7 @@ use Rattle.task_seed.specs.Setups.{system}
 use Rattle.task_seed.specs.Turning.{key_of}
 use Rattle.virtual_time.specs.Entries.{by_own}
 use Rattle.virtual_time.specs.Records.{next_of, sent}
-use Rattle.rollback.specs.declared.done.Done.TheVariants.{Turn}
+use Rattle.message_balance.specs.declared.done.Done.TheVariants.{Turn}
 use Rattle.rollback.specs.Held.{Held, machine_of, processed}
 use Rattle.rollback.specs.Kept.{record_of, signed_of}
 use Rattle.rollback.specs.Post.{IsPosted}

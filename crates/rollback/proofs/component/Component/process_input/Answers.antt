@@ -8,7 +8,7 @@ use Rattle.plans.specs.Steps.{applied}
 use Rattle.task_seed.specs.Setups.{system, plan_of}
 use Rattle.task_seed.specs.Machines.{machine}
 use Rattle.virtual_time.specs.Records.{next_of}
-use Rattle.rollback.specs.declared.done.Done.TheVariants.{Input}
+use Rattle.message_balance.specs.declared.done.Done.TheVariants.{Input}
 use Rattle.rollback.specs.Held.{Held, machine_of, is_receiving}
 use Rattle.rollback.specs.Kept.{record_of}
 use Rattle.rollback.proofs.Keeping.{kept_input}

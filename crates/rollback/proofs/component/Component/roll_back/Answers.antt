@@ -7,7 +7,7 @@ use Rattle.raw_events.specs.Around.{tail}
 use Rattle.task_seed.specs.Setups.{system}
 use Rattle.task_seed.specs.Machines.{machine}
 use Rattle.virtual_time.specs.Records.{roll_back_of, unsent}
-use Rattle.rollback.specs.declared.done.Done.TheVariants.{Turn, Input}
+use Rattle.message_balance.specs.declared.done.Done.TheVariants.{Turn, Input}
 use Rattle.rollback.specs.Held.{Held, machine_of, last_of}
 use Rattle.rollback.specs.Kept.{record_of}
 use Rattle.rollback.specs.Post.{IsPosted}

@@ -1,0 +1,3 @@
+pub mod AllBalanced
+pub mod Counting
+mod NextMessages

@@ -1,9 +1,0 @@
-use Rattle.std.proofs.Common.{◌≡◌, count_by, length}
-use Rattle.rollback.specs.Levels.{is_sending_of}
-use Rattle.rollback.proofs.matching.pass_sending.Given as goal
-
-abbrev pub invariant-loop-done : goal.invariant-loop-done
-invariant-loop-done l = count_by (is_sending_of l.message) l.items ≡ count_by (is_sending_of l.message) l.initial.items
-
-abbrev pub decreases-loop-done : goal.decreases-loop-done
-decreases-loop-done l = length l.items
