@@ -12,9 +12,10 @@ use Rattle.virtual_time.specs.Entries.{Entry, below, from, number, replay}
 use Rattle.virtual_time.specs.Records.{cut_of, turns_among}
 use Rattle.task_seed.specs.Turning.{System, key_of}
 use Rattle.task_seed.specs.Machines.{machine}
+use Rattle.task_seed.specs.Taken.{turn_of}
 use Rattle.rollback.specs.declared.done.Done.{Done}
 use Rattle.rollback.specs.declared.done.Done.TheVariants.{Turn, Input}
-use Rattle.rollback.specs.Dropped.{turn_of, is_done_below, dones_below, dones_from, turns_in, newest_key, number_after}
+use Rattle.rollback.specs.Dropped.{is_done_below, dones_below, dones_from, turns_in, newest_key, number_after}
 use Rattle.rollback.specs.Falling.{IsFalling}
 use Rattle.rollback.specs.Flight.{items_of}
 use Rattle.rollback.proofs.Falling.{falling_from}

@@ -9,9 +9,9 @@ use Rattle.raw_events.specs.Around.{head, tail}
 use Rattle.antimessage.specs.Counts.{Each}
 use Rattle.virtual_time.specs.Reference.{AllBelow, Falls, Turn}
 use Rattle.virtual_time.specs.Exchange.Merged.{put_turn, put_turns}
-use Rattle.rollback.specs.Dropped.{turn_of}
+use Rattle.task_seed.specs.Taken.{turn_of, turns_of}
 use Rattle.rollback.specs.Kept.{onto}
-use Rattle.turn_lists.specs.Turns.{is_last_from, turns_of}
+use Rattle.turn_lists.specs.Turns.{is_last_from}
 
 -- none of these is before t
 abbrev pub NotBefore : Turned → List Turned → Type 0

@@ -4,12 +4,8 @@ use Rattle.terms.specs.Named.{Named}
 use Rattle.event_keys.specs.declared.outcome.Turned.{Turned}
 use Rattle.event_keys.specs.Ranks.{rank}
 use Rattle.virtual_time.specs.Reference.{Turn}
-use Rattle.rollback.specs.Dropped.{turn_of}
+use Rattle.task_seed.specs.Taken.{turn_of}
 use Rattle.rollback.specs.Kept.{onto}
-
--- turns as the theory sees them, the last one first
-abbrev pub turns_of : List Turned → List (Turn Named)
-turns_of turns = onto (map turn_of turns) []
 
 -- there is a last turn, and it is not below a bound
 abbrev pub is_last_from : ℕ → List Turned → Bool

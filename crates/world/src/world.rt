@@ -5,6 +5,7 @@ ghost use Rattle.event_keys.specs.declared.outcome.Turned.{Turned as TurnedValue
 ghost use Rattle.event_keys.specs.Ranks.{rank_of_bound};
 ghost use Rattle.plans.specs.Plans.{composition};
 ghost use Rattle.task_seed.specs.Setups.{plan_of, system};
+ghost use Rattle.task_seed.specs.Taken.{turn_of};
 ghost use Rattle.terms.specs.Named.{Named};
 ghost use Rattle.virtual_time.specs.Reference.{IsReference, Turn};
 ghost use Rattle.virtual_time.specs.Replies.{Answers, IsReached, IsVirtualTime, Runs};
@@ -12,7 +13,6 @@ ghost use Rattle.virtual_time.specs.Rules.{IsRollBack, IsWorld};
 ghost use Rattle.virtual_time.specs.Worlds.{Commit, Meet, Process, RollBack, start_world};
 ghost use Rattle.antimessage.specs.Counts.{plus};
 ghost use Rattle.antimessage.specs.Order.{IsInOrder};
-ghost use Rattle.rollback.specs.Dropped.{turn_of};
 ghost use Rattle.rollback.specs.Flight.{item_of};
 ghost use Rattle.rollback.specs.Held.{machine_of};
 ghost use Rattle.world.specs.Keeping.{Keeps};

@@ -7,7 +7,8 @@ use Rattle.virtual_time.specs.Entries.{below, number}
 use Rattle.virtual_time.specs.Records.{cut_of, turns_among}
 use Rattle.task_seed.specs.Setups.{system}
 use Rattle.task_seed.specs.Machines.{machine}
-use Rattle.rollback.specs.Dropped.{turn_of, dones_below, dones_from, number_after, turns_in}
+use Rattle.task_seed.specs.Taken.{turn_of}
+use Rattle.rollback.specs.Dropped.{dones_below, dones_from, number_after, turns_in}
 use Rattle.rollback.specs.Held.{Held, machine_of}
 use Rattle.rollback.specs.Kept.{entries_of, record_of, onto}
 use Rattle.rollback.proofs.Keeping.{depth_is}
