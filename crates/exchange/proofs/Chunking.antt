@@ -16,7 +16,7 @@ use Rattle.virtual_time.specs.Machine.{Machine, HasCount}
 use Rattle.virtual_time.specs.Reference.{Turn, Falls, Point, point, reference_below, turns_of as taken_of}
 use Rattle.virtual_time.specs.Exchange.Stubs.{Stub as StubSeen, IsSound}
 use Rattle.virtual_time.specs.Exchange.Meetings.{IsChunk, turns_below, turns_from}
-use Rattle.rollback.specs.Kept.{onto}
+use Rattle.raw_events.specs.Onto.{onto}
 use Rattle.gvt.specs.Least.{IsLeast}
 use Rattle.task_seed.specs.Turning.{System}
 use Rattle.task_seed.specs.Machines.{machine, end_rank, turn_rank}

@@ -6,6 +6,7 @@ use Rattle.terms.specs.Named.{Named}
 use Rattle.event_keys.specs.declared.key.Key.{Key}
 use Rattle.event_keys.specs.declared.message.Signed.{Signed}
 use Rattle.raw_events.specs.Around.{Around}
+use Rattle.raw_events.specs.Onto.{onto}
 use Rattle.undo_records.specs.First.{oldest}
 use Rattle.undo_records.specs.States.{States, without_first}
 use Rattle.virtual_time.specs.Entries.{Entry, below, from, number, replay}
@@ -19,7 +20,7 @@ use Rattle.rollback.specs.Dropped.{is_done_below, dones_below, dones_from, turns
 use Rattle.rollback.specs.Falling.{IsFalling}
 use Rattle.rollback.specs.Flight.{items_of}
 use Rattle.rollback.proofs.Falling.{falling_from}
-use Rattle.rollback.specs.Kept.{entry_of, entries_of, IsReady, AllReady, base_state, record_of, IsReplayed, IsKept, onto}
+use Rattle.rollback.specs.Kept.{entry_of, entries_of, IsReady, AllReady, base_state, record_of, IsReplayed, IsKept}
 use Rattle.rollback.specs.Replays.{replays_below}
 use Rattle.rollback.proofs.Keeping.{depth_is, number_is}
 use Rattle.rollback.proofs.Replays.{number_cut, oldest_replay, replay_cut, replays_cut}

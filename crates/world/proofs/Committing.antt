@@ -22,7 +22,7 @@ use Rattle.task_seed.specs.Machines.{machine}
 use Rattle.task_seed.specs.Turning.{System}
 use Rattle.task_seed.specs.Taken.{turn_of, turns_of}
 use Rattle.rollback.specs.Held.{Held}
-use Rattle.rollback.specs.Kept.{onto}
+use Rattle.raw_events.specs.Onto.{onto}
 use Rattle.world.specs.Dropping.{IsOrderly, cut_at, cut_between, done_at, dropped_at}
 use Rattle.world.specs.MachineLaws.{Laws}
 use Rattle.world.specs.Simulation.{IsComponent, IsSimulation, Simulation, part_of, record_or_start, world_of}

@@ -15,7 +15,7 @@ use Rattle.task_seed.specs.Setups.{system, plan_of}
 use Rattle.task_seed.specs.Machines.{machine}
 use Rattle.task_seed.specs.Taken.{turns_of}
 use Rattle.rollback.specs.Held.{Held, machine_of}
-use Rattle.rollback.specs.Kept.{onto}
+use Rattle.raw_events.specs.Onto.{onto}
 use Rattle.exchange.specs.declared.stub.Stub.{Stub}
 use Rattle.exchange.specs.Holding.{Holding, IsHolding, lease_of, part_of}
 use Rattle.exchange.specs.Moving.{IsPassedOn}

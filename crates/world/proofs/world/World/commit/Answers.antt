@@ -12,7 +12,6 @@ use Rattle.task_seed.specs.Taken.{turns_of}
 use Rattle.rollback.specs.Held.{Held, machine_of}
 use Rattle.world.specs.MachineLaws.{Laws}
 use Rattle.world.specs.Simulation.{IsSimulation, Simulation, world_of}
-use Rattle.rollback.specs.Kept.{onto}
 use Rattle.world.specs.Keeping.{Keeps}
 use Rattle.world.proofs.Keeping.{level}
 use Rattle.std.proofs.Common.{ℕ, []}
@@ -20,6 +19,7 @@ use Rattle.std.specs.Prelude.{option_map, slice_get}
 use Rattle.std.proofs.lemmas.Bool.{ltb-false}
 use Rattle.event_keys.specs.declared.outcome.Turned.{Turned}
 use Rattle.raw_events.specs.Around.{Around}
+use Rattle.raw_events.specs.Onto.{onto}
 use Rattle.virtual_time.specs.Reference.{outcome_at}
 use Rattle.virtual_time.specs.Replies as theory
 use Rattle.world.specs.Dropping.{IsOrderly, cut_between, dropped_at}
