@@ -5,6 +5,7 @@
 //! values that compare `Equal` are the same value ([`laws`]).
 #![tactic(auto)]
 
+pub mod bounds;
 pub mod entry;
 pub mod key;
 pub mod laws;
@@ -12,6 +13,7 @@ pub mod message;
 pub mod outcome;
 pub mod step;
 
+pub use bounds::lesser;
 pub use entry::Entry;
 pub use key::{Bound, Key};
 pub use message::{Message, Sign, Signed};
