@@ -15,8 +15,8 @@ use Rattle.virtual_time.specs.Reference.{Turn, IsReference, after, reference_bel
 use Rattle.plans.specs.declared.plan.Plan.{Plan}
 use Rattle.task_seed.specs.Machines.{machine, end_rank}
 use Rattle.task_seed.specs.Turning.{System}
+use Rattle.task_seed.specs.Taken.{turn_of, turns_of}
 use Rattle.reference.specs.Schedules.{HasSchedules}
-use Rattle.reference.specs.Views.{turn_of, turns_of}
 use Rattle.trace.specs.declared.lines.Lines.{Lines}
 use Rattle.trace.specs.Lines.{shown_text, text_of}
 use Rattle.commands.specs.Driven.{IsBeginning}

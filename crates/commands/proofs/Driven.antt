@@ -12,7 +12,7 @@ use Rattle.task_seed.specs.Setups.{plan_of, system}
 use Rattle.rollback.specs.Held.{machine_of}
 use Rattle.trace.specs.declared.lines.Lines.{Lines}
 use Rattle.trace.specs.Lines.{text_of}
-use Rattle.world.specs.declared.step.Step.{Step}
+use Rattle.event_keys.specs.declared.step.Step.{Step}
 use Rattle.world.specs.declared.step.Reply.{Reply}
 use Rattle.world.specs.declared.step.StepRefused.{StepRefused}
 use Rattle.world.specs.Simulation.{Simulation, world_of}

@@ -8,10 +8,10 @@ use Rattle.virtual_time.specs.Worlds.{World, start_world}
 use Rattle.plans.specs.declared.plan.Plan.{Plan}
 use Rattle.task_seed.specs.Machines.{machine}
 use Rattle.task_seed.specs.Turning.{System}
-use Rattle.world.specs.declared.step.Step.{Step}
+use Rattle.task_seed.specs.Taken.{turns_of}
+use Rattle.event_keys.specs.declared.step.Step.{Step}
 use Rattle.world.specs.Steps.{step_of}
 use Rattle.reference.specs.Schedules.{AreAllTurns, AreSchedule}
-use Rattle.reference.specs.Views.{turns_of}
 use Rattle.trace.specs.declared.fault.WriteFault.{WriteFault}
 use Rattle.trace.specs.declared.lines.Lines.{Lines}
 use Rattle.trace.specs.Lines.{text_of}

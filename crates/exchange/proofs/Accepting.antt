@@ -27,10 +27,11 @@ use Rattle.virtual_time.specs.Exchange.Stubs.{Stub as StubSeen, Exchange as Exch
 use Rattle.rollback.specs.Flight.{in_flight}
 use Rattle.task_seed.specs.Turning.{System, key_of}
 use Rattle.task_seed.specs.Machines.{machine}
+use Rattle.task_seed.specs.Taken.{turns_of}
 use Rattle.exchange.specs.declared.stub.Stub.{Stub}
 use Rattle.exchange.specs.Holding.{Holding, IsHolding, lease_of, part_of}
 use Rattle.exchange.specs.Moving.{among, HasCome, IsArrived, IsPassedOn}
-use Rattle.exchange.specs.Shared.{Shared, IsShared, IsStub, stub_of, stub_or_start, turns_of, exchange_of}
+use Rattle.exchange.specs.Shared.{Shared, IsShared, IsStub, stub_of, stub_or_start, exchange_of}
 use Rattle.exchange.proofs.Committing.{slice_get_none}
 use Rattle.exchange.proofs.Receiving.{none_else, to_alone, To}
 

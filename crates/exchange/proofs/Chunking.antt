@@ -16,13 +16,13 @@ use Rattle.virtual_time.specs.Machine.{Machine, HasCount}
 use Rattle.virtual_time.specs.Reference.{Turn, Falls, Point, point, reference_below, turns_of as taken_of}
 use Rattle.virtual_time.specs.Exchange.Stubs.{Stub as StubSeen, IsSound}
 use Rattle.virtual_time.specs.Exchange.Meetings.{IsChunk, turns_below, turns_from}
-use Rattle.rollback.specs.Dropped.{turn_of}
-use Rattle.rollback.specs.Kept.{onto}
+use Rattle.raw_events.specs.Onto.{onto}
 use Rattle.gvt.specs.Least.{IsLeast}
 use Rattle.task_seed.specs.Turning.{System}
 use Rattle.task_seed.specs.Machines.{machine, end_rank, turn_rank}
+use Rattle.task_seed.specs.Taken.{turn_of, turns_of}
 use Rattle.exchange.specs.declared.stub.Stub.{Stub}
-use Rattle.exchange.specs.Shared.{Shared, IsShared, stub_or_start, turns_of, exchange_of}
+use Rattle.exchange.specs.Shared.{Shared, IsShared, stub_or_start, exchange_of}
 use Rattle.exchange.specs.Chunks.{base_of, first_below, first_from}
 use Rattle.exchange.proofs.Committing.{end_is}
 

@@ -24,9 +24,10 @@ use Rattle.task_seed.specs.declared.turns.Turn.{Turn}
 use Rattle.task_seed.specs.Setups.{plan_of, system}
 use Rattle.task_seed.specs.Turning.{System, key_of}
 use Rattle.task_seed.specs.Machines.{machine, turn_rank}
+use Rattle.task_seed.specs.Taken.{turns_of}
 use Rattle.exchange.specs.declared.stub.Stub.{Stub}
 use Rattle.exchange.specs.Holding.{Holding, IsHolding, lease_of}
-use Rattle.exchange.specs.Shared.{Shared, IsShared, IsStub, stub_of, stub_or_start, turns_of, exchange_of}
+use Rattle.exchange.specs.Shared.{Shared, IsShared, IsStub, stub_of, stub_or_start, exchange_of}
 use Rattle.exchange.specs.Core.{StandFor}
 use Rattle.exchange.specs.Start.{first, bound_at, first_bound, lease_or_start, leases_of, start_holding, start_shared, start_stub}
 use Rattle.exchange.proofs.Committing.{end_is}

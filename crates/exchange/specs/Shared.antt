@@ -19,9 +19,8 @@ use Rattle.virtual_time.specs.Exchange.Stubs.{Stub as StubSeen, Exchange as Exch
 use Rattle.rollback.specs.Flight.{in_flight}
 use Rattle.task_seed.specs.Turning.{System, key_of}
 use Rattle.task_seed.specs.Machines.{machine, turn_rank}
+use Rattle.task_seed.specs.Taken.{turns_of}
 use Rattle.exchange.specs.declared.stub.Stub.{Stub}
--- turns as the theory sees them, the last one first
-pub use Rattle.turn_lists.specs.Turns.{turns_of}
 
 -- a setup, a stub for each component, the committed bound, the turns taken in and not given in a chunk, the first one first,
 -- and how many were given

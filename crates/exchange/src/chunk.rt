@@ -9,10 +9,11 @@ ghost use Rattle.terms.specs.Named.{Named};
 ghost use Rattle.exchange.specs.Core.{Leads};
 ghost use Rattle.plans.specs.Plans.{composition};
 ghost use Rattle.task_seed.specs.Setups.{plan_of};
+ghost use Rattle.task_seed.specs.Taken.{turns_of};
 ghost use Rattle.rollback.specs.Held.{machine_of};
-ghost use Rattle.rollback.specs.Kept.{onto};
+ghost use Rattle.raw_events.specs.Onto.{onto};
 ghost use Rattle.gvt.specs.Least.{IsLeast};
-ghost use Rattle.exchange.specs.Shared.{exchange_of, turns_of};
+ghost use Rattle.exchange.specs.Shared.{exchange_of};
 ghost use Rattle.exchange.specs.Chunks.{base_of, is_first_below, first_below, first_from, IsGiven};
 
 use crate::exchange::{Exchange, is_bounded};

@@ -1,12 +1,10 @@
 //! The least of some bounds.
-ghost use Rattle.std.specs.Prelude.{◌≡◌, ◌≤◌, ◌⊎◌, List};
+ghost use Rattle.std.specs.Prelude.{List};
 ghost use Rattle.std.specs.Iterator.{IsFinite, Drains};
-ghost use Rattle.event_keys.specs.Ranks.{rank_of_bound};
 ghost use Rattle.event_keys.specs.declared.key.Bound.{Bound};
 ghost use Rattle.gvt.specs.Least.{IsLeast};
 
-use event_keys::Bound;
-use event_keys::laws::bound_rank_law;
+use event_keys::{Bound, lesser};
 
 /// The least of the bounds that an iterator gives up to its end, or `Bound::End` where it gives none. Its time grows with
 /// their number, and it takes no memory.
@@ -21,14 +19,4 @@ pub fn least_bound<I: Iterator<Item = Bound> + Drop>(bounds: I) -> Bound
         least = lesser(least, bound);
     }
     least
-}
-
-/// The lesser of two bounds.
-pub fn lesser(first: Bound, second: Bound) -> Bound
-    ensures either { (result ≡ first) ⊎ (result ≡ second) }
-    ensures first { rank_of_bound result ≤ rank_of_bound first }
-    ensures second { rank_of_bound result ≤ rank_of_bound second }
-{
-    bound_rank_law(first, second);
-    if first < second { first } else { second }
 }

@@ -6,5 +6,6 @@ pub mod published;
 mod rule;
 pub mod word;
 
-pub use least::{least_bound, lesser};
+pub use event_keys::lesser;
+pub use least::least_bound;
 pub use word::{Published, Seat};

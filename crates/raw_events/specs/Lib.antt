@@ -1,5 +1,6 @@
 pub mod Around
 pub mod Cells
 pub mod Marks
+pub mod Onto
 pub mod Same
 pub mod Strands

@@ -7,7 +7,8 @@ use Rattle.plans.specs.Plans.{composition}
 use Rattle.plans.specs.Steps.{IsSchedule}
 use Rattle.task_seed.specs.Machines.{machine, end_rank}
 use Rattle.task_seed.specs.Turning.{System}
-use Rattle.reference.specs.Views.{turns_of, actions_of}
+use Rattle.task_seed.specs.Taken.{turns_of}
+use Rattle.reference.specs.Views.{actions_of}
 
 -- the actions of these turns, idle turns left out, are a schedule of the plan's composition
 abbrev pub AreSchedule : Plan → List Turned → Type 0

@@ -1,26 +1,18 @@
--- A simulator as its callers see it, and turns as the theory has them.
-use Rattle.std.specs.Prelude.{◌≡◌, ℕ, ◌≤◌, Option, None, Some, List, [], ◌∷◌, map, reverse}
+-- A simulator as its callers see it.
+use Rattle.std.specs.Prelude.{◌≡◌, ℕ, ◌≤◌, Option, None, Some, List, [], ◌∷◌}
 use Rattle.terms.specs.Datum.{Datum}
 use Rattle.terms.specs.Named.{Named}
 use Rattle.event_keys.specs.declared.outcome.Turned.{Turned}
 use Rattle.event_keys.specs.Entries.{action_of}
-use Rattle.event_keys.specs.Ranks.{rank}
 use Rattle.virtual_time.specs.Machine.{Machine}
 use Rattle.virtual_time.specs.Executions.{add_action}
 use Rattle.virtual_time.specs.Reference.{Turn, IsNext, IsReference, after, reference_below}
+use Rattle.task_seed.specs.Taken.{turn_of}
 
 -- a setup, and the turns that were taken, the last one first
 pub record Ran (P : Type 0) : Type 0 where
   pub setup : P
   pub taken : List (Turn Named)
-
--- a turn of the code as one of the theory
-abbrev pub turn_of : Turned → Turn Named
-turn_of turned = record { key = rank turned.key; outcome = action_of turned.outcome }
-
--- turns in the order of their keys as the theory has them, the last one first
-abbrev pub turns_of : List Turned → List (Turn Named)
-turns_of turns = reverse (map turn_of turns)
 
 -- the actions of turns, idle turns left out
 abbrev pub actions_of : List Turned → List Named

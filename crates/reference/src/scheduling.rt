@@ -3,10 +3,10 @@ ghost use Rattle.std.specs.Prelude.{◌≡◌, [], IfOk};
 ghost use Rattle.std.specs.BinaryHeap.{heap_items};
 ghost use Rattle.task_seed.specs.Setups.{system, plan_of};
 ghost use Rattle.task_seed.specs.Machines.{machine, end_rank};
+ghost use Rattle.task_seed.specs.Taken.{turns_of};
 ghost use Rattle.virtual_time.specs.Reference.{IsReference, reference_below};
 ghost use Rattle.reference.specs.Standing.{taken_at, Stands};
 ghost use Rattle.reference.specs.Schedules.{AreAllTurns};
-ghost use Rattle.reference.specs.Views.{turns_of};
 
 use crate::frontier::Frontier;
 use crate::laws::turns_are_schedule;

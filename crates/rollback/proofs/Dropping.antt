@@ -6,19 +6,21 @@ use Rattle.terms.specs.Named.{Named}
 use Rattle.event_keys.specs.declared.key.Key.{Key}
 use Rattle.event_keys.specs.declared.message.Signed.{Signed}
 use Rattle.raw_events.specs.Around.{Around}
+use Rattle.raw_events.specs.Onto.{onto}
 use Rattle.undo_records.specs.First.{oldest}
 use Rattle.undo_records.specs.States.{States, without_first}
 use Rattle.virtual_time.specs.Entries.{Entry, below, from, number, replay}
 use Rattle.virtual_time.specs.Records.{cut_of, turns_among}
 use Rattle.task_seed.specs.Turning.{System, key_of}
 use Rattle.task_seed.specs.Machines.{machine}
+use Rattle.task_seed.specs.Taken.{turn_of}
 use Rattle.message_balance.specs.declared.done.Done.{Done}
 use Rattle.message_balance.specs.declared.done.Done.TheVariants.{Turn, Input}
-use Rattle.rollback.specs.Dropped.{turn_of, is_done_below, dones_below, dones_from, turns_in, newest_key, number_after}
+use Rattle.rollback.specs.Dropped.{is_done_below, dones_below, dones_from, turns_in, newest_key, number_after}
 use Rattle.rollback.specs.Falling.{IsFalling}
 use Rattle.rollback.specs.Flight.{items_of}
 use Rattle.rollback.proofs.Falling.{falling_from}
-use Rattle.rollback.specs.Kept.{entry_of, entries_of, IsReady, AllReady, base_state, record_of, IsReplayed, IsKept, onto}
+use Rattle.rollback.specs.Kept.{entry_of, entries_of, IsReady, AllReady, base_state, record_of, IsReplayed, IsKept}
 use Rattle.rollback.specs.Replays.{replays_below}
 use Rattle.rollback.proofs.Keeping.{depth_is, number_is}
 use Rattle.rollback.proofs.Replays.{number_cut, oldest_replay, replay_cut, replays_cut}

@@ -6,12 +6,13 @@ use Rattle.std.proofs.lemmas.Bool.Decides.{nat_tests}
 use Rattle.event_keys.specs.declared.key.Key.{Key}
 use Rattle.event_keys.specs.declared.outcome.Turned.{Turned}
 use Rattle.raw_events.specs.Around.{Around, first_of, last, without_first_of}
+use Rattle.raw_events.specs.Onto.{onto}
 use Rattle.virtual_time.specs.Entries.{entry_key, latest}
 use Rattle.message_balance.specs.declared.done.Done.{Done}
 use Rattle.message_balance.specs.declared.done.Done.TheVariants.{Turn, Input}
 use Rattle.rollback.specs.Dropped.{dones_below, dones_from, is_done_below, key_in, newest_key, oldest_below, turn_in, turns_in, without_oldest_below}
 use Rattle.rollback.specs.Falling.{Falls}
-use Rattle.rollback.specs.Kept.{entries_of, entry_of, onto}
+use Rattle.rollback.specs.Kept.{entries_of, entry_of}
 
 -- the key of the newest own turn among entries, or this one where there is none
 abbrev pub newest_or : List Done → Option Key → Option Key

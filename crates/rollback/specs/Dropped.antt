@@ -1,19 +1,11 @@
 -- What a component gives up below a bound.
 use Rattle.std.specs.Prelude.{ℕ, ◌+◌, Bool, cond, nat_lt, List, [], ◌∷◌, Option, None, Some}
-use Rattle.terms.specs.Named.{Named}
 use Rattle.event_keys.specs.declared.key.Key.{Key}
 use Rattle.event_keys.specs.declared.outcome.Turned.{Turned}
-use Rattle.event_keys.specs.Entries.{action_of}
-use Rattle.event_keys.specs.Ranks.{rank}
 use Rattle.virtual_time.specs.Entries.{entry_key}
-use Rattle.virtual_time.specs.Reference.{Turn as Taken}
 use Rattle.message_balance.specs.declared.done.Done.{Done}
 use Rattle.message_balance.specs.declared.done.Done.TheVariants.{Turn, Input}
 use Rattle.rollback.specs.Kept.{entry_of}
-
--- a turn of the code as one of the theory
-abbrev pub turn_of : Turned → Taken Named
-turn_of turned = record { key = rank turned.key; outcome = action_of turned.outcome }
 
 -- the done entry is below a bound
 abbrev pub is_done_below : ℕ → Done → Bool

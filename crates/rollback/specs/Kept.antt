@@ -1,7 +1,5 @@
 -- What a component keeps, and the record that it stands for.
-use Rattle.std.specs.Prelude.{◌≡◌, ℕ, ◌<◌, ◌&&◌, ◌||◌, not, nat_lt, Bool, true, false, List, [], ◌∷◌, ◌++◌, map, reverse, Option, Some, IfSome, length}
-use Rattle.std.proofs.Common.{refl}
-use mathlib.Core.List.{reverse_aux}
+use Rattle.std.specs.Prelude.{◌≡◌, ℕ, ◌<◌, ◌&&◌, ◌||◌, not, nat_lt, Bool, true, false, List, [], ◌∷◌, map, Option, Some, IfSome, length}
 use Rattle.raw_events.specs.Around.{Around}
 use Rattle.terms.specs.Datum.{Datum}
 use Rattle.terms.specs.Named.{Named}
@@ -135,19 +133,6 @@ is_first_passed x (d ∷ ds) = not (nat_lt (entry_key (entry_of d)) (rank x.mess
 abbrev pub is_any_input : Signed → List Done → Bool
 is_any_input x [] = false
 is_any_input x (d ∷ ds) = is_entry_input x d || is_any_input x ds
-
--- the items of a list, one by one put in front of another
-abbrev pub onto : {X : Type 0} → List X → List X → List X
-onto [] ys = ys
-onto (x ∷ xs) ys = onto xs (x ∷ ys)
-
--- it is the list turned round, and the other one
-pub reversed_onto : {X : Type 0} (xs ys : List X) → reverse xs ++ ys ≡ onto xs ys
-reversed_onto {X = X} xs ys = go xs [] ys
-  where
-    go : (xs us ys : List X) → reverse_aux xs us ++ ys ≡ onto xs (us ++ ys)
-    go [] us ys = refl
-    go (x ∷ xs) us ys = go xs (x ∷ us) ys
 
 -- there is an item, and the first one is greater
 abbrev pub is_first_greater : Signed → List Signed → Bool

@@ -2,6 +2,7 @@
 ghost use Rattle.std.specs.Prelude.{◌≡◌, ◌≤◌, [], nat_lt, true, false, is_some, length};
 ghost use Rattle.event_keys.specs.declared.message.Sign.TheVariants.{Plus, Minus};
 ghost use Rattle.raw_events.specs.Around.{first_where};
+ghost use Rattle.raw_events.specs.Onto.{onto};
 ghost use Rattle.antimessage.specs.Bags.{is_one, insert as insert_one, remove as remove_one};
 ghost use Rattle.antimessage.specs.Order.{Fits, IsInOrder};
 ghost use Rattle.virtual_time.specs.Bags.{insert, remove, has, inputs};
@@ -10,7 +11,7 @@ ghost use Rattle.virtual_time.specs.Records.{back_at, back_by_message, back_by_a
 ghost use Rattle.rollback.specs.Falling.{Falls};
 ghost use Rattle.rollback.specs.Flight.{goes, item_of};
 ghost use Rattle.rollback.specs.Held.{machine_of, comes, back_by, is_last_later, is_last_another};
-ghost use Rattle.rollback.specs.Kept.{IsTimed, entries_of, is_done_later, is_entry_input, is_first_another, is_first_input, is_first_passed, is_any_input, is_first_greater, onto};
+ghost use Rattle.rollback.specs.Kept.{IsTimed, entries_of, is_done_later, is_entry_input, is_first_another, is_first_input, is_first_passed, is_any_input, is_first_greater};
 ghost use Rattle.rollback.specs.Post.{IsPosted, opposite, opposed};
 
 use crate::component::Component;

@@ -5,8 +5,10 @@ ghost use Rattle.virtual_time.specs.Entries.{below};
 ghost use Rattle.virtual_time.specs.Records.{cut_of, turns_among};
 ghost use Rattle.rollback.specs.Held.{machine_of};
 ghost use Rattle.rollback.specs.Falling.{Falls};
-ghost use Rattle.rollback.specs.Kept.{entries_of, onto};
-ghost use Rattle.rollback.specs.Dropped.{turn_of, dones_below, dones_from, key_in, newest_key, number_after, oldest_below, turn_in, turns_in, without_oldest_below};
+ghost use Rattle.raw_events.specs.Onto.{onto};
+ghost use Rattle.rollback.specs.Kept.{entries_of};
+ghost use Rattle.task_seed.specs.Taken.{turn_of};
+ghost use Rattle.rollback.specs.Dropped.{dones_below, dones_from, key_in, newest_key, number_after, oldest_below, turn_in, turns_in, without_oldest_below};
 
 use crate::component::Component;
 use message_balance::Done;

@@ -17,7 +17,7 @@ use Rattle.task_seed.specs.Given.{table_turn}
 use Rattle.task_seed.specs.Refusals.{read_table_number, read_table_place, table_turns_number, table_turns_place}
 use Rattle.task_seed.specs.Rows.{turns_of}
 use Rattle.task_seed.specs.Table.{IsFirstBadLine, lines_of}
-use Rattle.world.specs.declared.step.Step.{Step}
+use Rattle.event_keys.specs.declared.step.Step.{Step}
 use Rattle.trace.specs.declared.counted.Counted.{Counted}
 use Rattle.trace.specs.declared.fault.TraceError.{TraceError}
 use Rattle.trace.specs.declared.fault.TraceError.TheVariants as lines_at

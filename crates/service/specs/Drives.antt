@@ -4,7 +4,7 @@ use Rattle.plans.specs.declared.plan.Plan.{Plan}
 use Rattle.plans.specs.Plans.{composition}
 use Rattle.task_seed.specs.Table.{lines_of}
 use Rattle.task_seed.specs.Turning.{System}
-use Rattle.world.specs.declared.step.Step.{Step}
+use Rattle.event_keys.specs.declared.step.Step.{Step}
 use Rattle.trace.specs.declared.lines.Lines.{Lines}
 use Rattle.trace.specs.StepFile.{GivesSteps, IsStepsFault}
 use Rattle.command_line.specs.declared.Options.{Options}

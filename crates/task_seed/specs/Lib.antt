@@ -9,6 +9,7 @@ pub mod Rows
 pub mod Setups
 pub mod Steps
 pub mod Table
+pub mod Taken
 pub mod Ticks
 pub mod Turning
 pub mod Walks

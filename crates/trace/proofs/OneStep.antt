@@ -13,8 +13,8 @@ use Rattle.event_keys.specs.declared.message.Sign.{Sign}
 use Rattle.event_keys.specs.declared.message.Sign.TheVariants.{Plus, Minus}
 use Rattle.plans.specs.declared.plan.Plan.{Plan}
 use Rattle.task_seed.specs.Table.{lines_of}
-use Rattle.world.specs.declared.step.Step.{Step}
-use Rattle.world.specs.declared.step.Step.TheVariants as step
+use Rattle.event_keys.specs.declared.step.Step.{Step}
+use Rattle.event_keys.specs.declared.step.Step.TheVariants as step
 use Rattle.trace.specs.declared.fault.TraceError.{TraceError}
 use Rattle.trace.specs.declared.fault.TraceError.TheVariants as trace
 use Rattle.trace.specs.Lines.{key_text}

@@ -4,7 +4,7 @@ use Rattle.std.proofs.lemmas.List.{append_assoc}
 use Rattle.terms.specs.Named.{Named}
 use Rattle.plans.specs.declared.plan.Plan.{Plan}
 use Rattle.task_seed.specs.Table.{lines_of}
-use Rattle.world.specs.declared.step.Step.{Step}
+use Rattle.event_keys.specs.declared.step.Step.{Step}
 use Rattle.trace.specs.declared.line_fault.LineFault.{LineFault}
 use Rattle.trace.specs.declared.line_fault.LineFault.TheVariants as fault
 use Rattle.trace.specs.FileFaults.{IsFirstAtFault, IsFileFault}

@@ -10,7 +10,7 @@ use Rattle.event_keys.specs.declared.key.Bound.TheVariants.{At, End}
 use Rattle.event_keys.specs.declared.message.Message.{Message}
 use Rattle.event_keys.specs.declared.message.Sign.{Sign}
 use Rattle.plans.specs.declared.plan.Plan.{Plan}
-use Rattle.world.specs.declared.step.Step.TheVariants as step
+use Rattle.event_keys.specs.declared.step.Step.TheVariants as step
 use Rattle.trace.specs.Actions.{IsAction, IsForeign, IsNoAction}
 use Rattle.trace.specs.Lines.{number_text, key_text}
 use Rattle.trace.specs.Messages.{IsMessageText, IsForeignMessage, IsNoMessage}

@@ -1,7 +1,7 @@
 -- What a file of steps gives, and its first line at fault.
 use Rattle.std.specs.Prelude.{◌≡◌, ℕ, List, [], ◌∷◌}
 use Rattle.plans.specs.declared.plan.Plan.{Plan}
-use Rattle.world.specs.declared.step.Step.{Step}
+use Rattle.event_keys.specs.declared.step.Step.{Step}
 use Rattle.trace.specs.declared.fault.TraceError.{TraceError}
 use Rattle.trace.specs.FileFaults.{IsFileFault}
 use Rattle.trace.specs.StepLines.{StepLine, step_text, IsStepLine, Says}

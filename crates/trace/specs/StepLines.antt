@@ -8,8 +8,8 @@ use Rattle.event_keys.specs.declared.message.Message.{Message}
 use Rattle.event_keys.specs.declared.message.Sign.{Sign}
 use Rattle.event_keys.specs.declared.message.Sign.TheVariants.{Plus, Minus}
 use Rattle.plans.specs.declared.plan.Plan.{Plan}
-use Rattle.world.specs.declared.step.Step.{Step}
-use Rattle.world.specs.declared.step.Step.TheVariants as step
+use Rattle.event_keys.specs.declared.step.Step.{Step}
+use Rattle.event_keys.specs.declared.step.Step.TheVariants as step
 use Rattle.trace.specs.Lines.{number_text, key_text}
 use Rattle.trace.specs.Written.{Written, written_text, IsWritten, IsKnown}
 

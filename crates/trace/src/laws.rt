@@ -5,7 +5,7 @@ ghost use Rattle.event_keys.specs.declared.outcome.Turned.{Turned};
 ghost use Rattle.terms.specs.Named.{Named};
 ghost use Rattle.plans.specs.declared.plan.Plan.{Plan};
 ghost use Rattle.task_seed.specs.Table.{lines_of};
-ghost use Rattle.world.specs.declared.step.Step.{Step};
+ghost use Rattle.event_keys.specs.declared.step.Step.{Step};
 ghost use Rattle.trace.specs.declared.fault.TraceError.{TraceError};
 ghost use Rattle.trace.specs.declared.fault.TraceError.TheVariants.{NoMemory};
 ghost use Rattle.trace.specs.declared.lines.Lines.TheVariants.{All};

@@ -15,11 +15,10 @@ use crate::fault::TraceError;
 use crate::line_fault::LineFault;
 use crate::reading::{fault_at, read_action, split_line};
 use crate::written::{number, number_before};
-use event_keys::{Bound, Key, Message, Sign, Signed};
+use event_keys::{Bound, Key, Message, Sign, Signed, Step};
 use plans::Plan;
 use std::alloc::Global;
 use std::str;
-use world::Step;
 
 fn component(word: &str) -> Option<u16>
     ensures some { IfSome result (λ n. (n < 2 ^ 16) × (word.now ≡ decimal n)) }

@@ -6,12 +6,12 @@ use Rattle.terms.specs.Named.{Named}
 use Rattle.event_keys.specs.declared.outcome.Turned.{Turned}
 use Rattle.event_keys.specs.Ranks.{rank}
 use Rattle.raw_events.specs.Around.{head, tail}
+use Rattle.raw_events.specs.Onto.{onto}
 use Rattle.antimessage.specs.Counts.{Each}
 use Rattle.virtual_time.specs.Reference.{AllBelow, Falls, Turn}
 use Rattle.virtual_time.specs.Exchange.Merged.{put_turn, put_turns}
-use Rattle.rollback.specs.Dropped.{turn_of}
-use Rattle.rollback.specs.Kept.{onto}
-use Rattle.turn_lists.specs.Turns.{is_last_from, turns_of}
+use Rattle.task_seed.specs.Taken.{turn_of, turns_of}
+use Rattle.turn_lists.specs.Turns.{is_last_from}
 
 -- none of these is before t
 abbrev pub NotBefore : Turned → List Turned → Type 0

@@ -1,15 +1,7 @@
--- Lists of turns, as the theory sees them.
-use Rattle.std.specs.Prelude.{ℕ, Bool, false, not, nat_lt, List, [], ◌∷◌, map}
-use Rattle.terms.specs.Named.{Named}
+-- Lists of turns, from their last one.
+use Rattle.std.specs.Prelude.{ℕ, Bool, false, not, nat_lt, List, [], ◌∷◌}
 use Rattle.event_keys.specs.declared.outcome.Turned.{Turned}
 use Rattle.event_keys.specs.Ranks.{rank}
-use Rattle.virtual_time.specs.Reference.{Turn}
-use Rattle.rollback.specs.Dropped.{turn_of}
-use Rattle.rollback.specs.Kept.{onto}
-
--- turns as the theory sees them, the last one first
-abbrev pub turns_of : List Turned → List (Turn Named)
-turns_of turns = onto (map turn_of turns) []
 
 -- there is a last turn, and it is not below a bound
 abbrev pub is_last_from : ℕ → List Turned → Bool

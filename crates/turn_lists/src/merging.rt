@@ -4,9 +4,9 @@ ghost use Rattle.event_keys.specs.Ranks.{rank, rank_of_bound};
 ghost use Rattle.antimessage.specs.Counts.{Each};
 ghost use Rattle.virtual_time.specs.Reference.{Falls};
 ghost use Rattle.virtual_time.specs.Exchange.Merged.{put_turn, put_turns};
-ghost use Rattle.rollback.specs.Dropped.{turn_of};
-ghost use Rattle.rollback.specs.Kept.{onto};
-ghost use Rattle.turn_lists.specs.Turns.{is_last_from, turns_of};
+ghost use Rattle.task_seed.specs.Taken.{turn_of, turns_of};
+ghost use Rattle.raw_events.specs.Onto.{onto};
+ghost use Rattle.turn_lists.specs.Turns.{is_last_from};
 
 use event_keys::laws::bound_rank_law;
 use event_keys::{Bound, Turned};

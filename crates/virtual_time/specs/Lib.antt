@@ -10,5 +10,3 @@ pub mod Replies
 pub mod Inverses
 pub mod Exchange
 pub mod Ring
--- keys as numbers
-pub use Rattle.event_keys.specs.Ranks

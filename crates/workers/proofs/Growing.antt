@@ -11,9 +11,8 @@ use Rattle.event_keys.specs.Entries.{action_of}
 use Rattle.event_keys.specs.Ranks.{rank}
 use Rattle.virtual_time.specs.Machine.{Machine}
 use Rattle.virtual_time.specs.Reference.{Turn, add_turn, after, next_turn, reference_below}
-use Rattle.rollback.specs.Dropped.{turn_of}
-use Rattle.rollback.specs.Kept.{onto}
-use Rattle.turn_lists.specs.Turns.{turns_of}
+use Rattle.task_seed.specs.Taken.{turn_of, turns_of}
+use Rattle.raw_events.specs.Onto.{onto}
 
 module _ {S A : Type 0} (m : Machine S A) where
   added : (k : ℕ) (o : Option (Option A)) (ts : List (Turn A)) → (extra : List (Turn A)) × (add_turn k o ts ≡ extra ++ ts)

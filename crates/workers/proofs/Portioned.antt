@@ -4,7 +4,7 @@ use Rattle.std.specs.List.{list_all}
 use Rattle.virtual_time.specs.Exchange.Meetings.{IsChunk}
 use Rattle.task_seed.specs.Machines.{machine, end_rank}
 use Rattle.task_seed.specs.Turning.{System}
-use Rattle.turn_lists.specs.Turns.{turns_of}
+use Rattle.task_seed.specs.Taken.{turns_of}
 use Rattle.exchange.specs.Chunks.{IsGiven}
 use Rattle.exchange.specs.Shared.{Shared, IsShared, exchange_of, is_ended}
 use Rattle.workers.specs.declared.writing.Portion.{Portion}

@@ -1,18 +1,15 @@
 -- What the calling thread has written, portion after portion.
 use Rattle.std.proofs.Common.{◌≡◌, ℕ, ◌≤◌, List, [], ◌++◌, length, take, refl, ap, sym, subst, ◌∙◌, arith, length-append}
-use Rattle.std.specs.Prelude.{Option, map, reverse}
+use Rattle.std.specs.Prelude.{Option}
 use Rattle.std.proofs.lemmas.Grind.{flat_map-append}
-use Rattle.std.proofs.lemmas.List.{append-nil, take-append-le, take_all}
+use Rattle.std.proofs.lemmas.List.{take-append-le, take_all}
 use Rattle.event_keys.specs.declared.outcome.Turned.{Turned}
 use Rattle.virtual_time.specs.Reference.{reference_below}
 use Rattle.plans.specs.declared.plan.Plan.{Plan}
 use Rattle.task_seed.specs.Machines.{machine, end_rank}
 use Rattle.task_seed.specs.Turning.{System}
+use Rattle.task_seed.specs.Taken.{turns_of}
 use Rattle.reference.specs.Schedules.{AreAllTurns, AreSchedule, HasSchedulesBelow}
-use Rattle.reference.specs.Views.{turns_of as turns_from_last}
-use Rattle.rollback.specs.Dropped.{turn_of}
-use Rattle.rollback.specs.Kept.{reversed_onto}
-use Rattle.turn_lists.specs.Turns.{turns_of}
 use Rattle.exchange.specs.Chunks.{IsGiven}
 use Rattle.trace.specs.declared.counted.Counted.{Counted}
 use Rattle.trace.specs.declared.fault.WriteFault.{WriteFault}
@@ -28,10 +25,6 @@ use Rattle.workers.specs.Portions.{IsPortion}
 use Rattle.workers.specs.Refusals.{run_fault}
 use Rattle.workers.specs.Runs.{IsBegun, IsCut, IsUnfinished, IsWhole}
 use Rattle.workers.proofs.Growing.{as_many, grown, length_turns, turns_for, turns_joined}
-
--- both ways to turn a list round are one
-same_turns : (turns : List Turned) → turns_from_last turns ≡ turns_of turns
-same_turns turns = sym (append-nil (reverse (map turn_of turns))) ∙ reversed_onto (map turn_of turns) []
 
 -- the lines of the first turns went out, so many turns and so many bytes
 pub record Sofar {W : Type 0} (known : W → Option (List ℕ)) (plan : Plan) (s : System) (lines : Lines) (old new : Counted W) (written bytes : ℕ) : Type 0 where
@@ -57,12 +50,8 @@ module _ (s : System) where
       let later = turns_for found.0 in
       (later.0, turns_joined turns later.0 ∙ (λ i. later.1 i ++ are i) ∙ sym found.1)
 
--- the actions of turns below a bound are a schedule
-scheduled : (plan : Plan) (s : System) → HasSchedulesBelow plan s → (turns : List Turned) (b : ℕ) → b ≤ end_rank → turns_of turns ≡ reference_below (machine s) b → AreSchedule plan turns
-scheduled plan s has turns b within are = has turns b within (same_turns turns ∙ are)
-
 all_turns : (plan : Plan) (s : System) → HasSchedulesBelow plan s → (turns : List Turned) → turns_of turns ≡ reference_below (machine s) end_rank → AreAllTurns plan s turns
-all_turns plan s has turns are = record { all = same_turns turns ∙ are; scheduled = scheduled plan s has turns end_rank (omega arith) are }
+all_turns plan s has turns are = record { all = are; scheduled = has turns end_rank (omega arith) are }
 
 module _ {W : Type 0} {known : W → Option (List ℕ)} {plan : Plan} {s : System} {lines : Lines} where
   pub starts : (out : Counted W) → Sofar known plan s lines out out 0 0
@@ -90,7 +79,7 @@ module _ {W : Type 0} {known : W → Option (List ℕ)} {plan : Plan} {s : Syste
         turns = h.turns ++ rest.0;
         are = all_turns plan s has (h.turns ++ rest.0) rest.1;
         count = length h.turns;
-        begun = subst (AreSchedule plan) (sym front) (scheduled plan s has h.turns h.bound h.within h.are);
+        begun = subst (AreSchedule plan) (sym front) (has h.turns h.bound h.within h.are);
         became = subst (λ (l : List Turned). IsWritten known old new (text_of plan lines l)) (sym front) (record { bytes = h.puts.bytes; failures = h.puts.failures });
       }
 

@@ -2,7 +2,7 @@
 use Rattle.std.specs.Prelude.{◌≡◌, ℕ, ◌+◌, ◌≤◌, true, Option, None, Some, [], length}
 use Rattle.task_seed.specs.Machines.{machine, end_rank}
 use Rattle.task_seed.specs.Turning.{System}
-use Rattle.turn_lists.specs.Turns.{turns_of}
+use Rattle.task_seed.specs.Taken.{turns_of}
 use Rattle.exchange.specs.Chunks.{IsGiven}
 use Rattle.workers.specs.declared.writing.Portion.{Portion}
 

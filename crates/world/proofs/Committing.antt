@@ -20,10 +20,9 @@ use Rattle.virtual_time.specs.Worlds as happening
 use Rattle.virtual_time.specs.Worlds.{IsToCommit, Part, Past, World, commit, cut}
 use Rattle.task_seed.specs.Machines.{machine}
 use Rattle.task_seed.specs.Turning.{System}
-use Rattle.rollback.specs.Dropped.{turn_of}
+use Rattle.task_seed.specs.Taken.{turn_of, turns_of}
 use Rattle.rollback.specs.Held.{Held}
-use Rattle.rollback.specs.Kept.{onto}
-use Rattle.turn_lists.specs.Turns.{turns_of}
+use Rattle.raw_events.specs.Onto.{onto}
 use Rattle.world.specs.Dropping.{IsOrderly, cut_at, cut_between, done_at, dropped_at}
 use Rattle.world.specs.MachineLaws.{Laws}
 use Rattle.world.specs.Simulation.{IsComponent, IsSimulation, Simulation, part_of, record_or_start, world_of}

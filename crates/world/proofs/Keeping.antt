@@ -16,7 +16,7 @@ use Rattle.antimessage.specs.Order.{IsInOrder}
 use Rattle.virtual_time.specs.Worlds.{Part, World}
 use Rattle.task_seed.specs.Machines.{machine}
 use Rattle.task_seed.specs.Turning.{System}
-use Rattle.rollback.specs.Dropped.{turn_of}
+use Rattle.task_seed.specs.Taken.{turn_of}
 use Rattle.rollback.specs.Flight.{in_flight}
 use Rattle.rollback.specs.Held.{Held}
 use Rattle.world.specs.Keeping.{Keeps}

@@ -11,7 +11,7 @@ use Rattle.virtual_time.specs.Entries.{Item}
 use Rattle.virtual_time.specs.Machine.{Machine}
 use Rattle.virtual_time.specs.Records.{Record}
 use Rattle.virtual_time.specs.Worlds.{Part, put_back, record_of, with_record}
-use Rattle.rollback.specs.Dropped.{turn_of}
+use Rattle.task_seed.specs.Taken.{turn_of}
 use Rattle.rollback.specs.Flight.{in_flight}
 use Rattle.rollback.specs.Held.{Held}
 use Rattle.world.specs.Simulation.{Simulation, record_or_start, world_of}

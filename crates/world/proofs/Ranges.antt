@@ -11,10 +11,9 @@ use Rattle.virtual_time.specs.Machine.{Machine}
 use Rattle.virtual_time.specs.Records.{turns_among}
 use Rattle.virtual_time.specs.Reference.{AllBelow, Falls, IsAmong, Turn, outcome_at}
 use Rattle.event_keys.specs.declared.outcome.Turned.{Turned}
-use Rattle.rollback.specs.Dropped.{turn_of}
+use Rattle.task_seed.specs.Taken.{turn_of, turns_of}
 use Rattle.rollback.specs.Held.{Held}
-use Rattle.rollback.specs.Kept.{onto}
-use Rattle.turn_lists.specs.Turns.{turns_of}
+use Rattle.raw_events.specs.Onto.{onto}
 use Rattle.world.proofs.Putting.{get_other, get_same}
 use Rattle.world.specs.Dropping.{cut_at, cut_between, done_at, dropped_at}
 

@@ -20,7 +20,7 @@ use Rattle.task_seed.specs.declared.turns.Turn.{Turn}
 use Rattle.task_seed.specs.Machines.{machine}
 use Rattle.task_seed.specs.Setups.{plan_of}
 use Rattle.task_seed.specs.Turning.{System}
-use Rattle.rollback.specs.Dropped.{turn_of}
+use Rattle.task_seed.specs.Taken.{turn_of}
 use Rattle.rollback.specs.Flight.{in_flight}
 use Rattle.rollback.specs.Held.{Held, machine_of, start_record}
 

@@ -9,8 +9,8 @@ use Rattle.antimessage.specs.Counts.{plus}
 use Rattle.virtual_time.specs.Replies as theory
 use Rattle.virtual_time.specs.Worlds as happening
 use Rattle.rollback.specs.Flight.{item_of}
-use Rattle.world.specs.declared.step.Step.{Step}
-use Rattle.world.specs.declared.step.Step.TheVariants.{Process, Deliver, Meet, RollBack, Commit}
+use Rattle.event_keys.specs.declared.step.Step.{Step}
+use Rattle.event_keys.specs.declared.step.Step.TheVariants.{Process, Deliver, Meet, RollBack, Commit}
 use Rattle.world.specs.declared.step.Reply.{Reply}
 use Rattle.world.specs.declared.step.Reply.TheVariants.{Processed, Delivered, Met, RolledBack, Committed}
 use Rattle.world.specs.declared.step.StepRefused.{StepRefused}

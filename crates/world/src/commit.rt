@@ -2,10 +2,10 @@
 ghost use Rattle.std.specs.Prelude.{◌≡◌, ◌<◌, ◌≤◌, ◌^◌, ℕ, [], Some, length, nat_lt, option_map, slice_get};
 ghost use Rattle.event_keys.specs.Ranks.{rank_of_bound};
 ghost use Rattle.task_seed.specs.declared.setup.Setup.{Setup as SetupValue};
+ghost use Rattle.task_seed.specs.Taken.{turns_of};
 ghost use Rattle.virtual_time.specs.Reference.{Falls, outcome_at};
 ghost use Rattle.rollback.specs.Held.{Held, machine_of};
-ghost use Rattle.rollback.specs.Kept.{onto};
-ghost use Rattle.turn_lists.specs.Turns.{turns_of};
+ghost use Rattle.raw_events.specs.Onto.{onto};
 ghost use Rattle.world.specs.Dropping.{IsOrderly, cut_between, dropped_at};
 
 use event_keys::laws::bound_rank_law;

@@ -11,6 +11,7 @@ mod same;
 pub mod step;
 pub mod world;
 
-pub use step::{Reply, Step, StepRefused};
+pub use event_keys::Step;
+pub use step::{Reply, StepRefused};
 pub use virtual_time::rolling_back::inverse_law;
 pub use world::World;

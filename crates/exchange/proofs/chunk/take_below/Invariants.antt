@@ -1,6 +1,6 @@
 use Rattle.std.proofs.Common.{◌≡◌, ◌+◌, [], length}
 use Rattle.event_keys.specs.Ranks.{rank_of_bound}
-use Rattle.rollback.specs.Kept.{onto}
+use Rattle.raw_events.specs.Onto.{onto}
 use Rattle.exchange.specs.Chunks.{first_below, first_from}
 use Rattle.exchange.proofs.chunk.take_below.Given as goal
 

@@ -9,7 +9,7 @@ use Rattle.plans.specs.Steps.{Joint, applied}
 use Rattle.virtual_time.specs.Reference.{IsReference, after}
 use Rattle.task_seed.specs.Setups.{system}
 use Rattle.task_seed.specs.Machines.{machine}
-use Rattle.reference.specs.Views.{turns_of}
+use Rattle.task_seed.specs.Taken.{turns_of}
 use Rattle.reference.proofs.Scheduled.{is_schedule}
 use Rattle.reference.proofs.laws.turns_are_schedule.Goals as goal
 

@@ -2,9 +2,9 @@ use Rattle.std.proofs.Common.{◌≡◌, ◌-◌, length}
 use Rattle.std.specs.BinaryHeap.{heap_items}
 use Rattle.task_seed.specs.Setups.{system}
 use Rattle.task_seed.specs.Machines.{machine, end_rank}
+use Rattle.task_seed.specs.Taken.{turns_of}
 use Rattle.virtual_time.specs.Reference.{reference_below}
 use Rattle.reference.specs.Standing.{taken_at, Stands}
-use Rattle.reference.specs.Views.{turns_of}
 use Rattle.reference.proofs.scheduling.take_all.Given as goal
 
 abbrev pub invariant-loop-turns : goal.invariant-loop-turns

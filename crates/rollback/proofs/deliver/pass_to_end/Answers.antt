@@ -1,7 +1,7 @@
 use Rattle.std.proofs.Common.{[], ap, ◌∙◌}
 use Rattle.raw_events.specs.Around.{Around}
+use Rattle.raw_events.specs.Onto.{reversed_onto}
 use Rattle.message_balance.specs.declared.done.Done.{Done}
-use Rattle.rollback.specs.Kept.{reversed_onto}
 use Rattle.rollback.proofs.deliver.pass_to_end.Goals as goal
 
 pub returns : goal.returns

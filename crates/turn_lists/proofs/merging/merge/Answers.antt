@@ -1,8 +1,8 @@
 use Rattle.std.proofs.Common.{◌≡◌, [], sym, ap, subst, subst₂, ◌∙◌}
 use Rattle.raw_events.specs.Around.{Around}
+use Rattle.raw_events.specs.Onto.{onto}
 use Rattle.event_keys.specs.declared.outcome.Turned.{Turned}
-use Rattle.rollback.specs.Kept.{onto}
-use Rattle.turn_lists.specs.Turns.{turns_of}
+use Rattle.task_seed.specs.Taken.{turns_of}
 use Rattle.turn_lists.proofs.TakenIn.{IsMerging, merging_starts, merging_next, merging_stops}
 use Rattle.turn_lists.proofs.merging.merge.Goals as goal
 

@@ -1,5 +1,5 @@
 use Rattle.std.proofs.Common.{length}
-use Rattle.turn_lists.specs.Turns.{turns_of}
+use Rattle.task_seed.specs.Taken.{turns_of}
 use Rattle.turn_lists.proofs.TakenIn.{IsMerging}
 use Rattle.turn_lists.proofs.merging.merge.Given as goal
 

@@ -1,7 +1,7 @@
 use Rattle.std.proofs.Common.{[], ap, ◌∙◌}
 use Rattle.raw_events.specs.Around.{Around}
+use Rattle.raw_events.specs.Onto.{reversed_onto}
 use Rattle.event_keys.specs.declared.outcome.Turned.{Turned}
-use Rattle.rollback.specs.Kept.{reversed_onto}
 use Rattle.turn_lists.proofs.merging.pass_to_end.Goals as goal
 
 pub returns : goal.returns

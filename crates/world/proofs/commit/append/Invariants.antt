@@ -1,5 +1,5 @@
 use Rattle.std.proofs.Common.{◌≡◌, ◌+◌, length}
-use Rattle.rollback.specs.Kept.{onto}
+use Rattle.raw_events.specs.Onto.{onto}
 use Rattle.world.proofs.commit.append.Given as goal
 
 abbrev pub invariant-loop-count : goal.invariant-loop-count

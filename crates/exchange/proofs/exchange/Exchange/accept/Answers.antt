@@ -13,12 +13,13 @@ use Rattle.virtual_time.specs.Exchange.Meetings.{Met}
 use Rattle.plans.specs.Plans.{composition}
 use Rattle.task_seed.specs.Setups.{system, plan_of}
 use Rattle.task_seed.specs.Machines.{machine}
+use Rattle.task_seed.specs.Taken.{turns_of}
 use Rattle.rollback.specs.Held.{Held, machine_of}
-use Rattle.rollback.specs.Kept.{onto}
+use Rattle.raw_events.specs.Onto.{onto}
 use Rattle.exchange.specs.declared.stub.Stub.{Stub}
 use Rattle.exchange.specs.Holding.{Holding, IsHolding, lease_of, part_of}
 use Rattle.exchange.specs.Moving.{IsPassedOn}
-use Rattle.exchange.specs.Shared.{Shared, IsShared, stub_or_start, exchange_of, turns_of}
+use Rattle.exchange.specs.Shared.{Shared, IsShared, stub_or_start, exchange_of}
 use Rattle.exchange.proofs.Accepting.{accepted}
 use Rattle.exchange.proofs.Receiving.{To}
 use Rattle.exchange.proofs.Chunking.{onto_back}

@@ -6,9 +6,10 @@ use Rattle.virtual_time.specs.Exchange.Meetings.{IsChunk}
 use Rattle.plans.specs.Plans.{composition}
 use Rattle.task_seed.specs.Setups.{system, plan_of}
 use Rattle.task_seed.specs.Machines.{machine}
+use Rattle.task_seed.specs.Taken.{turns_of}
 use Rattle.rollback.specs.Held.{machine_of}
 use Rattle.gvt.specs.Least.{IsLeast}
-use Rattle.exchange.specs.Shared.{Shared, IsShared, exchange_of, turns_of}
+use Rattle.exchange.specs.Shared.{Shared, IsShared, exchange_of}
 use Rattle.exchange.specs.Chunks.{base_of, first_below, first_from, IsGiven}
 use Rattle.exchange.proofs.Chunking.{after, chunk, kept, few, reversed_back}
 use Rattle.exchange.proofs.exchange.Exchange.give.Goals as goal

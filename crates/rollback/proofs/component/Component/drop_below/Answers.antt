@@ -2,14 +2,16 @@ use Rattle.std.proofs.Common.{◌≡◌, ◌<◌, ◌+◌, ◌++◌, [], length,
 use Rattle.std.specs.Arc.{arc_value}
 use Rattle.event_keys.specs.Ranks.{rank_of_bound}
 use Rattle.raw_events.specs.Around.{Around}
+use Rattle.raw_events.specs.Onto.{onto}
 use Rattle.undo_records.specs.States.{without_first}
 use Rattle.virtual_time.specs.Entries.{below, number}
 use Rattle.virtual_time.specs.Records.{cut_of, turns_among}
 use Rattle.task_seed.specs.Setups.{system}
 use Rattle.task_seed.specs.Machines.{machine}
-use Rattle.rollback.specs.Dropped.{turn_of, dones_below, dones_from, number_after, turns_in}
+use Rattle.task_seed.specs.Taken.{turn_of}
+use Rattle.rollback.specs.Dropped.{dones_below, dones_from, number_after, turns_in}
 use Rattle.rollback.specs.Held.{Held, machine_of}
-use Rattle.rollback.specs.Kept.{entries_of, record_of, onto}
+use Rattle.rollback.specs.Kept.{entries_of, record_of}
 use Rattle.rollback.proofs.Keeping.{depth_is}
 use Rattle.rollback.proofs.Dropping.{dropped_record, dropped_turns, few_dropped, kept_dropped, length_entries, newest_number, newest_small, ready_below}
 use Rattle.rollback.proofs.Oldest.{onto_reverse}

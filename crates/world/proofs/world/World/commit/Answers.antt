@@ -8,10 +8,10 @@ use Rattle.virtual_time.specs.Replies.{Answers, IsVirtualTime}
 use Rattle.virtual_time.specs.Worlds.{Commit}
 use Rattle.task_seed.specs.declared.setup.Setup.{Setup}
 use Rattle.task_seed.specs.Setups.{plan_of, system}
+use Rattle.task_seed.specs.Taken.{turns_of}
 use Rattle.rollback.specs.Held.{Held, machine_of}
 use Rattle.world.specs.MachineLaws.{Laws}
 use Rattle.world.specs.Simulation.{IsSimulation, Simulation, world_of}
-use Rattle.rollback.specs.Kept.{onto}
 use Rattle.world.specs.Keeping.{Keeps}
 use Rattle.world.proofs.Keeping.{level}
 use Rattle.std.proofs.Common.{ℕ, []}
@@ -19,9 +19,9 @@ use Rattle.std.specs.Prelude.{option_map, slice_get}
 use Rattle.std.proofs.lemmas.Bool.{ltb-false}
 use Rattle.event_keys.specs.declared.outcome.Turned.{Turned}
 use Rattle.raw_events.specs.Around.{Around}
+use Rattle.raw_events.specs.Onto.{onto}
 use Rattle.virtual_time.specs.Reference.{outcome_at}
 use Rattle.virtual_time.specs.Replies as theory
-use Rattle.turn_lists.specs.Turns.{turns_of}
 use Rattle.world.specs.Dropping.{IsOrderly, cut_between, dropped_at}
 use Rattle.world.proofs.Committing.{answers, few, kept, onto_append, orderly}
 use Rattle.world.proofs.world.World.commit.Goals as goal
