@@ -1,4 +1,5 @@
 pub mod Drawing
+pub mod EitherKind
 pub mod Judged
 pub mod KnownWords
 pub mod Lines

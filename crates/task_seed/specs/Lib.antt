@@ -1,3 +1,5 @@
+pub mod Any
+pub mod AnyLaws
 pub mod Drawn
 pub mod DrawnLaws
 pub mod Faults

@@ -2,9 +2,11 @@
 ghost use Rattle.std.specs.Prelude.{◌≡◌, ℕ, true, length};
 ghost use Rattle.virtual_time.specs.Machine.{Lawful, HasCount};
 ghost use Rattle.plans.specs.Plans.{composition};
+ghost use Rattle.task_seed.specs.AnyLaws.{same_any};
 ghost use Rattle.task_seed.specs.Machines.{machine};
 ghost use Rattle.task_seed.specs.Setups.{system, plan_of, source_of, horizon_of};
 
+use crate::any_turns::AnyTurns;
 use crate::setup::Setup;
 use crate::turns::Turns;
 use plans::Plan;
@@ -24,4 +26,9 @@ pub fn equal_setup_law<T: Turns>(a: &Setup<T>, b: &Setup<T>)
     ensures composition { ⟦<Setup<T> as PartialEq>⟧.eq a.now b.now ≡ true → (system T.turn_of a.now).composition ≡ (system T.turn_of b.now).composition }
     ensures turns { ⟦<Setup<T> as PartialEq>⟧.eq a.now b.now ≡ true → (i n : ℕ) → (system T.turn_of a.now).turn i n ≡ (system T.turn_of b.now).turn i n }
     ensures horizon { ⟦<Setup<T> as PartialEq>⟧.eq a.now b.now ≡ true → (system T.turn_of a.now).horizon ≡ (system T.turn_of b.now).horizon }
+{}
+
+/// Turns of a seed or of a table are equal exactly where both are of one kind and those inside are equal.
+pub fn equal_any_law(a: &AnyTurns, b: &AnyTurns)
+    ensures { ⟦<AnyTurns as PartialEq>⟧.eq a.now b.now ≡ same_any a.now b.now }
 {}

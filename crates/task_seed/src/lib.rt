@@ -1,6 +1,7 @@
 //! The turns of the components of a composition, and their keys.
 #![tactic(auto)]
 
+pub mod any_turns;
 pub mod laws;
 pub mod seed_turns;
 pub mod setup;
@@ -8,6 +9,7 @@ pub mod table;
 pub mod table_turns;
 pub mod turns;
 
+pub use any_turns::AnyTurns;
 pub use seed_turns::{SeedTurns, SeedTurnsError};
 pub use setup::{Setup, SetupError};
 pub use table::{ReadTableError, Row, read_table};
