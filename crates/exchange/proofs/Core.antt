@@ -10,8 +10,8 @@ use Rattle.virtual_time.specs.Worlds.{Commit, Reaches, Step, World}
 use Rattle.virtual_time.specs.Exchange.Stubs.{Exchange, IsSound, Stub}
 use Rattle.virtual_time.specs.Exchange.Leases.{Does, IsLease, Lease, Matches, alone, lease_of}
 use Rattle.virtual_time.specs.Exchange.Meetings.{IsChunk, IsCommit, Met}
-use Rattle.virtual_time.specs.Exchange.Wholes.{IsWhole, put_lease}
-use Rattle.exchange.specs.Core.{AreMeetings, Leads, Moves, StaysKnown}
+use Rattle.virtual_time.specs.Exchange.Wholes.{IsWholeWorld, put_lease}
+use Rattle.exchange.specs.Core.{AreMeetings, SimulatesSteps, Moves, StaysKnown}
 
 module _ {S A : Type 0} (m : Machine S A) (law : Lawful m) where
   -- what the theory says of each call
@@ -19,18 +19,18 @@ module _ {S A : Type 0} (m : Machine S A) (law : Lawful m) where
   WorldLaw = (steps : List (Step A)) (w v : World S A) → Lawful m → IsWorld m w → Reaches m w steps v → IsWorld m v
 
   abbrev pub MeetLaw : Type 0
-  MeetLaw = (i : ℕ) (e e' : Exchange A) (ls : ℕ → Lease S A) (l' : Lease S A) (w : World S A) → Lawful m → ((j : ℕ) → IsLease m j (ls j)) → IsWhole m e ls w → (met : Met m i e (ls i) e' l') → (v : World S A) × Reaches m w (meets_of met.gone) v × IsWhole m e' (put_lease i l' ls) v
+  MeetLaw = (i : ℕ) (e e' : Exchange A) (ls : ℕ → Lease S A) (l' : Lease S A) (w : World S A) → Lawful m → ((j : ℕ) → IsLease m j (ls j)) → IsWholeWorld m e ls w → (met : Met m i e (ls i) e' l') → (v : World S A) × Reaches m w (meets_of met.gone) v × IsWholeWorld m e' (put_lease i l' ls) v
 
   abbrev pub MetLaw : Type 0
   MetLaw = (count i : ℕ) (e e' : Exchange A) (l l' : Lease S A) → Lawful m → IsSound m count e → IsLease m i l → Matches m i (e.stub i) l → Met m i e l e' l' → IsSound m count e' × IsLease m i l'
 
   abbrev pub CommitLaw : Type 0
-  CommitLaw = (count : ℕ) (e e' : Exchange A) (ls : ℕ → Lease S A) (w : World S A) → Lawful m → IsSound m count e → ((j : ℕ) → IsLease m j (ls j)) → ((j : ℕ) → Matches m j (e.stub j) (ls j)) → IsWhole m e ls w → IsWorld m w → IsCommit m e e' → (v : World S A) × Reaches m w (Commit e'.bound ∷ []) v × IsWhole m e' ls v
+  CommitLaw = (count : ℕ) (e e' : Exchange A) (ls : ℕ → Lease S A) (w : World S A) → Lawful m → IsSound m count e → ((j : ℕ) → IsLease m j (ls j)) → ((j : ℕ) → Matches m j (e.stub j) (ls j)) → IsWholeWorld m e ls w → IsWorld m w → IsCommit m e e' → (v : World S A) × Reaches m w (Commit e'.bound ∷ []) v × IsWholeWorld m e' ls v
 
   abbrev pub MovesLaw : Type 0
   MovesLaw =
-      (count i : ℕ) (e : Exchange A) (ls : ℕ → Lease S A) (steps : List (Step A)) (u w : World S A) → Lawful m → IsSound m count e → IsLease m i (ls i) → Matches m i (e.stub i) (ls i) → IsWhole m e ls w → IsWorld m w
-      → Does m i (alone m i (ls i)) steps u → (v : World S A) × Reaches m w steps v × IsWhole m e (put_lease i (lease_of i (ls i).floor u) ls) v
+      (count i : ℕ) (e : Exchange A) (ls : ℕ → Lease S A) (steps : List (Step A)) (u w : World S A) → Lawful m → IsSound m count e → IsLease m i (ls i) → Matches m i (e.stub i) (ls i) → IsWholeWorld m e ls w → IsWorld m w
+      → Does m i (alone m i (ls i)) steps u → (v : World S A) × Reaches m w steps v × IsWholeWorld m e (put_lease i (lease_of i (ls i).floor u) ls) v
 
   abbrev pub OwnLaw : Type 0
   OwnLaw =
@@ -46,7 +46,7 @@ module _ {S A : Type 0} (m : Machine S A) (law : Lawful m) where
       go (inr ne) = subst (λ (b : Bool). P j (cond b l (ls j))) (sym (ne_eqb j i ne)) (other j ne)
 
   -- a meeting
-  pub meet_leads : WorldLaw → MeetLaw → MetLaw → (count i : ℕ) (e e' : Exchange A) (l l' : Lease S A) → IsSound m count e → Met m i e l e' l' → (ls : ℕ → Lease S A) → ls i ≡ l → Leads m AreMeetings e ls e' (put_lease i l' ls)
+  pub meet_leads : WorldLaw → MeetLaw → MetLaw → (count i : ℕ) (e e' : Exchange A) (l l' : Lease S A) → IsSound m count e → Met m i e l e' l' → (ls : ℕ → Lease S A) → ls i ≡ l → SimulatesSteps m AreMeetings e ls e' (put_lease i l' ls)
   meet_leads world_law meet_law met_law count i e e' l l' sound met_there ls here w stand =
       let met : Met m i e (ls i) e' l' = subst (λ (x : Lease S A). Met m i e x e' l') (sym here) met_there in
       let r = meet_law i e e' ls l' w law stand.proper stand.whole met in
@@ -65,7 +65,7 @@ module _ {S A : Type 0} (m : Machine S A) (law : Lawful m) where
       )
 
   -- a commit
-  pub commit_leads : WorldLaw → CommitLaw → (count : ℕ) (e e' : Exchange A) → IsSound m count e → IsCommit m e e' → (ls : ℕ → Lease S A) → Leads m (λ ss. ss ≡ Commit e'.bound ∷ []) e ls e' ls
+  pub commit_leads : WorldLaw → CommitLaw → (count : ℕ) (e e' : Exchange A) → IsSound m count e → IsCommit m e e' → (ls : ℕ → Lease S A) → SimulatesSteps m (λ ss. ss ≡ Commit e'.bound ∷ []) e ls e' ls
   commit_leads world_law commit_law count e e' sound commit ls w stand =
       let r = commit_law count e e' ls w law sound stand.proper stand.match stand.whole stand.world commit in
       let same_stub : e'.stub ≡ e.stub = ap (λ (x : Exchange A). x.stub) commit.rest in (
@@ -82,7 +82,7 @@ module _ {S A : Type 0} (m : Machine S A) (law : Lawful m) where
       )
 
   -- a chunk
-  pub chunk_leads : (count b : ℕ) (e e' : Exchange A) (turns : List (Turn A)) → IsChunk m count e b e' turns → (ls : ℕ → Lease S A) → Leads m (λ ss. ss ≡ []) e ls e' ls
+  pub chunk_leads : (count b : ℕ) (e e' : Exchange A) (turns : List (Turn A)) → IsChunk m count e b e' turns → (ls : ℕ → Lease S A) → SimulatesSteps m (λ ss. ss ≡ []) e ls e' ls
   chunk_leads count b e e' turns chunk ls w stand =
       let h = stand.whole in
       let same_stub : e'.stub ≡ e.stub = ap (λ (x : Exchange A). x.stub) chunk.rest in (
@@ -93,7 +93,7 @@ module _ {S A : Type 0} (m : Machine S A) (law : Lawful m) where
         record {
           proper = stand.proper;
           match = λ j. subst (λ (st : ℕ → Stub A). Matches m j (st j) (ls j)) (sym same_stub) (stand.match j);
-          whole = subst (λ (x : Exchange A). IsWhole m x ls w) (sym chunk.rest)
+          whole = subst (λ (x : Exchange A). IsWholeWorld m x ls w) (sym chunk.rest)
               (record { bound = h.bound; committed = h.committed; base = h.base; first = h.first; done = h.done; pending = h.pending; owed = h.owed; plus = h.plus; minus = h.minus });
           world = stand.world;
         },
@@ -135,7 +135,7 @@ module _ {S A : Type 0} (m : Machine S A) (law : Lawful m) where
             record {
               proper = each_lease (λ j x. IsLease m j x) i l' ls (subst (λ (x : Lease S A). IsLease m i x) is new.0) (λ j ne. stand.proper j);
               match = each_lease (λ j x. Matches m j (e.stub j) x) i l' ls (subst (λ (x : Lease S A). Matches m i (e.stub i) x) is new.1) (λ j ne. stand.match j);
-              whole = subst (λ (x : Lease S A). IsWhole m e (put_lease i x ls) r.0) is r.2;
+              whole = subst (λ (x : Lease S A). IsWholeWorld m e (put_lease i x ls) r.0) is r.2;
               world = world_law steps w r.0 law stand.world r.1;
             },
           )

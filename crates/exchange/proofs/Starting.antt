@@ -14,7 +14,7 @@ use Rattle.virtual_time.specs.Machine.{Machine}
 use Rattle.virtual_time.specs.Rules.{IsWorld}
 use Rattle.virtual_time.specs.Worlds.{start_world}
 use Rattle.virtual_time.specs.Exchange.Leases.{IsLease, Matches, start_lease}
-use Rattle.virtual_time.specs.Exchange.Wholes.{IsWhole}
+use Rattle.virtual_time.specs.Exchange.Wholes.{IsWholeWorld}
 use Rattle.terms.specs.Datum.{Datum}
 use Rattle.terms.specs.Named.{Named}
 use Rattle.plans.specs.Plans.{composition}
@@ -144,7 +144,7 @@ module _ {T : Type 0} (turn_of : T → ℕ → ℕ → Option Turn) (setup : Set
   leases_are hs e =
       λ v j. lease_at j (slice_get hs j) (made_at (start_holding turn_of setup) 0 (length (composition (plan_of setup))) j (slice_get hs j) (ap (λ l. slice_get l j) (sym e))) v
 
-  pub stand_first : IsWorld m (start_world m) → ((i : ℕ) → IsLease m i (start_lease m i) × Matches m i (start_seen m i) (start_lease m i)) → IsWhole m (start_exchange m) (start_lease m) (start_world m)
+  pub stand_first : IsWorld m (start_world m) → ((i : ℕ) → IsLease m i (start_lease m i) × Matches m i (start_seen m i) (start_lease m i)) → IsWholeWorld m (start_exchange m) (start_lease m) (start_world m)
       → (e : Shared (Setup T)) → e ≡ start_shared turn_of setup → (hs : List (Holding (Setup T))) → hs ≡ map (start_holding turn_of setup) (range_with_len 0 (length (composition (plan_of setup))))
       → StandFor m (exchange_of m e) (leases_of m hs) (start_world m)
   stand_first world each whole e e_is hs hs_is =

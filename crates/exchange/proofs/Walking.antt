@@ -7,27 +7,27 @@ use Rattle.plans.specs.Plans.{composition}
 use Rattle.task_seed.specs.Setups.{plan_of}
 use Rattle.task_seed.specs.declared.setup.Setup.{Setup}
 use Rattle.task_seed.specs.declared.turns.Walk.{Walk}
-use Rattle.exchange.specs.Walks.{Stands, AreWalks}
+use Rattle.exchange.specs.Walks.{StandsBeforeTurn, AreWalks}
 use Rattle.exchange.proofs.Passing.{get_set, slice_set-length}
 
 module _ {T : Type 0} (stands : T → Walk → ℕ → ℕ → Type 0) (setup : Setup T) (walks : List (Option Walk)) (i n : ℕ) (is : n ≡ i) (short : n < length walks) (all : AreWalks stands setup walks) where
   -- the walk at hand
-  pub walk_here : (d : Option Walk) → IfSome (slice_index_or walks n d) (Stands stands setup i)
+  pub walk_here : (d : Option Walk) → IfSome (slice_index_or walks n d) (StandsBeforeTurn stands setup i)
   walk_here d = go (slice_index_or walks n d) (slice_get-get_or walks n d short)
     where
-      go : (o : Option Walk) → slice_get walks n ≡ Some o → IfSome o (Stands stands setup i)
+      go : (o : Option Walk) → slice_get walks n ≡ Some o → IfSome o (StandsBeforeTurn stands setup i)
       go None e = tt
-      go (Some walk) e = subst (λ k. Stands stands setup k walk) is (all.stand n walk e)
+      go (Some walk) e = subst (λ k. StandsBeforeTurn stands setup k walk) is (all.stand n walk e)
 
   -- the walks after it has read on
-  pub walks_more : (new : Option Walk) → IfSome new (Stands stands setup i) → AreWalks stands setup (slice_set walks n new)
+  pub walks_more : (new : Option Walk) → IfSome new (StandsBeforeTurn stands setup i) → AreWalks stands setup (slice_set walks n new)
   walks_more new here = record { many = slice_set-length walks n new ∙ all.many; stand = λ j walk e. go j walk e (cases_eq j n) }
     where
-      go : (j : ℕ) (walk : Walk) → slice_get (slice_set walks n new) j ≡ Some (Some walk) → (j ≡ n) ⊎ (j ≡ n → ⊥) → Stands stands setup j walk
+      go : (j : ℕ) (walk : Walk) → slice_get (slice_set walks n new) j ≡ Some (Some walk) → (j ≡ n) ⊎ (j ≡ n → ⊥) → StandsBeforeTurn stands setup j walk
       go j walk e (inl at) =
           let one : Some new ≡ Some (Some walk) = sym (get_set walks n new j short ∙ rw (eq-eqb j n at) refl) ∙ e in
           let same : new ≡ Some walk = cc in
-          subst (λ k. Stands stands setup k walk) (sym (at ∙ is)) (subst (λ (o : Option Walk). IfSome o (Stands stands setup i)) same here)
+          subst (λ k. StandsBeforeTurn stands setup k walk) (sym (at ∙ is)) (subst (λ (o : Option Walk). IfSome o (StandsBeforeTurn stands setup i)) same here)
       go j walk e (inr ne) = all.stand j walk (sym (get_set walks n new j short ∙ rw (ne_eqb j n ne) refl) ∙ e)
 
 -- one more component whose turns nothing is read off

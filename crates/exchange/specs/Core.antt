@@ -11,7 +11,7 @@ use Rattle.virtual_time.specs.Inverses.{Pair, meets_of}
 use Rattle.virtual_time.specs.Worlds.{DeliverAntimessage, DeliverMessage, Reaches, Step, World}
 use Rattle.virtual_time.specs.Exchange.Stubs.{Exchange, IsSound}
 use Rattle.virtual_time.specs.Exchange.Leases.{IsLease, Lease, Matches}
-use Rattle.virtual_time.specs.Exchange.Wholes.{IsWhole, put_lease}
+use Rattle.virtual_time.specs.Exchange.Wholes.{IsWholeWorld, put_lease}
 use Rattle.rollback.specs.Flight.{item_of}
 
 module _ {S A : Type 0} (m : Machine S A) where
@@ -19,16 +19,16 @@ module _ {S A : Type 0} (m : Machine S A) where
   pub record StandFor (e : Exchange A) (leases : ℕ → Lease S A) (w : World S A) : Type 0 where
     pub proper : (j : ℕ) → IsLease m j (leases j)
     pub match : (j : ℕ) → Matches m j (e.stub j) (leases j)
-    pub whole : IsWhole m e leases w
+    pub whole : IsWholeWorld m e leases w
     pub world : IsWorld m w
 
   -- whatever world they stand for before, steps of this kind lead it to one that they stand for after
-  abbrev pub Leads : (List (Step A) → Type 0) → Exchange A → (ℕ → Lease S A) → Exchange A → (ℕ → Lease S A) → Type 0
-  Leads kind e leases new_e new_leases = (w : World S A) → StandFor e leases w → (steps : List (Step A)) × kind steps × (v : World S A) × Reaches m w steps v × StandFor new_e new_leases v
+  abbrev pub SimulatesSteps : (List (Step A) → Type 0) → Exchange A → (ℕ → Lease S A) → Exchange A → (ℕ → Lease S A) → Type 0
+  SimulatesSteps kind e leases new_e new_leases = (w : World S A) → StandFor e leases w → (steps : List (Step A)) × kind steps × (v : World S A) × Reaches m w steps v × StandFor new_e new_leases v
 
   -- whatever sound exchange and other leases there are, component i does just these steps where its lease becomes another
   abbrev pub Moves : ℕ → List (Step A) → Lease S A → Lease S A → Type 0
-  Moves i steps lease new_lease = (count : ℕ) (e : Exchange A) (leases : ℕ → Lease S A) → IsSound m count e → leases i ≡ lease → Leads (λ ss. ss ≡ steps) e leases e (put_lease i new_lease leases)
+  Moves i steps lease new_lease = (count : ℕ) (e : Exchange A) (leases : ℕ → Lease S A) → IsSound m count e → leases i ≡ lease → SimulatesSteps (λ ss. ss ≡ steps) e leases e (put_lease i new_lease leases)
 
   -- what matched the one lease of component i matches the other
   abbrev pub StaysKnown : ℕ → Lease S A → Lease S A → Type 0

@@ -8,10 +8,10 @@ use Rattle.task_seed.specs.Setups.{plan_of, source_of}
 -- of a setup whose walks stand where stands says
 module _ {T : Type 0} (stands : T → Walk → ℕ → ℕ → Type 0) (setup : Setup T) where
   -- the walk stands before the turn of component i that has its number
-  abbrev pub Stands : ℕ → Walk → Type 0
-  Stands i walk = stands (source_of setup) walk i walk.number
+  abbrev pub StandsBeforeTurn : ℕ → Walk → Type 0
+  StandsBeforeTurn i walk = stands (source_of setup) walk i walk.number
 
   -- a place for each component, and each walk is one of its own component
   pub record AreWalks (walks : List (Option Walk)) : Type 0 where
     pub many : length walks ≡ length (composition (plan_of setup))
-    pub stand : (j : ℕ) (walk : Walk) → slice_get walks j ≡ Some (Some walk) → Stands j walk
+    pub stand : (j : ℕ) (walk : Walk) → slice_get walks j ≡ Some (Some walk) → StandsBeforeTurn j walk

@@ -6,7 +6,7 @@ ghost use Rattle.virtual_time.specs.Exchange.Leases.{Lease as LeaseSeen};
 ghost use Rattle.virtual_time.specs.Exchange.Meetings.{IsChunk};
 ghost use Rattle.terms.specs.Datum.{Datum};
 ghost use Rattle.terms.specs.Named.{Named};
-ghost use Rattle.exchange.specs.Core.{Leads};
+ghost use Rattle.exchange.specs.Core.{SimulatesSteps};
 ghost use Rattle.plans.specs.Plans.{composition};
 ghost use Rattle.task_seed.specs.Setups.{plan_of};
 ghost use Rattle.task_seed.specs.Taken.{turns_of};
@@ -101,7 +101,7 @@ impl<T: Turns> Exchange<T> {
         ensures front { result.turns.before ≡ [] }
         ensures first { result.first ≡ self.old.given }
         ensures rest { self.new ≡ record self.old { held = self.new.held; given = self.new.given } }
-        ensures core { (leases : ℕ → LeaseSeen (List Datum) Named) → Leads (machine_of T.turn_of self.old.setup) (λ steps. steps ≡ []) (exchange_of (machine_of T.turn_of self.old.setup) self.old) leases (exchange_of (machine_of T.turn_of self.old.setup) self.new) leases }
+        ensures core { (leases : ℕ → LeaseSeen (List Datum) Named) → SimulatesSteps (machine_of T.turn_of self.old.setup) (λ steps. steps ≡ []) (exchange_of (machine_of T.turn_of self.old.setup) self.old) leases (exchange_of (machine_of T.turn_of self.old.setup) self.new) leases }
     {
         machine_is_lawful(self.setup());
         self.give()

@@ -16,7 +16,7 @@ ghost use Rattle.task_seed.specs.Machines.{end_rank};
 ghost use Rattle.rollback.specs.Held.{machine_of};
 ghost use Rattle.gvt.specs.Least.{IsLeast};
 ghost use Rattle.exchange.specs.declared.stub.Stub.{Stub as StubValue};
-ghost use Rattle.exchange.specs.Core.{Leads};
+ghost use Rattle.exchange.specs.Core.{SimulatesSteps};
 ghost use Rattle.exchange.specs.Shared.{exchange_of, clear_until, has_mail, is_end, is_ended, passing, IsPassing, IsShared};
 ghost use Rattle.exchange.specs.Walks.{AreWalks};
 ghost use Rattle.std.specs.List.{list_all};
@@ -80,7 +80,7 @@ impl<T: Turns> Exchange<T> {
     /// Every exchange is sound, though every lease may be away: its bound lies between all bases and all floors, and no key in an inbox is below
     /// it; from the bound on, what senders have standing is what receivers have taken or have in their inboxes; below it, both are what the
     /// reference sends; and what was taken in and given are the reference's turns. The call does nothing.
-    pub fn is_sound(&self)
+    pub fn soundness_law(&self)
         ensures sound { IsSound (machine_of T.turn_of self.now.setup) (length (composition (plan_of self.now.setup))) (exchange_of (machine_of T.turn_of self.now.setup) self.now) }
         ensures shared { IsShared (system T.turn_of self.now.setup) self.now }
     {
@@ -128,11 +128,11 @@ impl<T: Turns> Exchange<T> {
         ensures rest { self.new ≡ record self.old { bound = self.new.bound; stubs = self.new.stubs } }
         ensures stubs { (j : ℕ) → slice_get self.new.stubs j ≡ option_map (passing (system T.turn_of self.old.setup) (rank_of_bound self.new.bound) j) (slice_get self.old.stubs j) }
         ensures count { result ≡ length (reference_below (machine_of T.turn_of self.old.setup) (rank_of_bound self.new.bound)) }
-        ensures core { (leases : ℕ → LeaseSeen (List Datum) Named) → Leads (machine_of T.turn_of self.old.setup) (λ steps. steps ≡ Commit (rank_of_bound self.new.bound) ∷ []) (exchange_of (machine_of T.turn_of self.old.setup) self.old) leases (exchange_of (machine_of T.turn_of self.old.setup) self.new) leases }
+        ensures core { (leases : ℕ → LeaseSeen (List Datum) Named) → SimulatesSteps (machine_of T.turn_of self.old.setup) (λ steps. steps ≡ Commit (rank_of_bound self.new.bound) ∷ []) (exchange_of (machine_of T.turn_of self.old.setup) self.old) leases (exchange_of (machine_of T.turn_of self.old.setup) self.new) leases }
     {
         machine_is_lawful(self.setup());
         exchange_is_core::<State, Action>();
-        self.is_sound();
+        self.soundness_law();
         self.raise_bound()
     }
 

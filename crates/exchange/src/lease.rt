@@ -113,7 +113,7 @@ impl<T: Turns> Lease<T> {
 
     /// Every lease is sound: its record is proper and grounded, and no key that is next, waits in its tray or is outgoing lies below its floor.
     /// The call does nothing.
-    pub fn is_sound(&self)
+    pub fn soundness_law(&self)
         ensures lease { IsLease (machine_of T.turn_of self.now.component.setup) self.now.component.number (lease_of self.now) }
         ensures holding { IsHolding (machine_of T.turn_of self.now.component.setup) (length (composition (plan_of self.now.component.setup))) self.now }
     {
@@ -134,9 +134,9 @@ impl<T: Turns> Lease<T> {
         exchange_is_core::<State, Action>();
         exchange_is_sound::<State, Action>();
         lease_law::<State, Action>();
-        self.is_sound();
+        self.soundness_law();
         let ahead = self.process_some(alloc, budget);
-        self.is_sound();
+        self.soundness_law();
         ahead
     }
 
@@ -153,9 +153,9 @@ impl<T: Turns> Lease<T> {
         exchange_is_core::<State, Action>();
         exchange_is_sound::<State, Action>();
         lease_law::<State, Action>();
-        self.is_sound();
+        self.soundness_law();
         let count = self.deliver_all();
-        self.is_sound();
+        self.soundness_law();
         count
     }
 

@@ -8,7 +8,7 @@ ghost use Rattle.virtual_time.specs.Exchange.Meetings.{Met};
 ghost use Rattle.virtual_time.specs.Exchange.Wholes.{put_lease};
 ghost use Rattle.terms.specs.Datum.{Datum};
 ghost use Rattle.terms.specs.Named.{Named};
-ghost use Rattle.exchange.specs.Core.{AreMeetings, Leads};
+ghost use Rattle.exchange.specs.Core.{AreMeetings, SimulatesSteps};
 ghost use Rattle.plans.specs.Plans.{composition};
 ghost use Rattle.task_seed.specs.Setups.{plan_of, system};
 ghost use Rattle.rollback.specs.Held.{machine_of};
@@ -145,7 +145,7 @@ fn floor_of<T: Turns>(component: &Component<T>, tray: &Bag) -> Bound
     ensures { IsFloor (machine_of T.turn_of component.now.setup) component.now.number (rank_of_bound result) (part_of component.now.number component.now.history tray.now) }
 {
     machine_is_lawful(component.setup());
-    component.is_in_order();
+    component.lists_law();
     order_law(tray);
     earlier(component.next(), tray.least())
 }
@@ -194,7 +194,7 @@ impl<T: Turns> Exchange<T> {
         ensures other { IsErrOf result MeetRefused.OtherSetup ↔ (⟦<Setup<T> as PartialEq>⟧.eq self.old.setup lease.old.component.setup ≡ false) }
         ensures bound { IfOk result (λ bound. bound ≡ self.old.bound) }
         ensures met { OnOk result (Met (machine_of T.turn_of self.old.setup) lease.old.component.number (exchange_of (machine_of T.turn_of self.old.setup) self.old) (lease_of lease.old) (exchange_of (machine_of T.turn_of self.old.setup) self.new) (lease_of lease.new)) }
-        ensures core { OnOk result ((leases : ℕ → LeaseSeen (List Datum) Named) → leases lease.old.component.number ≡ lease_of lease.old → Leads (machine_of T.turn_of self.old.setup) AreMeetings (exchange_of (machine_of T.turn_of self.old.setup) self.old) leases (exchange_of (machine_of T.turn_of self.old.setup) self.new) (put_lease lease.old.component.number (lease_of lease.new) leases)) }
+        ensures core { OnOk result ((leases : ℕ → LeaseSeen (List Datum) Named) → leases lease.old.component.number ≡ lease_of lease.old → SimulatesSteps (machine_of T.turn_of self.old.setup) AreMeetings (exchange_of (machine_of T.turn_of self.old.setup) self.old) leases (exchange_of (machine_of T.turn_of self.old.setup) self.new) (put_lease lease.old.component.number (lease_of lease.new) leases)) }
         ensures rest { self.new ≡ record self.old { stubs = self.new.stubs; held = self.new.held } }
         ensures same { OnOk result ((lease.new.component.setup ≡ lease.old.component.setup) × (lease.new.component.number ≡ lease.old.component.number)) }
         ensures kept { OnErr result ((self.new ≡ self.old) × (lease.new ≡ lease.old)) }
@@ -214,7 +214,7 @@ impl<T: Turns> Exchange<T> {
         ensures stranger { IfErr result (λ refused. refused ≡ MeetRefused.Stranger) }
         ensures bound { IfOk result (λ bound. bound ≡ self.old.bound) }
         ensures met { OnOk result (Met (machine_of T.turn_of self.old.setup) lease.old.component.number (exchange_of (machine_of T.turn_of self.old.setup) self.old) (lease_of lease.old) (exchange_of (machine_of T.turn_of self.old.setup) self.new) (lease_of lease.new)) }
-        ensures core { OnOk result ((leases : ℕ → LeaseSeen (List Datum) Named) → leases lease.old.component.number ≡ lease_of lease.old → Leads (machine_of T.turn_of self.old.setup) AreMeetings (exchange_of (machine_of T.turn_of self.old.setup) self.old) leases (exchange_of (machine_of T.turn_of self.old.setup) self.new) (put_lease lease.old.component.number (lease_of lease.new) leases)) }
+        ensures core { OnOk result ((leases : ℕ → LeaseSeen (List Datum) Named) → leases lease.old.component.number ≡ lease_of lease.old → SimulatesSteps (machine_of T.turn_of self.old.setup) AreMeetings (exchange_of (machine_of T.turn_of self.old.setup) self.old) leases (exchange_of (machine_of T.turn_of self.old.setup) self.new) (put_lease lease.old.component.number (lease_of lease.new) leases)) }
         ensures rest { self.new ≡ record self.old { stubs = self.new.stubs; held = self.new.held } }
         ensures same { OnOk result ((lease.new.component.setup ≡ lease.old.component.setup) × (lease.new.component.number ≡ lease.old.component.number)) }
         ensures kept { OnErr result ((self.new ≡ self.old) × (lease.new ≡ lease.old)) }
@@ -222,7 +222,7 @@ impl<T: Turns> Exchange<T> {
         machine_is_lawful(self.setup());
         exchange_is_core::<State, Action>();
         exchange_is_sound::<State, Action>();
-        self.is_sound();
+        self.soundness_law();
         self.judge_own(lease)?;
         Ok(self.accept(lease))
     }

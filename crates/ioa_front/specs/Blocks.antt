@@ -73,10 +73,10 @@ abbrev pub automata_parts : List Part
 automata_parts = next_parts (one basic outside ∷ next_parts further_parts)
 
 -- The first of these parts, up to the second, stand at the front, inside of no pair.
-abbrev pub Leads : {Y : Type 0} → (Y → List Node) → (Y → List Tok) → Sort → List Part → List Part → List Tok → Result Y Stop → Type 0
-Leads n rest z from to ts (Ok y) = (done : List Node) (k : Frames) → depth k ≡ 0
+abbrev pub ReadsParts : {Y : Type 0} → (Y → List Node) → (Y → List Tok) → Sort → List Part → List Part → List Tok → Result Y Stop → Type 0
+ReadsParts n rest z from to ts (Ok y) = (done : List Node) (k : Frames) → depth k ≡ 0
     → go true (at z done from k) ts ≡ go true (at z (done ++ n y) to k) (rest y)
-Leads n rest z from to ts (Err e) = (done : List Node) (k : Frames) → depth k ≡ 0
+ReadsParts n rest z from to ts (Err e) = (done : List Node) (k : Frames) → depth k ≡ 0
     → Stops e (go true (at z done from k) ts)
 
 -- The formals of an automaton and the word that follows them stand at the front.

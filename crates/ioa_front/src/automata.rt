@@ -8,7 +8,7 @@ ghost use Rattle.ioa_front.specs.Machine.{want};
 ghost use Rattle.ioa_trees.specs.Spelling.{automata_nodes, basic_node, key, named, states_node, tasks_node};
 ghost use Rattle.ioa_trees.specs.Views.{view_automaton, view_variable};
 ghost use Rattle.ioa_front.specs.Lists.{entry_item, transition_item};
-ghost use Rattle.ioa_front.specs.Blocks.{BasicThen, Goes, Leads, after_states, automata_parts, component_parts, further_parts};
+ghost use Rattle.ioa_front.specs.Blocks.{BasicThen, Goes, ReadsParts, after_states, automata_parts, component_parts, further_parts};
 ghost use Rattle.ioa_front.specs.Reads.{GivesLow, front_starts};
 
 use crate::blocks::{read_head, read_states, read_tasks};
@@ -24,7 +24,7 @@ fn read_signature<'a, 'b>(
     alloc: Global,
     tokens: &'b [Token<'a>],
 ) -> Result<(Vec<Entry>, Vec<Variable>, &'b [Token<'a>]), Stop>
-    ensures leads { Leads (λ x. map entry_item x.0.items ++ states_node (map view_variable x.1.items)) (λ x. toks_of x.2.now) basic after_signature after_states (toks_of tokens.now) result }
+    ensures leads { ReadsParts (λ x. map entry_item x.0.items ++ states_node (map view_variable x.1.items)) (λ x. toks_of x.2.now) basic after_signature after_states (toks_of tokens.now) result }
     ensures shorter { IfOk result (λ x. length x.2.now ≤ length tokens.now) }
 {
     let (entries, rest) = read_entries(alloc, tokens)?;
@@ -38,7 +38,7 @@ fn read_behaviour<'a, 'b>(
     alloc: Global,
     tokens: &'b [Token<'a>],
 ) -> Result<(Vec<Transition>, Vec<Vec<String>>, &'b [Token<'a>]), Stop>
-    ensures leads { Leads (λ x. key w.Transitions ∷ (map transition_item x.0.items ++ tasks_node (map (λ t. map string_bytes t.items) x.1.items))) (λ x. toks_of x.2.now) basic after_states [] (toks_of tokens.now) result }
+    ensures leads { ReadsParts (λ x. key w.Transitions ∷ (map transition_item x.0.items ++ tasks_node (map (λ t. map string_bytes t.items) x.1.items))) (λ x. toks_of x.2.now) basic after_states [] (toks_of tokens.now) result }
     ensures shorter { IfOk result (λ x. length x.2.now ≤ length tokens.now) }
 {
     let rest = expect(tokens, Word::Transitions)?;

@@ -24,8 +24,8 @@ use Rattle.task_seed.specs.Turning.{System, key_of, key_at, ticks, has_turns}
 use Rattle.task_seed.specs.Machines.{machine, turn_rank, turn_outcome, end_rank}
 use Rattle.reference.specs.Queues.{IsDue, IsQueue, least_first, replaced, least_rank}
 use Rattle.reference.specs.Taking.{plain, joining}
-use Rattle.reference.specs.Standing.{IsAt, Stands, taken_at}
-use Rattle.reference.specs.Views.{IsWhole, Ran}
+use Rattle.reference.specs.Standing.{IsAt, IsBeforeLeast, taken_at}
+use Rattle.reference.specs.Views.{IsComplete, Ran}
 use Rattle.reference.proofs.Queued.{key_there, held, refilled}
 
 pub end_is : end_rank ≡ 2 ^ 144
@@ -107,7 +107,7 @@ turn_at key outcome = record { key = rank key; outcome = outcome }
 -- these turns were taken, and these are the queue and the states
 pub record IsFound (s : System) (turns : List (Turn Named)) (entries : List (Reverse Key)) (states : List States) : Type 0 where
   pub taken : taken_at s entries ≡ turns
-  pub stands : Stands s entries states
+  pub stands : IsBeforeLeast s entries states
 
 -- what holds of all items holds of each
 at_all : {X : Type 0} (P : X → Type 0) (xs : List X) → All P xs → (j : ℕ) (x : X) → slice_get xs j ≡ Some x → P x
@@ -175,7 +175,7 @@ module _ (s : System) (law : Lawful (machine s)) (counted : HasCount (machine s)
 
   module _ (exists : (b : ℕ) → b ≤ end_rank → IsReference (machine s) b (reference_below (machine s) b))
       (one : (b : ℕ) (turns later : List (Turn Named)) → IsReference (machine s) b turns → IsReference (machine s) b later → turns ≡ later) where
-    pub whole : (entries : List (Reverse Key)) → IsWhole (machine s) (taken_at s entries)
+    pub whole : (entries : List (Reverse Key)) → IsComplete (machine s) (taken_at s entries)
     whole entries = record { bound = least_rank entries; within = least_end entries; is = refl }
 
     found : (turns : List (Turn Named)) (entries : List (Reverse Key)) (states : List States) → IsReference (machine s) (least_rank entries) turns → IsAt s (after (machine s) turns) entries states → IsFound s turns entries states
@@ -186,7 +186,7 @@ module _ (s : System) (law : Lawful (machine s)) (counted : HasCount (machine s)
     pub start_found : (entries : List (Reverse Key)) (states : List States) → IsAt s (after (machine s) []) entries states → IsFound s [] entries states
     start_found entries states at = found [] entries states (record { run = tt; below = tt; all = λ j. least_below (after (machine s) []) entries states at j }) at
 
-    module _ (entries : List (Reverse Key)) (states : List States) (stands : Stands s entries states) where
+    module _ (entries : List (Reverse Key)) (states : List States) (stands : IsBeforeLeast s entries states) where
       abbrev pub p : Point (List Datum)
       p = point (machine s) (least_rank entries)
 

@@ -18,8 +18,8 @@ pub record IsAt (s : System) (p : Point (List Datum)) (entries : List (Reverse K
   pub currents : (j : ℕ) (state : States) → slice_get states j ≡ Some state → state ≡ plain (p.state j)
 
 -- the same at the point before the least key of the queue
-abbrev pub Stands : System → List (Reverse Key) → List States → Type 0
-Stands s entries states = IsAt s (point (machine s) (least_rank entries)) entries states
+abbrev pub IsBeforeLeast : System → List (Reverse Key) → List States → Type 0
+IsBeforeLeast s entries states = IsAt s (point (machine s) (least_rank entries)) entries states
 
 -- the turns that were taken where this is the queue, the last one first: all turns below its least key
 abbrev pub taken_at : System → List (Reverse Key) → List (Turn Named)

@@ -20,12 +20,12 @@ actions_of [] = []
 actions_of (turned ∷ turns) = add_action (action_of turned.outcome) (actions_of turns)
 
 -- one more turn is taken, the next one; or all turns that there are were taken
-abbrev pub IsStep : Machine (List Datum) Named → List (Turn Named) → Option Turned → List (Turn Named) → Type 0
-IsStep m old None new = IsReference m m.top old × (new ≡ old)
-IsStep m old (Some turned) new = IsNext m (after m old) (turn_of turned) × (new ≡ turn_of turned ∷ old)
+abbrev pub IsNextTurn : Machine (List Datum) Named → List (Turn Named) → Option Turned → List (Turn Named) → Type 0
+IsNextTurn m old None new = IsReference m m.top old × (new ≡ old)
+IsNextTurn m old (Some turned) new = IsNext m (after m old) (turn_of turned) × (new ≡ turn_of turned ∷ old)
 
 -- these turns are all that have keys below some bound
-pub record IsWhole (m : Machine (List Datum) Named) (taken : List (Turn Named)) : Type 0 where
+pub record IsComplete (m : Machine (List Datum) Named) (taken : List (Turn Named)) : Type 0 where
   pub bound : ℕ
   pub within : bound ≤ m.top
   pub is : taken ≡ reference_below m bound

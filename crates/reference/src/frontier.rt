@@ -9,9 +9,9 @@ ghost use Rattle.plans.specs.Steps.{start_of};
 ghost use Rattle.task_seed.specs.Setups.{system, plan_of};
 ghost use Rattle.task_seed.specs.Machines.{machine};
 ghost use Rattle.reference.specs.Queues.{IsQueue, least_first, replaced};
-ghost use Rattle.reference.specs.Standing.{taken_at, Stands};
+ghost use Rattle.reference.specs.Standing.{taken_at, IsBeforeLeast};
 ghost use Rattle.reference.specs.Taking.{plain};
-ghost use Rattle.reference.specs.Views.{IsStep, IsWhole};
+ghost use Rattle.reference.specs.Views.{IsNextTurn, IsComplete};
 
 use crate::taking::take_turn;
 use event_keys::laws::rank_law;
@@ -94,7 +94,7 @@ fn replace_least(queue: &mut BinaryHeap<Reverse<Key>>, next: Option<Key>)
 impl Frontier {
     /// No turn was taken.
     pub(crate) fn start<T: Turns>(alloc: Global, setup: &Setup<T>) -> Result<Frontier, NoMemory>
-        ensures stands { IfOk result (λ frontier. Stands (system T.turn_of setup.now) (heap_items frontier.queue) frontier.states.items) }
+        ensures stands { IfOk result (λ frontier. IsBeforeLeast (system T.turn_of setup.now) (heap_items frontier.queue) frontier.states.items) }
         ensures none { IfOk result (λ frontier. taken_at (system T.turn_of setup.now) (heap_items frontier.queue) ≡ []) }
     {
         machine_is_lawful(setup);
@@ -111,11 +111,11 @@ impl Frontier {
         alloc: Global,
         setup: &Setup<T>,
     ) -> Result<Option<Turned>, NoMemory>
-        requires { Stands (system T.turn_of setup.now) (heap_items self.old.queue) self.old.states.items }
-        ensures stands { Stands (system T.turn_of setup.now) (heap_items self.new.queue) self.new.states.items }
-        ensures ok { IfOk result (λ turn. IsStep (machine (system T.turn_of setup.now)) (taken_at (system T.turn_of setup.now) (heap_items self.old.queue)) turn (taken_at (system T.turn_of setup.now) (heap_items self.new.queue))) }
+        requires { IsBeforeLeast (system T.turn_of setup.now) (heap_items self.old.queue) self.old.states.items }
+        ensures stands { IsBeforeLeast (system T.turn_of setup.now) (heap_items self.new.queue) self.new.states.items }
+        ensures ok { IfOk result (λ turn. IsNextTurn (machine (system T.turn_of setup.now)) (taken_at (system T.turn_of setup.now) (heap_items self.old.queue)) turn (taken_at (system T.turn_of setup.now) (heap_items self.new.queue))) }
         ensures err { OnErr result (heap_items self.new.queue ≡ heap_items self.old.queue) }
-        ensures whole { IsWhole (machine (system T.turn_of setup.now)) (taken_at (system T.turn_of setup.now) (heap_items self.new.queue)) }
+        ensures whole { IsComplete (machine (system T.turn_of setup.now)) (taken_at (system T.turn_of setup.now) (heap_items self.new.queue)) }
     {
         machine_is_lawful(setup);
         reference_is_one::<State, Action>();

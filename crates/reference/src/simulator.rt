@@ -3,7 +3,7 @@ ghost use Rattle.std.specs.Prelude.{◌≡◌, [], IfOk, OnErr};
 ghost use Rattle.std.specs.Arc.{arc_value};
 ghost use Rattle.task_seed.specs.Setups.{system};
 ghost use Rattle.task_seed.specs.Machines.{machine};
-ghost use Rattle.reference.specs.Views.{IsStep, IsWhole};
+ghost use Rattle.reference.specs.Views.{IsNextTurn, IsComplete};
 
 use crate::frontier::Frontier;
 use event_keys::Turned;
@@ -37,11 +37,11 @@ impl<T: Turns> Model for Reference<T> {
     ghost coded = { Prim.hlevel (codes, shape.the_row.coded, term.the_row.coded, effect.the_row.coded, datum_code) };
 
     ghost use Rattle.task_seed.specs.Setups.{system};
-    ghost use Rattle.reference.specs.Standing.{taken_at, Stands};
+    ghost use Rattle.reference.specs.Standing.{taken_at, IsBeforeLeast};
 
     ghost view = { λ r. record { setup = arc_value r.setup; taken = taken_at (system T.turn_of (arc_value r.setup)) (heap_items r.frontier.queue) } };
 
-    ghost invariant = { λ r. Stands (system T.turn_of (arc_value r.setup)) (heap_items r.frontier.queue) r.frontier.states.items };
+    ghost invariant = { λ r. IsBeforeLeast (system T.turn_of (arc_value r.setup)) (heap_items r.frontier.queue) r.frontier.states.items };
 }
 
 impl<T: Turns> Reference<T> {
@@ -70,10 +70,10 @@ impl<T: Turns> Reference<T> {
     ///
     /// `NoMemory`; then no turn was taken, and the next call takes the same one.
     pub fn step(&mut self, alloc: Global) -> Result<Option<Turned>, NoMemory>
-        ensures ok { IfOk result (λ turn. IsStep (machine (system T.turn_of self.old.setup)) self.old.taken turn self.new.taken) }
+        ensures ok { IfOk result (λ turn. IsNextTurn (machine (system T.turn_of self.old.setup)) self.old.taken turn self.new.taken) }
         ensures err { OnErr result (self.new.taken ≡ self.old.taken) }
         ensures setup { self.new.setup ≡ self.old.setup }
-        ensures whole { IsWhole (machine (system T.turn_of self.old.setup)) self.new.taken }
+        ensures whole { IsComplete (machine (system T.turn_of self.old.setup)) self.new.taken }
     {
         let turn = self.frontier.take_next(alloc, &self.setup)?;
         Ok(turn)

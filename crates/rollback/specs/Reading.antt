@@ -5,11 +5,11 @@ use Rattle.task_seed.specs.declared.turns.Turn.{Turn}
 use Rattle.task_seed.specs.declared.turns.Walk.{Walk}
 use Rattle.task_seed.specs.Setups.{system, source_of}
 use Rattle.task_seed.specs.Turning.{turn_in}
-use Rattle.rollback.specs.declared.ahead.Ahead.{Ahead}
+use Rattle.rollback.specs.declared.turn_reader.TurnReader.{TurnReader}
 
 -- of component i of a setup whose turns are read by turn_of, and off walks that stand where stands says
 module _ {T : Type 0} (turn_of : T → ℕ → ℕ → Option Turn) (stands : T → Walk → ℕ → ℕ → Type 0) (setup : Setup T) (i : ℕ) where
   -- what was read is the turn of its number, and the walk stands before the turn of its own
-  pub record IsRead (ahead : Ahead) : Type 0 where
+  pub record IsRead (ahead : TurnReader) : Type 0 where
     pub read : IfSome ahead.read (λ read. turn_in (system turn_of setup) i read.key.number ≡ Some read.turn)
     pub walk : IfSome ahead.walk (λ walk. stands (source_of setup) walk i walk.number)

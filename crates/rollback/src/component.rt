@@ -20,7 +20,7 @@ ghost use Rattle.rollback.specs.Kept.{IsSmall, entry_of, turn_receivers};
 ghost use Rattle.rollback.specs.Post.{IsPosted};
 ghost use Rattle.rollback.specs.Stepped.{next_entry, HasNextKey, stepped, IsNextSent, IsNextTurn};
 
-use crate::ahead::Ahead;
+use crate::turn_reader::TurnReader;
 use message_balance::Done;
 use crate::growth::{outcome_at, post_all, receivers_of_turn, take_input, take_turn};
 use crate::keys::{fits, is_below, key_of};
@@ -55,7 +55,7 @@ pub struct Component<T: Turns> {
     // The key of the next turn, if there is one.
     pub(crate) coming: Option<Key>,
     // What was read of the turns from the next one on.
-    pub(crate) ahead: Ahead,
+    pub(crate) ahead: TurnReader,
 }
 
 impl<T: Turns> Model for Component<T> {
@@ -104,7 +104,7 @@ impl<T: Turns> Component<T> {
             pending: EventList::new(),
             owed: EventList::new(),
             coming,
-            ahead: Ahead::new(),
+            ahead: TurnReader::new(),
         })
     }
 
@@ -131,7 +131,7 @@ impl<T: Turns> Component<T> {
     }
 
     /// The pending inputs and the owed antimessages are in order. The call does nothing.
-    pub fn is_in_order(&self)
+    pub fn lists_law(&self)
         ensures pending { IsSorted (machine_of T.turn_of self.now.setup) self.now.history.pending }
         ensures owed { IsSorted (machine_of T.turn_of self.now.setup) self.now.history.owed }
     {

@@ -39,7 +39,7 @@ impl<T: Turns> Component<T> {
     {
         machine_is_lawful(self.setup());
         record_law::<State, Action>();
-        self.is_in_order();
+        self.lists_law();
         let trip = self.process_some(alloc, most, out);
         self.roll_back_some(trip.entries, out);
         trip

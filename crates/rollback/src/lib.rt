@@ -1,7 +1,6 @@
 //! One component of a simulation.
 #![tactic(auto)]
 
-mod ahead;
 pub mod component;
 pub mod copied;
 mod deliver;
@@ -13,6 +12,7 @@ pub mod laws;
 mod matching;
 pub mod refused;
 mod same;
+mod turn_reader;
 
 pub use component::Component;
 pub use copied::Copies;

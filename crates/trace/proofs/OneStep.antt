@@ -18,7 +18,7 @@ use Rattle.event_keys.specs.declared.step.Step.TheVariants as step
 use Rattle.trace.specs.declared.fault.TraceError.{TraceError}
 use Rattle.trace.specs.declared.fault.TraceError.TheVariants as trace
 use Rattle.trace.specs.Lines.{key_text}
-use Rattle.trace.specs.StepFile.{IsStep, IsBadStep, IsUnknownStep, GivesSteps, IsStepsFault}
+use Rattle.trace.specs.StepFile.{SaysStep, IsBadStep, IsUnknownStep, GivesSteps, IsStepsFault}
 use Rattle.trace.specs.StepLines.{WrittenMessage, message_text, sign_text, bound_text, StepLine, Process, Deliver, Meet, RollBack, Commit, step_text, IsWrittenMessage, IsStepBound, IsStepLine, IsMessage, Says}
 use Rattle.trace.specs.Written.{written_text}
 use Rattle.trace.proofs.Cuts.{first_of, rest_of, same_cut}
@@ -112,7 +112,7 @@ says_same plan (Meet written) a b h k = h.2 ∙ ap step.Meet (message_said_same 
 says_same plan (RollBack n) a b h k = h ∙ sym k
 says_same plan (Commit bound) a b h k = h ∙ sym k
 
-step_same : (plan : Plan) (text : List ℕ) (a b : Step) → IsStep plan text a → IsStep plan text b → a ≡ b
+step_same : (plan : Plan) (text : List ℕ) (a b : Step) → SaysStep plan text a → SaysStep plan text b → a ≡ b
 step_same plan text a b h k =
     let same : h.line ≡ k.line = step_line_same plan h.line k.line h.proper k.proper (sym h.is ∙ k.is) in
     says_same plan k.line a b (subst (λ (l : StepLine). Says plan l a) same h.says) k.says
@@ -130,7 +130,7 @@ gives_steps_same plan (text ∷ texts) (a ∷ one) (b ∷ two) h k =
 
 -- a line without a fault
 abbrev IsSound : Plan → List ℕ → Type 0
-IsSound plan text = (said : Step) × IsStep plan text said
+IsSound plan text = (said : Step) × SaysStep plan text said
 
 all_sound : (plan : Plan) (texts : List (List ℕ)) (steps : List Step) → GivesSteps plan texts steps → AllByRecursion (IsSound plan) texts
 all_sound plan [] [] h = tt

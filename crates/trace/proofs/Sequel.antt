@@ -9,7 +9,7 @@ use Rattle.trace.specs.declared.line_fault.LineFault.{LineFault}
 use Rattle.trace.specs.declared.line_fault.LineFault.TheVariants as fault
 use Rattle.trace.specs.FileFaults.{IsFirstAtFault, IsFileFault}
 use Rattle.trace.specs.TraceFile.{IsGiven, Gives, Blames, fault_of}
-use Rattle.trace.specs.StepFile.{IsStep, GivesSteps}
+use Rattle.trace.specs.StepFile.{SaysStep, GivesSteps}
 
 -- the lines before the rest are so many, and they give these items
 pub record IsReadTo {X : Type 0} (gives : List (List ℕ) → List X → Type 0) (bytes rest : List ℕ) (count : ℕ) (items : List X) : Type 0 where
@@ -65,11 +65,11 @@ pub actions_more : (plan : Plan) (bytes rest text later : List ℕ) (count : ℕ
 actions_more plan bytes rest text later count actions given h e k = read_more (Gives plan) bytes rest text later count actions (actions ++ given) h e (gives_more plan h.before text actions given h.given k)
 
 -- one line more of a file of steps
-gives_step_more : (plan : Plan) (before : List (List ℕ)) (text : List ℕ) (steps : List Step) (said : Step) → GivesSteps plan before steps → IsStep plan text said → GivesSteps plan (before ++ text ∷ []) (steps ++ said ∷ [])
+gives_step_more : (plan : Plan) (before : List (List ℕ)) (text : List ℕ) (steps : List Step) (said : Step) → GivesSteps plan before steps → SaysStep plan text said → GivesSteps plan (before ++ text ∷ []) (steps ++ said ∷ [])
 gives_step_more plan [] text [] said h k = (k, tt)
 gives_step_more plan [] text (s ∷ steps) said h k = absurd h
 gives_step_more plan (t ∷ before) text [] said h k = absurd h
 gives_step_more plan (t ∷ before) text (s ∷ steps) said h k = (h.0, gives_step_more plan before text steps said h.1 k)
 
-pub steps_more : (plan : Plan) (bytes rest text later : List ℕ) (count : ℕ) (steps : List Step) (said : Step) → IsReadTo (GivesSteps plan) bytes rest count steps → lines_of rest ≡ text ∷ lines_of later → IsStep plan text said → IsReadTo (GivesSteps plan) bytes later (count + 1) (steps ++ said ∷ [])
+pub steps_more : (plan : Plan) (bytes rest text later : List ℕ) (count : ℕ) (steps : List Step) (said : Step) → IsReadTo (GivesSteps plan) bytes rest count steps → lines_of rest ≡ text ∷ lines_of later → SaysStep plan text said → IsReadTo (GivesSteps plan) bytes later (count + 1) (steps ++ said ∷ [])
 steps_more plan bytes rest text later count steps said h e k = read_more (GivesSteps plan) bytes rest text later count steps (steps ++ said ∷ []) h e (gives_step_more plan h.before text steps said h.given k)

@@ -14,7 +14,7 @@ use Rattle.event_keys.specs.declared.step.Step.TheVariants as step
 use Rattle.trace.specs.Actions.{IsAction, IsForeign, IsNoAction}
 use Rattle.trace.specs.Lines.{number_text, key_text}
 use Rattle.trace.specs.Messages.{IsMessageText, IsForeignMessage, IsNoMessage}
-use Rattle.trace.specs.StepFile.{IsStep, IsBadStep, IsUnknownStep}
+use Rattle.trace.specs.StepFile.{SaysStep, IsBadStep, IsUnknownStep}
 use Rattle.trace.specs.StepLines.{message_text, sign_text, bound_text, StepLine, Process, Deliver, Meet, RollBack, Commit, step_text, IsStepKey, IsStepBound}
 use Rattle.trace.specs.Written.{written_text}
 use Rattle.trace.proofs.Cuts.{Lacks, first_of, no_cut, same_cut}
@@ -92,19 +92,19 @@ line_joined : (plan : Plan) (text word rest : List ℕ) (line : StepLine) → Is
 line_joined plan text word rest line cut w r = cut.0 ∙ (λ i. w i ++ (32 ∷ r i)) ∙ sym (text_is plan line)
 
 module _ (plan : Plan) (text word rest : List ℕ) (cut : IsWordAndRest text word rest) where
-  pub said_process : (n : ℕ) → word ≡ codes "process" → n < 2 ^ 16 → rest ≡ decimal n → IsStep plan text (step.Process n)
+  pub said_process : (n : ℕ) → word ≡ codes "process" → n < 2 ^ 16 → rest ≡ decimal n → SaysStep plan text (step.Process n)
   said_process n w low e = record { line = Process n; proper = low; is = line_joined plan text word rest (Process n) cut w e; says = refl }
 
-  pub said_back : (n : ℕ) → word ≡ codes "back" → n < 2 ^ 16 → rest ≡ decimal n → IsStep plan text (step.RollBack n)
+  pub said_back : (n : ℕ) → word ≡ codes "back" → n < 2 ^ 16 → rest ≡ decimal n → SaysStep plan text (step.RollBack n)
   said_back n w low e = record { line = RollBack n; proper = low; is = line_joined plan text word rest (RollBack n) cut w e; says = refl }
 
-  pub said_commit : (bound : Bound) → word ≡ codes "commit" → IsStepBound bound → rest ≡ bound_text bound → IsStep plan text (step.Commit bound)
+  pub said_commit : (bound : Bound) → word ≡ codes "commit" → IsStepBound bound → rest ≡ bound_text bound → SaysStep plan text (step.Commit bound)
   said_commit bound w h e = record { line = Commit bound; proper = h; is = line_joined plan text word rest (Commit bound) cut w e; says = refl }
 
-  pub said_meet : (message : Message) → word ≡ codes "meet" → IsMessageText plan rest message → IsStep plan text (step.Meet message)
+  pub said_meet : (message : Message) → word ≡ codes "meet" → IsMessageText plan rest message → SaysStep plan text (step.Meet message)
   said_meet message w h = record { line = Meet h.written; proper = h.proper; is = line_joined plan text word rest (Meet h.written) cut w h.is; says = (message, h.says, refl) }
 
-  pub said_deliver : (sign : Sign) (message : Message) (later : List ℕ) → word ≡ codes "deliver" → rest ≡ sign_text sign ++ later → IsMessageText plan later message → IsStep plan text (step.Deliver (record { message = message; sign = sign }))
+  pub said_deliver : (sign : Sign) (message : Message) (later : List ℕ) → word ≡ codes "deliver" → rest ≡ sign_text sign ++ later → IsMessageText plan later message → SaysStep plan text (step.Deliver (record { message = message; sign = sign }))
   said_deliver sign message later w e h =
       record {
         line = Deliver sign h.written;

@@ -7,7 +7,7 @@ use Rattle.trace.specs.FileFaults.{IsFileFault}
 use Rattle.trace.specs.StepLines.{StepLine, step_text, IsStepLine, Says}
 
 -- the text is that of a line that says this step
-pub record IsStep (plan : Plan) (text : List ℕ) (said : Step) : Type 0 where
+pub record SaysStep (plan : Plan) (text : List ℕ) (said : Step) : Type 0 where
   pub line : StepLine
   pub proper : IsStepLine plan line
   pub is : text ≡ step_text plan line
@@ -27,7 +27,7 @@ pub record IsUnknownStep (plan : Plan) (text : List ℕ) : Type 0 where
 -- lines, one after another, say these steps, one a line
 abbrev pub GivesSteps : Plan → List (List ℕ) → List Step → Type 0
 GivesSteps plan [] [] = Unit {0}
-GivesSteps plan (text ∷ texts) (said ∷ steps) = IsStep plan text said × GivesSteps plan texts steps
+GivesSteps plan (text ∷ texts) (said ∷ steps) = SaysStep plan text said × GivesSteps plan texts steps
 GivesSteps plan texts steps = ⊥
 
 -- why a file isn't read

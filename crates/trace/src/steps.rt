@@ -6,7 +6,7 @@ ghost use Rattle.event_keys.specs.declared.key.Key.{Key as Time};
 ghost use Rattle.event_keys.specs.declared.message.Sign.{Sign as Mark};
 ghost use Rattle.task_seed.specs.Table.{lines_of};
 ghost use Rattle.trace.specs.Lines.{key_text, number_text};
-ghost use Rattle.trace.specs.StepFile.{GivesSteps, IsBadStep, IsStep, IsStepsFault, IsUnknownStep};
+ghost use Rattle.trace.specs.StepFile.{GivesSteps, IsBadStep, SaysStep, IsStepsFault, IsUnknownStep};
 ghost use Rattle.trace.specs.StepLines.{IsStepBound, IsStepKey, bound_text, sign_text};
 ghost use Rattle.trace.specs.Messages.{IsForeignMessage, IsMessageText, IsNoMessage};
 ghost use Rattle.trace.specs.TraceFile.{Blames};
@@ -119,7 +119,7 @@ fn signed(alloc: Global, plan: &Plan, text: &str) -> Result<Signed, LineFault>
 }
 
 fn read_text(alloc: Global, plan: &Plan, text: &str) -> Result<Step, LineFault>
-    ensures ok { IfOk result (λ step. IsStep plan.now text.now step) }
+    ensures ok { IfOk result (λ step. SaysStep plan.now text.now step) }
     ensures err { IfErr result (λ fault. Blames (IsBadStep plan.now text.now) (IsUnknownStep plan.now text.now) fault) }
 {
     let (word, rest) = text.split_once(' ').ok_or(LineFault::Bad)?;
@@ -134,7 +134,7 @@ fn read_text(alloc: Global, plan: &Plan, text: &str) -> Result<Step, LineFault>
 }
 
 fn read_line(alloc: Global, plan: &Plan, line: &[u8]) -> Result<Step, LineFault>
-    ensures ok { IfOk result (λ step. IsStep plan.now line.now step) }
+    ensures ok { IfOk result (λ step. SaysStep plan.now line.now step) }
     ensures err { IfErr result (λ fault. Blames (IsBadStep plan.now line.now) (IsUnknownStep plan.now line.now) fault) }
 {
     match str::from_utf8(line) {

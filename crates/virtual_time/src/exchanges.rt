@@ -14,7 +14,7 @@ ghost use Rattle.virtual_time.specs.Rules.{IsWorld};
 ghost use Rattle.virtual_time.specs.Reference.{Falls, IsReference, Turn, outcome_at, reference_below};
 ghost use Rattle.virtual_time.specs.Exchange.Meetings.{IsChunk, IsCommit, Met};
 ghost use Rattle.virtual_time.specs.Exchange.Moved.{IsMoved};
-ghost use Rattle.virtual_time.specs.Exchange.Wholes.{IsWhole, put_lease};
+ghost use Rattle.virtual_time.specs.Exchange.Wholes.{IsWholeWorld, put_lease};
 ghost use Rattle.virtual_time.specs.Machine.{HasCount, Lawful, Machine};
 
 /// The exchange stays sound. What a component has taken after a meeting is what its senders have standing, so it is never below none.
@@ -59,10 +59,10 @@ pub fn lease_law<S, A>()
 
 /// What the exchange and its leases do are steps of the whole world.
 pub fn exchange_is_core<S, A>()
-    ensures commit { (machine : Machine S A) (count : ℕ) (exchange new_exchange : Exchange A) (leases : ℕ → Lease S A) (world : World S A) → Lawful machine → IsSound machine count exchange → ((j : ℕ) → IsLease machine j (leases j)) → ((j : ℕ) → Matches machine j (exchange.stub j) (leases j)) → IsWhole machine exchange leases world → IsWorld machine world → IsCommit machine exchange new_exchange → (next_world : World S A) × Reaches machine world (Commit new_exchange.bound ∷ []) next_world × IsWhole machine new_exchange leases next_world }
-    ensures meet { (machine : Machine S A) (i : ℕ) (exchange new_exchange : Exchange A) (leases : ℕ → Lease S A) (new_lease : Lease S A) (world : World S A) → Lawful machine → ((j : ℕ) → IsLease machine j (leases j)) → IsWhole machine exchange leases world → (met : Met machine i exchange (leases i) new_exchange new_lease) → (next_world : World S A) × Reaches machine world (meets_of met.gone) next_world × IsWhole machine new_exchange (put_lease i new_lease leases) next_world }
-    ensures alone { (machine : Machine S A) (count i : ℕ) (exchange : Exchange A) (leases : ℕ → Lease S A) (steps : List (Step A)) (alone_world world : World S A) → Lawful machine → IsSound machine count exchange → IsLease machine i (leases i) → Matches machine i (exchange.stub i) (leases i) → IsWhole machine exchange leases world → IsWorld machine world → Does machine i (alone machine i (leases i)) steps alone_world → (next_world : World S A) × Reaches machine world steps next_world × IsWhole machine exchange (put_lease i (lease_of i (leases i).floor alone_world) leases) next_world }
-    ensures start { (machine : Machine S A) → Lawful machine → IsWhole machine (start_exchange machine) (start_lease machine) (start_world machine) }
+    ensures commit { (machine : Machine S A) (count : ℕ) (exchange new_exchange : Exchange A) (leases : ℕ → Lease S A) (world : World S A) → Lawful machine → IsSound machine count exchange → ((j : ℕ) → IsLease machine j (leases j)) → ((j : ℕ) → Matches machine j (exchange.stub j) (leases j)) → IsWholeWorld machine exchange leases world → IsWorld machine world → IsCommit machine exchange new_exchange → (next_world : World S A) × Reaches machine world (Commit new_exchange.bound ∷ []) next_world × IsWholeWorld machine new_exchange leases next_world }
+    ensures meet { (machine : Machine S A) (i : ℕ) (exchange new_exchange : Exchange A) (leases : ℕ → Lease S A) (new_lease : Lease S A) (world : World S A) → Lawful machine → ((j : ℕ) → IsLease machine j (leases j)) → IsWholeWorld machine exchange leases world → (met : Met machine i exchange (leases i) new_exchange new_lease) → (next_world : World S A) × Reaches machine world (meets_of met.gone) next_world × IsWholeWorld machine new_exchange (put_lease i new_lease leases) next_world }
+    ensures alone { (machine : Machine S A) (count i : ℕ) (exchange : Exchange A) (leases : ℕ → Lease S A) (steps : List (Step A)) (alone_world world : World S A) → Lawful machine → IsSound machine count exchange → IsLease machine i (leases i) → Matches machine i (exchange.stub i) (leases i) → IsWholeWorld machine exchange leases world → IsWorld machine world → Does machine i (alone machine i (leases i)) steps alone_world → (next_world : World S A) × Reaches machine world steps next_world × IsWholeWorld machine exchange (put_lease i (lease_of i (leases i).floor alone_world) leases) next_world }
+    ensures start { (machine : Machine S A) → Lawful machine → IsWholeWorld machine (start_exchange machine) (start_lease machine) (start_world machine) }
     ensures world { (machine : Machine S A) (steps : List (Step A)) (world next_world : World S A) → Lawful machine → IsWorld machine world → Reaches machine world steps next_world → IsWorld machine next_world }
 {}
 

@@ -44,7 +44,7 @@ pub(crate) fn take_portion<T: Turns>(exchange: &mut Exchange<T>) -> Portion
     ensures portion { IsPortion (system T.turn_of exchange.old.setup) result }
     ensures setup { exchange.new.setup ≡ exchange.old.setup }
 {
-    exchange.is_sound();
+    exchange.soundness_law();
     let is_last = exchange.finished();
     let chunk = exchange.take_chunk();
     let given = exchange.given();

@@ -26,5 +26,5 @@ module _ {T : Type 0} (turn_of : T → ℕ → ℕ → Option Turn) where
       → IsStep (record { setup = setup; components = components; flight = flight; bound = bound; committed = committed }) step reply (record { setup = setup; components = new_components; flight = new_flight; bound = bound; committed = committed })
 
   -- these are the components and the messages in flight of some world
-  abbrev pub Stands : Setup T → List (Held (Setup T)) → List Signed → Type 0
-  Stands setup components flight = (bound : Bound) × (committed : List Turned) × IsSimulation (system turn_of setup) (record { setup = setup; components = components; flight = flight; bound = bound; committed = committed })
+  abbrev pub HasWorld : Setup T → List (Held (Setup T)) → List Signed → Type 0
+  HasWorld setup components flight = (bound : Bound) × (committed : List Turned) × IsSimulation (system turn_of setup) (record { setup = setup; components = components; flight = flight; bound = bound; committed = committed })

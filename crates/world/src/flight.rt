@@ -11,7 +11,7 @@ ghost use Rattle.rollback.specs.Post.{IsPosted};
 ghost use Rattle.rollback.specs.Stepped.{HasNextKey, IsNextSent, next_entry, stepped};
 ghost use Rattle.antimessage.specs.Counts.{plus};
 ghost use Rattle.virtual_time.specs.Worlds.{Meet, Process, RollBack};
-ghost use Rattle.world.specs.Stepping.{Stands, Steps};
+ghost use Rattle.world.specs.Stepping.{HasWorld, Steps};
 ghost use Rattle.world.specs.Steps.{answer_by, delivery};
 ghost use Rattle.world.specs.Times.{least_next};
 
@@ -138,7 +138,7 @@ pub(crate) fn deliver<T: Turns>(
     signed: &Signed,
     flight: &mut Bag,
 ) -> Result<u64, StepRefused>
-    requires { Stands T.turn_of setup.now components.old flight.old }
+    requires { HasWorld T.turn_of setup.now components.old flight.old }
     ensures step { Steps T.turn_of setup.now components.old flight.old components.new flight.new (delivery signed.now.sign signed.now.message) (answer_by Reply.Delivered result) }
     ensures many { length components.new ≡ length components.old }
     ensures kept { OnErr result ((components.new ≡ components.old) × (flight.new ≡ flight.old)) }

@@ -110,7 +110,7 @@ impl<T: Turns> World<T> {
 
     /// Every world is one that steps reach from the start: its records are proper and grounded, and sends and receipts balance. The call does
     /// nothing.
-    pub fn is_sound(&self)
+    pub fn soundness_law(&self)
         ensures reached { IsReached (machine_of T.turn_of self.now.setup) (length (composition (plan_of self.now.setup))) (world_of (machine_of T.turn_of self.now.setup) self.now) }
         ensures sound { IsWorld (machine_of T.turn_of self.now.setup) (world_of (machine_of T.turn_of self.now.setup) self.now) }
         ensures simulation { IsSimulation (system T.turn_of self.now.setup) self.now }
@@ -155,7 +155,7 @@ impl<T: Turns> World<T> {
         ensures keeps { Keeps self.old self.new }
         ensures kept { OnErr result (self.new ≡ self.old) }
     {
-        self.is_sound();
+        self.soundness_law();
         machine_is_lawful(self.setup());
         committed_is_reference::<State, Action>();
         virtual_time_rises::<State, Action>();
@@ -263,7 +263,7 @@ impl<T: Turns> World<T> {
         ensures keeps { Keeps self.old self.new }
         ensures kept { OnErr result (self.new ≡ self.old) }
     {
-        self.is_sound();
+        self.soundness_law();
         machine_is_lawful(self.setup());
         committed_is_reference::<State, Action>();
         there_and_back_law::<State, Action>();
@@ -273,7 +273,7 @@ impl<T: Turns> World<T> {
         for step in steps {
             answers.push_reserved(self.step(alloc, step));
         }
-        self.is_sound();
+        self.soundness_law();
         Ok(answers)
     }
 }

@@ -113,7 +113,7 @@ fn comes(alloc: Global, bench: &mut Bench, pass: Pass, taken_back: u64) -> Resul
 }
 
 fn goes(alloc: Global, bench: &mut Bench, most: u32, wanted: Trip) -> bool {
-    bench.node.is_in_order();
+    bench.node.lists_law();
     bench.node.there_and_back(alloc, most, &mut bench.out) == wanted
 }
 

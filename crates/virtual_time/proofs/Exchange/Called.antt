@@ -7,7 +7,7 @@ use Rattle.virtual_time.specs.Worlds.{Commit, Reaches, Step, World, start_world}
 use Rattle.virtual_time.specs.Rules.{IsWorld}
 use Rattle.virtual_time.specs.Exchange.Stubs.{Exchange, IsSound, Stub}
 use Rattle.virtual_time.specs.Exchange.Leases.{IsLease, Lease, Matches, alone, lease_of}
-use Rattle.virtual_time.specs.Exchange.Wholes.{IsWhole, put_lease}
+use Rattle.virtual_time.specs.Exchange.Wholes.{IsWholeWorld, put_lease}
 use Rattle.virtual_time.specs.Exchange.Calls.{Call, CallAlone, CallChunk, CallCommit, CallMeet, Called, Calls, IsShared, Shared, start_shared}
 use Rattle.virtual_time.proofs.Commits.{run_kept, start_kept}
 use Rattle.virtual_time.proofs.Tied.{alone_walks, leads, reaches}
@@ -80,7 +80,7 @@ module _ {S A : Type 0} (machine : Machine S A) (law : Lawful machine) where
         steps = is.steps;
         world = is.world;
         reached = is.reached;
-        whole = subst (λ (x : Exchange A). IsWhole machine x u.lease is.world) (sym chunk.rest)
+        whole = subst (λ (x : Exchange A). IsWholeWorld machine x u.lease is.world) (sym chunk.rest)
             (record { bound = w.bound; committed = w.committed; base = w.base; first = w.first; done = w.done; pending = w.pending; owed = w.owed; plus = w.plus; minus = w.minus });
       })
   call_kept count counted u (CallAlone i steps) v is h =

@@ -8,7 +8,7 @@ use Rattle.virtual_time.proofs.Moves.{Leads, walk_minus, walk_on, walk_plus}
 use Rattle.virtual_time.specs.Rules.{IsWorld}
 use Rattle.virtual_time.specs.Exchange.Stubs.{Exchange, IsSound, Stub}
 use Rattle.virtual_time.specs.Exchange.Leases.{IsLease, Lease, Matches, alone, lease_of}
-use Rattle.virtual_time.specs.Exchange.Wholes.{IsWhole, put_lease}
+use Rattle.virtual_time.specs.Exchange.Wholes.{IsWholeWorld, put_lease}
 use Rattle.virtual_time.proofs.Exchange.Parts.{Follows, Private, WalksAlone}
 use Rattle.virtual_time.proofs.Lists.{AllFrom-weaken}
 use Rattle.virtual_time.proofs.Kept.{process_kept}
@@ -74,9 +74,9 @@ module _ {S A : Type 0} (machine : Machine S A) (law : Lawful machine) (i : ℕ)
     does_along (Meet j x ∷ ss) u v w r isw priv f h = absurd h
     does_along (Commit b ∷ ss) u v w r isw priv f h = absurd h
 
-module _ {S A : Type 0} (machine : Machine S A) (law : Lawful machine) {count : ℕ} (i : ℕ) (e : Exchange A) (is : IsSound machine count e) (ls : ℕ → Lease S A) (lease : IsLease machine i (ls i)) (match : Matches machine i (e.stub i) (ls i)) (w : World S A) (whole : IsWhole machine e ls w) (isw : IsWorld machine w) where
+module _ {S A : Type 0} (machine : Machine S A) (law : Lawful machine) {count : ℕ} (i : ℕ) (e : Exchange A) (is : IsSound machine count e) (ls : ℕ → Lease S A) (lease : IsLease machine i (ls i)) (match : Matches machine i (e.stub i) (ls i)) (w : World S A) (whole : IsWholeWorld machine e ls w) (isw : IsWorld machine w) where
   -- what the lease does by itself leads the whole world to the new whole, by the same steps
-  pub does_whole : (ss : List (Step A)) (u : World S A) → WalksAlone machine i (alone machine i (ls i)) ss u → (v : World S A) × Leads machine w ss v × IsWhole machine e (put_lease i (lease_of i (ls i).floor u) ls) v
+  pub does_whole : (ss : List (Step A)) (u : World S A) → WalksAlone machine i (alone machine i (ls i)) ss u → (v : World S A) × Leads machine w ss v × IsWholeWorld machine e (put_lease i (lease_of i (ls i).floor u) ls) v
   does_whole ss u h =
       let f = is.floor i in
       let n = match.floor in

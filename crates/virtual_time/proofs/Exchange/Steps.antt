@@ -7,10 +7,10 @@ use Rattle.virtual_time.specs.Worlds.{World}
 use Rattle.virtual_time.specs.Bags.{times}
 use Rattle.virtual_time.specs.Exchange.Stubs.{Exchange}
 use Rattle.virtual_time.specs.Exchange.Leases.{IsLease, Lease, alone, lease_of}
-use Rattle.virtual_time.specs.Exchange.Wholes.{IsWhole, put_lease}
+use Rattle.virtual_time.specs.Exchange.Wholes.{IsWholeWorld, put_lease}
 use Rattle.virtual_time.proofs.Exchange.Parts.{Follows, Private}
 
-module _ {S A : Type 0} (machine : Machine S A) (law : Lawful machine) (i : ℕ) (e : Exchange A) (ls : ℕ → Lease S A) (lease : IsLease machine i (ls i)) (w : World S A) (whole : IsWhole machine e ls w) where
+module _ {S A : Type 0} (machine : Machine S A) (law : Lawful machine) (i : ℕ) (e : Exchange A) (ls : ℕ → Lease S A) (lease : IsLease machine i (ls i)) (w : World S A) (whole : IsWholeWorld machine e ls w) where
   -- what is in flight and not of this lease
   abbrev pub rest_plus : ℕ → ℕ → A → ℕ
   rest_plus j k a = cond (j == i) (times machine (e.stub j).plus k a + times machine ((ls (machine.owner k)).out_plus j) k a) (times machine (ls j).part.plus k a + times machine (e.stub j).plus k a + cond (machine.owner k == i) 0 (times machine ((ls (machine.owner k)).out_plus j) k a))
@@ -45,7 +45,7 @@ module _ {S A : Type 0} (machine : Machine S A) (law : Lawful machine) (i : ℕ)
         pick (inl q) = subst (λ (n : ℕ). P n (put_lease i (lease_of i (ls i).floor u) ls n)) (sym q) (rw (eq-eqb i i refl) h)
         pick (inr ne) = rw (ne_eqb j i ne) (o j ne)
 
-    pub follow_whole : IsWhole machine e (put_lease i (lease_of i (ls i).floor u) ls) v
+    pub follow_whole : IsWholeWorld machine e (put_lease i (lease_of i (ls i).floor u) ls) v
     follow_whole =
         record {
           bound = theirs.bound ∙ whole.bound;

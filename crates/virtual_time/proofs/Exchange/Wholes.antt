@@ -12,7 +12,7 @@ use Rattle.virtual_time.specs.Reference.{reference_below}
 use Rattle.virtual_time.specs.Exchange.Stubs.{Exchange, IsSound, Stub, start_exchange}
 use Rattle.virtual_time.specs.Exchange.Leases.{IsLease, Lease, Matches, start_lease}
 use Rattle.virtual_time.specs.Exchange.Meetings.{IsClear, IsCommit, Met}
-use Rattle.virtual_time.specs.Exchange.Wholes.{IsWhole, put_lease}
+use Rattle.virtual_time.specs.Exchange.Wholes.{IsWholeWorld, put_lease}
 use Rattle.virtual_time.proofs.Counts.{hit_self, times-remove}
 use Rattle.virtual_time.proofs.Lists.{AllFrom-weaken, put_same, put_other}
 use Rattle.virtual_time.proofs.Cuts.{below_at, below_past}
@@ -66,7 +66,7 @@ module _ {S A : Type 0} (machine : Machine S A) (law : Lawful machine) where
       here (inl l) = let z = h x.key x.action l in let o = hit_self machine law x in absurd (omega arith)
       here (inr l) = l
 
-  module _ {count : ℕ} (e : Exchange A) (is : IsSound machine count e) (ls : ℕ → Lease S A) (leases : (j : ℕ) → IsLease machine j (ls j)) (match : (j : ℕ) → Matches machine j (e.stub j) (ls j)) (w : World S A) (whole : IsWhole machine e ls w) where
+  module _ {count : ℕ} (e : Exchange A) (is : IsSound machine count e) (ls : ℕ → Lease S A) (leases : (j : ℕ) → IsLease machine j (ls j)) (match : (j : ℕ) → Matches machine j (e.stub j) (ls j)) (w : World S A) (whole : IsWholeWorld machine e ls w) where
     pub can : (b : ℕ) → e.bound ≤ b → IsClear machine e b → CanCommit machine w b
     can b up clear =
         record {
@@ -98,7 +98,7 @@ module _ {S A : Type 0} (machine : Machine S A) (law : Lawful machine) where
 
     -- one Commit
     pub commit_whole : (b : ℕ) → e.bound ≤ b → IsClear machine e b → IsWorld machine w
-        → (v : World S A) × Leads machine w (Commit b ∷ []) v × IsWhole machine (record { stub = e.stub; bound = b; held = e.held; given = e.given }) ls v
+        → (v : World S A) × Leads machine w (Commit b ∷ []) v × IsWholeWorld machine (record { stub = e.stub; bound = b; held = e.held; given = e.given }) ls v
     commit_whole b up clear isw =
         let c = can b up clear in
         let kept = commit_kept machine law b w isw c in (
@@ -213,7 +213,7 @@ module _ {S A : Type 0} (machine : Machine S A) (law : Lawful machine) where
             minus = λ j k a. let s = o.minus j k a in let t = r.minus j k a in omega arith;
           }
 
-  module _ (i : ℕ) (e : Exchange A) (ls : ℕ → Lease S A) (leases : (j : ℕ) → IsLease machine j (ls j)) (w : World S A) (whole : IsWhole machine e ls w)
+  module _ (i : ℕ) (e : Exchange A) (ls : ℕ → Lease S A) (leases : (j : ℕ) → IsLease machine j (ls j)) (w : World S A) (whole : IsWholeWorld machine e ls w)
       (e' : Exchange A) (l' : Lease S A) (met : Met machine i e (ls i) e' l') where
     abbrev Out_plus : (ℕ → Lease S A) → ℕ → ℕ → A → ℕ
     Out_plus fs j k a = times machine ((fs (machine.owner k)).out_plus j) k a
@@ -246,7 +246,7 @@ module _ {S A : Type 0} (machine : Machine S A) (law : Lawful machine) where
     room_minus j k a = let x = whole.minus j k a in let o = (out_parts j k a).1 in let b = met.by_minus j k a in omega arith
 
     -- Meets
-    pub meet_whole : (v : World S A) × Leads machine w (meets_of met.gone) v × IsWhole machine e' (put_lease i l' ls) v
+    pub meet_whole : (v : World S A) × Leads machine w (meets_of met.gone) v × IsWholeWorld machine e' (put_lease i l' ls) v
     meet_whole = let r = meets_all met.gone w room_plus room_minus in (r.0, r.1, whole_new r.0 r.2)
       where
         tray_in : (j k : ℕ) (a : A) → (j ≡ i) ⊎ (j ≡ i → ⊥)
@@ -268,7 +268,7 @@ module _ {S A : Type 0} (machine : Machine S A) (law : Lawful machine) where
             pick true f = subst (λ (n : ℕ). P n l') (sym (eqb-true j i f)) h
             pick false f = o j
 
-        whole_new : (v : World S A) → Gone w v met.gone → IsWhole machine e' (put_lease i l' ls) v
+        whole_new : (v : World S A) → Gone w v met.gone → IsWholeWorld machine e' (put_lease i l' ls) v
         whole_new v g =
             record {
               bound = g.bound ∙ whole.bound ∙ sym met.bound;
@@ -285,14 +285,14 @@ module _ {S A : Type 0} (machine : Machine S A) (law : Lawful machine) where
               minus = λ j k a. let x = whole.minus j k a in let o = (out_parts j k a).1 in let b = met.by_minus j k a in let t = (tray_in j k a (cases_eq j i)).1 in let h = g.minus j k a in omega arith;
             }
 
-  pub commit_leads : {count : ℕ} (e e' : Exchange A) (ls : ℕ → Lease S A) (w : World S A) → IsSound machine count e → ((j : ℕ) → IsLease machine j (ls j)) → ((j : ℕ) → Matches machine j (e.stub j) (ls j)) → IsWhole machine e ls w → IsWorld machine w → IsCommit machine e e'
-      → (v : World S A) × Leads machine w (Commit e'.bound ∷ []) v × IsWhole machine e' ls v
+  pub commit_leads : {count : ℕ} (e e' : Exchange A) (ls : ℕ → Lease S A) (w : World S A) → IsSound machine count e → ((j : ℕ) → IsLease machine j (ls j)) → ((j : ℕ) → Matches machine j (e.stub j) (ls j)) → IsWholeWorld machine e ls w → IsWorld machine w → IsCommit machine e e'
+      → (v : World S A) × Leads machine w (Commit e'.bound ∷ []) v × IsWholeWorld machine e' ls v
   commit_leads e e' ls w is leases match whole isw c =
       let up = c.most e.bound (record { end = is.end; floor = is.floor; plus = is.plus; minus = is.minus }) in
       let r = commit_whole e is ls leases match w whole e'.bound up c.clear isw in
-      (r.0, r.1, subst (λ (x : Exchange A). IsWhole machine x ls r.0) (sym c.rest) r.2)
+      (r.0, r.1, subst (λ (x : Exchange A). IsWholeWorld machine x ls r.0) (sym c.rest) r.2)
 
-  pub start_whole : IsWhole machine (start_exchange machine) (start_lease machine) (start_world machine)
+  pub start_whole : IsWholeWorld machine (start_exchange machine) (start_lease machine) (start_world machine)
   start_whole =
       record {
         bound = refl;

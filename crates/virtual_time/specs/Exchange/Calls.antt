@@ -6,7 +6,7 @@ use Rattle.virtual_time.specs.Worlds.{Reaches, Step, World, start_world}
 use Rattle.virtual_time.specs.Exchange.Stubs.{Exchange, IsSound, start_exchange}
 use Rattle.virtual_time.specs.Exchange.Leases.{Does, IsLease, Lease, Matches, alone, lease_of, start_lease}
 use Rattle.virtual_time.specs.Exchange.Meetings.{IsChunk, IsCommit, Met}
-use Rattle.virtual_time.specs.Exchange.Wholes.{IsWhole, put_lease}
+use Rattle.virtual_time.specs.Exchange.Wholes.{IsWholeWorld, put_lease}
 
 -- The exchange, and the lease of each component, whoever holds it.
 pub record Shared (State Action : Type 0) : Type 0 where
@@ -45,7 +45,7 @@ pub record IsShared {S A : Type 0} (machine : Machine S A) (count : ℕ) (u : Sh
   pub steps : List (Step A)
   pub world : World S A
   pub reached : Reaches machine (start_world machine) steps world
-  pub whole : IsWhole machine u.exchange u.lease world
+  pub whole : IsWholeWorld machine u.exchange u.lease world
 
 -- No message is on its way to a component beyond the components.
 pub record IsQuiet {S A : Type 0} (count : ℕ) (u : Shared S A) : Type 0 where

@@ -10,7 +10,7 @@ use Rattle.virtual_time.specs.Bags.{times}
 
 -- The whole world of an exchange and one lease a component: the records are those of the leases cut at the bound, and what is in
 -- flight is in inboxes, trays and outgoing bags.
-pub record IsWhole {S A : Type 0} (machine : Machine S A) (e : Exchange A) (ls : ℕ → Lease S A) (w : World S A) : Type 0 where
+pub record IsWholeWorld {S A : Type 0} (machine : Machine S A) (e : Exchange A) (ls : ℕ → Lease S A) (w : World S A) : Type 0 where
   pub bound : w.bound ≡ e.bound
   pub committed : w.committed ≡ reference_below machine e.bound
   pub base : (j : ℕ) → (w.part j).base ≡ replay machine j (ls j).part.base (below e.bound (ls j).part.done)

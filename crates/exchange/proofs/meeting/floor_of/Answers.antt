@@ -19,4 +19,4 @@ returns g c =
     let law : Lawful (machine s) = subst (λ p. Lawful (machine (system t p))) c.setup.ensures c.machine_is_lawful.ensures.lawful in
     let is : c.earlier.result ≡ earlier c.next.result (least_of c.args.tray.now) = c.earlier.ensures ∙ ap (earlier c.next.result) c.least.ensures in
     subst (λ (b : Bound). IsFloor (machine s) x.number (rank_of_bound b) (part_of x.number x.history c.args.tray.now)) (sym is)
-    (floor_is s law x.number x.history c.args.tray.now c.next.result c.is_in_order.ensures.pending c.order_law.ensures c.requires c.next.ensures)
+    (floor_is s law x.number x.history c.args.tray.now c.next.result c.lists_law.ensures.pending c.order_law.ensures c.requires c.next.ensures)

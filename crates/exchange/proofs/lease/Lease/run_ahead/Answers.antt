@@ -16,9 +16,9 @@ returns-clause-moves g c =
     let new = c.process_some-ahead.new.self in
     let m = machine_of t own.component.setup in
     let law : Lawful m = subst (λ p. Lawful (machine_of t p)) c.setup.ensures c.machine_is_lawful.ensures.lawful in
-    let is = c.is_sound-2.ensures.lease in
+    let is = c.soundness_law-2.ensures.lease in
     ok_then c.process_some-ahead.result
-    (λ count ahead. ahead_moves m law (length (composition (plan_of own.component.setup))) (c.lease_law.ensures.alone m) own new c.is_sound.ensures.holding count ahead (c.exchange_is_sound.ensures.alone m) is.self_plus is.self_minus (c.exchange_is_core.ensures.world m) (c.exchange_is_core.ensures.alone m)) c.process_some-ahead.ensures.ahead
+    (λ count ahead. ahead_moves m law (length (composition (plan_of own.component.setup))) (c.lease_law.ensures.alone m) own new c.soundness_law.ensures.holding count ahead (c.exchange_is_sound.ensures.alone m) is.self_plus is.self_minus (c.exchange_is_core.ensures.world m) (c.exchange_is_core.ensures.alone m)) c.process_some-ahead.ensures.ahead
 
 pub returns-clause-known : goal.returns-clause-known
 returns-clause-known g c =
@@ -27,7 +27,7 @@ returns-clause-known g c =
     let new = c.process_some-ahead.new.self in
     let m = machine_of t own.component.setup in
     let law : Lawful m = subst (λ p. Lawful (machine_of t p)) c.setup.ensures c.machine_is_lawful.ensures.lawful in
-    let is = c.is_sound-2.ensures.lease in
+    let is = c.soundness_law-2.ensures.lease in
     either_way c.process_some-ahead.result (λ (h : Holding _). StaysKnown m own.component.number (lease_of own) (lease_of h)) own new
-    (λ count ahead. ahead_known m law (length (composition (plan_of own.component.setup))) (c.lease_law.ensures.alone m) own new c.is_sound.ensures.holding count ahead (c.exchange_is_sound.ensures.alone m) is.self_plus is.self_minus) (λ e match. match)
+    (λ count ahead. ahead_known m law (length (composition (plan_of own.component.setup))) (c.lease_law.ensures.alone m) own new c.soundness_law.ensures.holding count ahead (c.exchange_is_sound.ensures.alone m) is.self_plus is.self_minus) (λ e match. match)
     c.process_some-ahead.ensures.ahead c.process_some-ahead.ensures.kept

@@ -14,8 +14,8 @@ returns-clause-moves g c =
     let n = length (composition (plan_of own.component.setup)) in
     let law : Lawful m = subst (λ p. Lawful (machine_of t p)) c.setup.ensures c.machine_is_lawful.ensures.lawful in
     let counted : HasCount m n = subst (λ p. HasCount (machine_of t p) (length (composition (plan_of p)))) c.setup.ensures c.machine_is_lawful.ensures.counted in
-    let is = c.is_sound-2.ensures.lease in
-    all_moves m law n counted (c.exchange_is_sound.ensures.alone m) (c.lease_law.ensures.alone m) (c.lease_law.ensures.message m) (c.lease_law.ensures.antimessage m) own.tray own c.deliver_all-count.new.self c.is_sound.ensures.holding is.self_plus is.self_minus c.deliver_all-count.ensures.delivered
+    let is = c.soundness_law-2.ensures.lease in
+    all_moves m law n counted (c.exchange_is_sound.ensures.alone m) (c.lease_law.ensures.alone m) (c.lease_law.ensures.message m) (c.lease_law.ensures.antimessage m) own.tray own c.deliver_all-count.new.self c.soundness_law.ensures.holding is.self_plus is.self_minus c.deliver_all-count.ensures.delivered
     (c.exchange_is_core.ensures.world m) (c.exchange_is_core.ensures.alone m)
 
 pub returns-clause-known : goal.returns-clause-known
@@ -26,5 +26,5 @@ returns-clause-known g c =
     let n = length (composition (plan_of own.component.setup)) in
     let law : Lawful m = subst (λ p. Lawful (machine_of t p)) c.setup.ensures c.machine_is_lawful.ensures.lawful in
     let counted : HasCount m n = subst (λ p. HasCount (machine_of t p) (length (composition (plan_of p)))) c.setup.ensures c.machine_is_lawful.ensures.counted in
-    let is = c.is_sound-2.ensures.lease in
-    all_known m law n counted (c.exchange_is_sound.ensures.alone m) (c.lease_law.ensures.alone m) (c.lease_law.ensures.message m) (c.lease_law.ensures.antimessage m) own.tray own c.deliver_all-count.new.self c.is_sound.ensures.holding is.self_plus is.self_minus c.deliver_all-count.ensures.delivered
+    let is = c.soundness_law-2.ensures.lease in
+    all_known m law n counted (c.exchange_is_sound.ensures.alone m) (c.lease_law.ensures.alone m) (c.lease_law.ensures.message m) (c.lease_law.ensures.antimessage m) own.tray own c.deliver_all-count.new.self c.soundness_law.ensures.holding is.self_plus is.self_minus c.deliver_all-count.ensures.delivered

@@ -39,9 +39,9 @@ returns-clause-back g c = λ i there.
     let m = machine_of t old.setup in
     let law = subst (λ p. Lawful (machine_of t p)) c.setup.ensures c.machine_is_lawful.ensures.lawful in
     let new = c.loop-step.self in
-    let same = c.there_and_back_law.ensures.back m (length (composition (plan_of old.setup))) i (world_of m old) (world_of m new) (map step_of c.args.steps.now) (map answer_of c.loop-step.answers.items) law c.is_sound.ensures.reached there in
-    let simulation = subst (λ p. IsSimulation (system t p) new) c.loop-step.invariant.setup c.is_sound-2.ensures.simulation in
-    same_simulation (system t old.setup) old new c.is_sound.ensures.simulation simulation c.loop-step.invariant.setup c.loop-step.invariant.keeps same c.is_sound-2.ensures.order c.is_sound.ensures.order (c.leaving_law.ensures.one (system t old.setup))
+    let same = c.there_and_back_law.ensures.back m (length (composition (plan_of old.setup))) i (world_of m old) (world_of m new) (map step_of c.args.steps.now) (map answer_of c.loop-step.answers.items) law c.soundness_law.ensures.reached there in
+    let simulation = subst (λ p. IsSimulation (system t p) new) c.loop-step.invariant.setup c.soundness_law-2.ensures.simulation in
+    same_simulation (system t old.setup) old new c.soundness_law.ensures.simulation simulation c.loop-step.invariant.setup c.loop-step.invariant.keeps same c.soundness_law-2.ensures.order c.soundness_law.ensures.order (c.leaving_law.ensures.one (system t old.setup))
 
 pub returns-clause-stays : goal.returns-clause-stays
 returns-clause-stays g c =

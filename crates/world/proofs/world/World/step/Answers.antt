@@ -19,4 +19,4 @@ returns-clause-rises g c = λ lower upper other before after.
     let old = c.args.self.now in
     let m = machine_of t old.setup in
     let law = subst (λ p. Lawful (machine_of t p)) c.setup.ensures c.machine_is_lawful.ensures.lawful in
-    c.virtual_time_rises.ensures.rises m (length (composition (plan_of old.setup))) (world_of m old) (world_of m c.answer.new.self) (step_of c.args.step.now) (answer_of c.answer.result) lower upper law c.is_sound.ensures.sound c.answer.ensures.answers other before after
+    c.virtual_time_rises.ensures.rises m (length (composition (plan_of old.setup))) (world_of m old) (world_of m c.answer.new.self) (step_of c.args.step.now) (answer_of c.answer.result) lower upper law c.soundness_law.ensures.sound c.answer.ensures.answers other before after

@@ -5,7 +5,7 @@ use Rattle.virtual_time.specs.Bags.{IsSorted}
 use Rattle.task_seed.specs.Setups.{system}
 use Rattle.rollback.specs.Held.{Held, machine_of}
 use Rattle.rollback.proofs.Flight.{items_sorted}
-use Rattle.rollback.proofs.component.Component.is_in_order.Goals as goal
+use Rattle.rollback.proofs.component.Component.lists_law.Goals as goal
 
 pub returns-clause-pending : goal.returns-clause-pending
 returns-clause-pending g c =

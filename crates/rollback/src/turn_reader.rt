@@ -12,17 +12,17 @@ use task_seed::{KeyedTurn, Setup, Turn, Turns, Walk};
 /// A turn that was read, mostly the next one, and a walk from which those after it are read. So turns that are taken one after another are drawn
 /// one after another, without a jump along the generator's words; where turns were taken back, the next one is looked up.
 #[derive(Drop)]
-pub(crate) struct Ahead {
+pub(crate) struct TurnReader {
     pub(crate) read: Option<KeyedTurn>,
     pub(crate) walk: Option<Walk>,
 }
 
-impl Ahead {
+impl TurnReader {
     /// Nothing is read.
-    pub(crate) fn new() -> Ahead
+    pub(crate) fn new() -> TurnReader
         ensures { result ≡ record { read = None; walk = None } }
     {
-        Ahead {
+        TurnReader {
             read: None,
             walk: None,
         }

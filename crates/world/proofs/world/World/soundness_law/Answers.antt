@@ -7,7 +7,7 @@ use Rattle.rollback.specs.Held.{machine_of}
 use Rattle.world.specs.MachineLaws.{Laws}
 use Rattle.world.specs.Simulation.{Simulation, world_of}
 use Rattle.virtual_time.specs.Rules.{IsWorld}
-use Rattle.world.proofs.world.World.is_sound.Goals as goal
+use Rattle.world.proofs.world.World.soundness_law.Goals as goal
 
 pub returns-clause-reached : goal.returns-clause-reached
 returns-clause-reached g c =
