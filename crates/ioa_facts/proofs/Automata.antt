@@ -14,7 +14,7 @@ use Rattle.ioa_rules.specs.SourceRules.{definitions_faults, definitions_size, wi
 use Rattle.ioa_rules.specs.Meant.{IsWholeEntry, IsWholeAutomaton, IsWhole}
 use Rattle.ioa_facts.specs.Sound.{collide, IsSoundAutomaton}
 use Rattle.ioa_facts.proofs.NoFaults.{nil_left, nil_right}
-use Rattle.ioa_facts.proofs.Grown.{Alike, alike_self, alike_with}
+use Rattle.ioa_rules.proofs.ScopesMeant.{Alike, alike_self, alike_with}
 use Rattle.ioa_facts.proofs.Apart.{mapped_at}
 use Rattle.ioa_facts.proofs.Heads.{has_entry}
 use Rattle.ioa_facts.proofs.Entries.{kept}

@@ -13,7 +13,7 @@ use Rattle.ioa_rules.specs.Sizes.{entry_size, pre_size, transition_size}
 use Rattle.ioa_rules.specs.EffectRules.{statements_faults}
 use Rattle.ioa_rules.specs.EntryRules.{same_kind, agrees, same_parameters, entry_for, with_parameters, head_faults, pre_faults, transition_faults, transitions_faults}
 use Rattle.ioa_facts.proofs.NoFaults.{nil_left, nil_right, right_if, not_wrong}
-use Rattle.ioa_facts.proofs.SameHeads.{parameters_same}
+use Rattle.ioa_rules.proofs.SameHeads.{parameters_same}
 use Rattle.ioa_facts.proofs.Apart.{apart}
 
 kinds_same : (k l : EntryKind) → same_kind k l ≡ true → k ≡ l

@@ -1,12 +1,10 @@
 pub mod NoFaults
-pub mod SameHeads
 pub mod Apart
 pub mod Heads
 pub mod Entries
 pub mod Once
 pub mod Tally
 pub mod Partition
-pub mod Grown
 pub mod Within
 pub mod Slots
 pub mod Automata

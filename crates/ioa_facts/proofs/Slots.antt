@@ -12,7 +12,7 @@ use Rattle.ioa_rules.specs.TypeRules.{kind_of, type_faults}
 use Rattle.ioa_rules.specs.EntryRules.{with_parameter, sort_faults, parameters_faults, Slot, Free, formal_of, free_of, slots}
 use Rattle.ioa_facts.specs.Sound.{is_within, is_slot, is_listed}
 use Rattle.ioa_facts.proofs.NoFaults.{nil_left, nil_right, right_if, not_wrong}
-use Rattle.ioa_facts.proofs.Grown.{Alike, alike_parameter, kind_alike}
+use Rattle.ioa_rules.proofs.ScopesMeant.{Alike, alike_parameter, kind_alike}
 use Rattle.ioa_facts.proofs.Within.{may_stand, Within, within_with, kind_within}
 
 -- what is said of a parameter, of what is controlled or of an input

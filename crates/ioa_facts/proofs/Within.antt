@@ -9,7 +9,7 @@ use Rattle.ioa_rules.specs.TypeRules.{kind_of, seq_of, array_of}
 use Rattle.ioa_rules.specs.AutomatonRules.{with_formals}
 use Rattle.ioa_rules.specs.SourceRules.{with_members, with_definition, members_in, with_definitions, all_members}
 use Rattle.ioa_facts.specs.Sound.{is_within}
-use Rattle.ioa_facts.proofs.Grown.{Grown, grown}
+use Rattle.ioa_rules.proofs.ScopesMeant.{Grown, grown}
 
 -- nothing, or a kind within the members
 abbrev pub may_stand : ℕ → Option Kind → Bool

@@ -10,7 +10,7 @@ use Rattle.ioa_rules.specs.EntryRules.{formal_of}
 use Rattle.ioa_rules.specs.Meant.{AllMeant}
 
 -- of two look-ups the second is the first, or found this where there was nothing
-abbrev Grown : Option Meaning → Option Meaning → Meaning → Type 0
+abbrev pub Grown : Option Meaning → Option Meaning → Meaning → Type 0
 Grown x y m = (y ≡ x) ⊎ ((x ≡ None) × (y ≡ Some m))
 
 first_by : (b : Bool) (m : Meaning) → Grown None (cond b (Some m) None) m
@@ -25,7 +25,7 @@ grown_by : (c : Bool) (p : Bytes) (m : Meaning) (e : Bytes × Meaning) (es ds : 
 grown_by true p m e es ds h = inl refl
 grown_by false p m e es ds h = behind_by (bytes_eq p e.0) (Some e.1) (named p es) (named p ds) m h
 
-grown : (p q : Bytes) (m : Meaning) (s : Scope) → Grown (named p s) (named p (declare q m s)) m
+pub grown : (p q : Bytes) (m : Meaning) (s : Scope) → Grown (named p s) (named p (declare q m s)) m
 grown p q m [] = first_by (bytes_eq p q) m
 grown p q m (e ∷ es) = grown_by (bytes_eq q e.0) p m e es (declare q m es) (grown p q m es)
 
