@@ -9,3 +9,4 @@ pub mod Same
 pub mod SameLaws
 pub mod Core
 pub mod Walks
+pub mod Seen

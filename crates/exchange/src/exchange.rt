@@ -1,11 +1,10 @@
 //! What workers share.
-ghost use Rattle.std.specs.Prelude.{◌≡◌, ℕ, ◌≤◌, ◌<◌, ◌+◌, ◌↔◌, true, Some, IfOk, List, [], ◌∷◌, length, map, slice_get, option_map};
+ghost use Rattle.std.specs.Prelude.{◌≡◌, ℕ, ◌≤◌, ◌<◌, ◌+◌, ◌↔◌, true, Some, List, [], ◌∷◌, length, map, slice_get, option_map};
 ghost use Rattle.std.specs.Arc.{arc_value};
 ghost use Rattle.event_keys.specs.declared.key.Bound.TheVariants.{At, End};
 ghost use Rattle.event_keys.specs.Ranks.{rank_of_bound};
 ghost use Rattle.virtual_time.specs.Reference.{reference_below, point, turns_of};
 ghost use Rattle.virtual_time.specs.Exchange.Leases.{Lease as LeaseSeen};
-ghost use Rattle.virtual_time.specs.Exchange.Meetings.{IsCommit};
 ghost use Rattle.virtual_time.specs.Exchange.Stubs.{IsSound};
 ghost use Rattle.virtual_time.specs.Worlds.{Commit};
 ghost use Rattle.terms.specs.Datum.{Datum};
@@ -16,10 +15,10 @@ ghost use Rattle.task_seed.specs.Machines.{end_rank};
 ghost use Rattle.rollback.specs.Held.{machine_of};
 ghost use Rattle.gvt.specs.Least.{IsLeast};
 ghost use Rattle.exchange.specs.declared.stub.Stub.{Stub as StubValue};
-ghost use Rattle.exchange.specs.Core.{SimulatesSteps};
 ghost use Rattle.exchange.specs.Shared.{exchange_of, clear_until, has_mail, is_end, is_ended, passing, IsPassing, IsShared};
 ghost use Rattle.exchange.specs.Walks.{AreWalks};
 ghost use Rattle.std.specs.List.{list_all};
+ghost use Rattle.exchange.specs.Seen.{HasCommitted, Simulates};
 
 use crate::stub::Stub;
 use event_keys::laws::rank_law;
@@ -124,11 +123,11 @@ impl<T: Turns> Exchange<T> {
     ///
     /// It is one commit of the whole world that the exchange and its leases stand for, wherever these are.
     pub fn commit(&mut self) -> u64
-        ensures commit { IsCommit (machine_of T.turn_of self.old.setup) (exchange_of (machine_of T.turn_of self.old.setup) self.old) (exchange_of (machine_of T.turn_of self.old.setup) self.new) }
+        ensures commit { HasCommitted T.turn_of self.old self.new }
         ensures rest { self.new ≡ record self.old { bound = self.new.bound; stubs = self.new.stubs } }
         ensures stubs { (j : ℕ) → slice_get self.new.stubs j ≡ option_map (passing (system T.turn_of self.old.setup) (rank_of_bound self.new.bound) j) (slice_get self.old.stubs j) }
         ensures count { result ≡ length (reference_below (machine_of T.turn_of self.old.setup) (rank_of_bound self.new.bound)) }
-        ensures core { (leases : ℕ → LeaseSeen (List Datum) Named) → SimulatesSteps (machine_of T.turn_of self.old.setup) (λ steps. steps ≡ Commit (rank_of_bound self.new.bound) ∷ []) (exchange_of (machine_of T.turn_of self.old.setup) self.old) leases (exchange_of (machine_of T.turn_of self.old.setup) self.new) leases }
+        ensures core { (leases : ℕ → LeaseSeen (List Datum) Named) → Simulates T.turn_of self.old (λ steps. steps ≡ Commit (rank_of_bound self.new.bound) ∷ []) leases self.new leases }
     {
         machine_is_lawful(self.setup());
         exchange_is_core::<State, Action>();
@@ -137,7 +136,7 @@ impl<T: Turns> Exchange<T> {
     }
 
     fn raise_bound(&mut self) -> u64
-        ensures commit { IsCommit (machine_of T.turn_of self.old.setup) (exchange_of (machine_of T.turn_of self.old.setup) self.old) (exchange_of (machine_of T.turn_of self.old.setup) self.new) }
+        ensures commit { HasCommitted T.turn_of self.old self.new }
         ensures rest { self.new ≡ record self.old { bound = self.new.bound; stubs = self.new.stubs } }
         ensures stubs { (j : ℕ) → slice_get self.new.stubs j ≡ option_map (passing (system T.turn_of self.old.setup) (rank_of_bound self.new.bound) j) (slice_get self.old.stubs j) }
         ensures count { result ≡ length (reference_below (machine_of T.turn_of self.old.setup) (rank_of_bound self.new.bound)) }

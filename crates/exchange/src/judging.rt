@@ -2,11 +2,9 @@
 ghost use Rattle.std.specs.Prelude.{◌≡◌, ◌==◌, ◌↔◌, true, false, IfErr, IsOk, IsErrOf, None};
 ghost use Rattle.task_seed.specs.Setups.{system};
 ghost use Rattle.event_keys.specs.Ranks.{rank_of_bound};
-ghost use Rattle.virtual_time.specs.Exchange.Leases.{Matches};
 ghost use Rattle.rollback.specs.Held.{machine_of};
-ghost use Rattle.exchange.specs.Holding.{lease_of};
-ghost use Rattle.exchange.specs.Shared.{exchange_of};
 ghost use Rattle.exchange.specs.Known.{IsKnown};
+ghost use Rattle.exchange.specs.Seen.{Knows};
 
 use crate::exchange::Exchange;
 use crate::lease::Lease;
@@ -76,7 +74,7 @@ impl<T: Turns> Exchange<T> {
     /// Whether a lease can meet the exchange: exactly where its setup is the exchange's (else 40), and base, floor, taken messages and
     /// standing sends are those that are kept of its component (else 41).
     pub fn judge(&self, lease: &Lease<T>) -> Result<(), MeetRefused>
-        ensures ok { IsOk result ↔ ((⟦<Setup<T> as PartialEq>⟧.eq self.now.setup lease.now.component.setup ≡ true) × Matches (machine_of T.turn_of self.now.setup) lease.now.component.number ((exchange_of (machine_of T.turn_of self.now.setup) self.now).stub lease.now.component.number) (lease_of lease.now)) }
+        ensures ok { IsOk result ↔ ((⟦<Setup<T> as PartialEq>⟧.eq self.now.setup lease.now.component.setup ≡ true) × Knows T.turn_of self.now lease.now) }
         ensures other { IsErrOf result MeetRefused.OtherSetup ↔ (⟦<Setup<T> as PartialEq>⟧.eq self.now.setup lease.now.component.setup ≡ false) }
     {
         if !self.is_own(lease) {
@@ -98,7 +96,7 @@ impl<T: Turns> Exchange<T> {
     // The same of a lease whose setup means what the exchange's does.
     pub(crate) fn judge_own(&self, lease: &Lease<T>) -> Result<(), MeetRefused>
         requires same { system T.turn_of self.now.setup ≡ system T.turn_of lease.now.component.setup }
-        ensures ok { IsOk result ↔ Matches (machine_of T.turn_of self.now.setup) lease.now.component.number ((exchange_of (machine_of T.turn_of self.now.setup) self.now).stub lease.now.component.number) (lease_of lease.now) }
+        ensures ok { IsOk result ↔ Knows T.turn_of self.now lease.now }
         ensures stranger { IfErr result (λ refused. refused ≡ MeetRefused.Stranger) }
     {
         let Some(stub) = self.stubs.get(usize::from(lease.component.number())) else {

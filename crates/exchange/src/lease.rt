@@ -1,20 +1,18 @@
 //! Leases: components that workers hold, away from what they share.
-ghost use Rattle.std.specs.Prelude.{◌≡◌, ◌≤◌, ◌<◌, ◌-◌, ◌^◌, [], length, min, replicate, true, false, None, IfOk, OnOk, OnErr, IfErr, IsErrOf, IsSomeAnd, ◌↔◌, ◌⊎◌};
+ghost use Rattle.std.specs.Prelude.{◌≡◌, ◌≤◌, ◌<◌, ◌-◌, ◌^◌, [], length, min, replicate, true, false, None, IfOk, OnOk, OnErr, IsErrOf, ◌↔◌, ◌⊎◌};
 ghost use Rattle.antimessage.specs.Bags.{least_of};
-ghost use Rattle.event_keys.specs.declared.message.Sign.TheVariants.{Plus};
-ghost use Rattle.event_keys.specs.Ranks.{rank, rank_of_bound};
-ghost use Rattle.virtual_time.specs.Entries.{entry_key};
-ghost use Rattle.virtual_time.specs.Records.{next_of};
+ghost use Rattle.event_keys.specs.Ranks.{rank_of_bound};
 ghost use Rattle.raw_events.specs.Around.{is_nonempty};
-ghost use Rattle.rollback.specs.Held.{machine_of, next_key, is_last_idle, processed, sent_next};
-ghost use Rattle.rollback.specs.Post.{IsPosted};
+ghost use Rattle.rollback.specs.Held.{machine_of, next_key, is_last_idle, processed};
 ghost use Rattle.event_keys.specs.declared.message.Signed.{Signed as SignedValue};
-ghost use Rattle.exchange.specs.Core.{Moves, StaysKnown, deliveries};
+ghost use Rattle.exchange.specs.Core.{StaysKnown, deliveries};
 ghost use Rattle.exchange.specs.Holding.{IsAhead, IsDelivered, IsHolding, AllDelivered, lease_of};
 ghost use Rattle.plans.specs.Plans.{composition};
 ghost use Rattle.task_seed.specs.Setups.{plan_of};
 ghost use Rattle.virtual_time.specs.Exchange.Leases.{IsLease};
 ghost use Rattle.virtual_time.specs.Worlds.{Process};
+ghost use Rattle.exchange.specs.Seen.{MovesBy};
+ghost use Rattle.rollback.specs.Stepped.{HasNextKey, IsNextSent, next_entry};
 
 use antimessage::Bag;
 use event_keys::{Bound, Key};
@@ -85,7 +83,7 @@ impl<T: Turns> Lease<T> {
 
     /// The key of the entry that is done next, or the end where there is none.
     pub fn next(&self) -> Bound
-        ensures { rank_of_bound result ≡ next_key (machine_of T.turn_of self.now.component.setup) (next_of (machine_of T.turn_of self.now.component.setup) self.now.component.number self.now.component.history) }
+        ensures { rank_of_bound result ≡ next_key (machine_of T.turn_of self.now.component.setup) (next_entry T.turn_of self.now.component) }
     {
         self.component.next()
     }
@@ -125,8 +123,8 @@ impl<T: Turns> Lease<T> {
     pub fn run_ahead(&mut self, alloc: Global, budget: u32) -> Result<u32, NoMemory>
         ensures ahead { IfOk result (λ count. IsAhead (machine_of T.turn_of self.old.component.setup) self.old self.new count) }
         ensures most { IfOk result (λ count. count ≤ budget) }
-        ensures none { IfOk result (λ count. count ≡ 0 → (budget ≡ 0) ⊎ (next_of (machine_of T.turn_of self.old.component.setup) self.old.component.number self.old.component.history ≡ None)) }
-        ensures moves { IfOk result (λ count. Moves (machine_of T.turn_of self.old.component.setup) self.old.component.number (replicate count (Process self.old.component.number)) (lease_of self.old) (lease_of self.new)) }
+        ensures none { IfOk result (λ count. count ≡ 0 → (budget ≡ 0) ⊎ (next_entry T.turn_of self.old.component ≡ None)) }
+        ensures moves { IfOk result (λ count. MovesBy T.turn_of self.old (replicate count (Process self.old.component.number)) self.new) }
         ensures known { StaysKnown (machine_of T.turn_of self.old.component.setup) self.old.component.number (lease_of self.old) (lease_of self.new) }
         ensures kept { OnErr result (self.new ≡ self.old) }
     {
@@ -146,7 +144,7 @@ impl<T: Turns> Lease<T> {
         ensures delivered { AllDelivered (machine_of T.turn_of self.old.component.setup) self.old self.old.tray self.new }
         ensures tray { self.new.tray ≡ [] }
         ensures count { result ≡ min (length self.old.tray) (2 ^ 64 - 1) }
-        ensures moves { Moves (machine_of T.turn_of self.old.component.setup) self.old.component.number (deliveries self.old.component.number self.old.tray) (lease_of self.old) (lease_of self.new) }
+        ensures moves { MovesBy T.turn_of self.old (deliveries self.old.component.number self.old.tray) self.new }
         ensures known { StaysKnown (machine_of T.turn_of self.old.component.setup) self.old.component.number (lease_of self.old) (lease_of self.new) }
     {
         machine_is_lawful(self.setup());
@@ -169,7 +167,7 @@ impl<T: Turns> Lease<T> {
     fn process_some(&mut self, alloc: Global, budget: u32) -> Result<u32, NoMemory>
         ensures ahead { IfOk result (λ count. IsAhead (machine_of T.turn_of self.old.component.setup) self.old self.new count) }
         ensures most { IfOk result (λ count. count ≤ budget) }
-        ensures none { IfOk result (λ count. count ≡ 0 → (budget ≡ 0) ⊎ (next_of (machine_of T.turn_of self.old.component.setup) self.old.component.number self.old.component.history ≡ None)) }
+        ensures none { IfOk result (λ count. count ≡ 0 → (budget ≡ 0) ⊎ (next_entry T.turn_of self.old.component ≡ None)) }
         ensures kept { OnErr result (self.new ≡ self.old) }
     {
         run_law::<State>();
@@ -213,11 +211,11 @@ impl<T: Turns> Lease<T> {
 
     // Does the component's next entry.
     fn process_next(&mut self, alloc: Global) -> Result<Key, ProcessRefused>
-        ensures key { IfOk result (λ key. IsSomeAnd (next_of (machine_of T.turn_of self.old.component.setup) self.old.component.number self.old.component.history) (λ entry. entry_key entry ≡ rank key)) }
-        ensures record { OnOk result (self.new.component.history ≡ processed (next_of (machine_of T.turn_of self.old.component.setup) self.old.component.number self.old.component.history) self.old.component.history) }
-        ensures sent { OnOk result (IsPosted Plus (sent_next (machine_of T.turn_of self.old.component.setup) self.old.component.number (next_of (machine_of T.turn_of self.old.component.setup) self.old.component.number self.old.component.history)) self.old.out self.new.out) }
+        ensures key { IfOk result (λ key. HasNextKey T.turn_of self.old.component key) }
+        ensures record { OnOk result (self.new.component.history ≡ processed (next_entry T.turn_of self.old.component) self.old.component.history) }
+        ensures sent { OnOk result (IsNextSent T.turn_of self.old.component self.old.out self.new.out) }
         ensures rest { self.new ≡ record self.old { component = record self.old.component { history = self.new.component.history }; out = self.new.out; copies = self.new.copies } }
-        ensures nothing { IsErrOf result ProcessRefused.NothingPending ↔ (next_of (machine_of T.turn_of self.old.component.setup) self.old.component.number self.old.component.history ≡ None) }
+        ensures nothing { IsErrOf result ProcessRefused.NothingPending ↔ (next_entry T.turn_of self.old.component ≡ None) }
         ensures kept { OnErr result (self.new ≡ self.old) }
     {
         machine_is_lawful(self.component.setup());

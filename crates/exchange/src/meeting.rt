@@ -3,19 +3,18 @@ ghost use Rattle.std.specs.Prelude.{◌≡◌, ◌↔◌, ◌++◌, ℕ, List, S
 ghost use Rattle.event_keys.specs.Ranks.{rank_of_bound};
 ghost use Rattle.antimessage.specs.Bags.{insert_all};
 ghost use Rattle.antimessage.specs.Counts.{Each};
-ghost use Rattle.virtual_time.specs.Exchange.Leases.{IsFloor, Lease as LeaseSeen, Matches};
-ghost use Rattle.virtual_time.specs.Exchange.Meetings.{Met};
+ghost use Rattle.virtual_time.specs.Exchange.Leases.{IsFloor, Lease as LeaseSeen};
 ghost use Rattle.virtual_time.specs.Exchange.Wholes.{put_lease};
 ghost use Rattle.terms.specs.Datum.{Datum};
 ghost use Rattle.terms.specs.Named.{Named};
-ghost use Rattle.exchange.specs.Core.{AreMeetings, SimulatesSteps};
+ghost use Rattle.exchange.specs.Core.{AreMeetings};
 ghost use Rattle.plans.specs.Plans.{composition};
 ghost use Rattle.task_seed.specs.Setups.{plan_of, system};
 ghost use Rattle.rollback.specs.Held.{machine_of};
 ghost use Rattle.exchange.specs.declared.stub.Stub.{Stub as StubValue};
 ghost use Rattle.exchange.specs.Holding.{part_of, lease_of};
-ghost use Rattle.exchange.specs.Shared.{exchange_of};
 ghost use Rattle.exchange.specs.Moving.{first_receiver, HasCome, IsBrought, IsSent, IsArrived, IsHandedOver, IsForgotten, IsReached, IsPassedOn};
+ghost use Rattle.exchange.specs.Seen.{HaveMet, Knows, Simulates};
 
 use crate::exchange::Exchange;
 use crate::judging::MeetRefused;
@@ -190,11 +189,11 @@ impl<T: Turns> Exchange<T> {
     /// In the whole world that the exchange and its leases stand for, wherever these are, messages meet their antimessages, and nothing else
     /// happens.
     pub fn meet(&mut self, lease: &mut Lease<T>) -> Result<Bound, MeetRefused>
-        ensures ok { IsOk result ↔ ((⟦<Setup<T> as PartialEq>⟧.eq self.old.setup lease.old.component.setup ≡ true) × Matches (machine_of T.turn_of self.old.setup) lease.old.component.number ((exchange_of (machine_of T.turn_of self.old.setup) self.old).stub lease.old.component.number) (lease_of lease.old)) }
+        ensures ok { IsOk result ↔ ((⟦<Setup<T> as PartialEq>⟧.eq self.old.setup lease.old.component.setup ≡ true) × Knows T.turn_of self.old lease.old) }
         ensures other { IsErrOf result MeetRefused.OtherSetup ↔ (⟦<Setup<T> as PartialEq>⟧.eq self.old.setup lease.old.component.setup ≡ false) }
         ensures bound { IfOk result (λ bound. bound ≡ self.old.bound) }
-        ensures met { OnOk result (Met (machine_of T.turn_of self.old.setup) lease.old.component.number (exchange_of (machine_of T.turn_of self.old.setup) self.old) (lease_of lease.old) (exchange_of (machine_of T.turn_of self.old.setup) self.new) (lease_of lease.new)) }
-        ensures core { OnOk result ((leases : ℕ → LeaseSeen (List Datum) Named) → leases lease.old.component.number ≡ lease_of lease.old → SimulatesSteps (machine_of T.turn_of self.old.setup) AreMeetings (exchange_of (machine_of T.turn_of self.old.setup) self.old) leases (exchange_of (machine_of T.turn_of self.old.setup) self.new) (put_lease lease.old.component.number (lease_of lease.new) leases)) }
+        ensures met { OnOk result (HaveMet T.turn_of self.old lease.old self.new lease.new) }
+        ensures core { OnOk result ((leases : ℕ → LeaseSeen (List Datum) Named) → leases lease.old.component.number ≡ lease_of lease.old → Simulates T.turn_of self.old AreMeetings leases self.new (put_lease lease.old.component.number (lease_of lease.new) leases)) }
         ensures rest { self.new ≡ record self.old { stubs = self.new.stubs; held = self.new.held } }
         ensures same { OnOk result ((lease.new.component.setup ≡ lease.old.component.setup) × (lease.new.component.number ≡ lease.old.component.number)) }
         ensures kept { OnErr result ((self.new ≡ self.old) × (lease.new ≡ lease.old)) }
@@ -210,11 +209,11 @@ impl<T: Turns> Exchange<T> {
     /// lease's component (41); a refusal changes neither. It takes no memory.
     pub fn meet_own(&mut self, lease: &mut Lease<T>) -> Result<Bound, MeetRefused>
         requires own { system T.turn_of self.old.setup ≡ system T.turn_of lease.old.component.setup }
-        ensures ok { IsOk result ↔ Matches (machine_of T.turn_of self.old.setup) lease.old.component.number ((exchange_of (machine_of T.turn_of self.old.setup) self.old).stub lease.old.component.number) (lease_of lease.old) }
+        ensures ok { IsOk result ↔ Knows T.turn_of self.old lease.old }
         ensures stranger { IfErr result (λ refused. refused ≡ MeetRefused.Stranger) }
         ensures bound { IfOk result (λ bound. bound ≡ self.old.bound) }
-        ensures met { OnOk result (Met (machine_of T.turn_of self.old.setup) lease.old.component.number (exchange_of (machine_of T.turn_of self.old.setup) self.old) (lease_of lease.old) (exchange_of (machine_of T.turn_of self.old.setup) self.new) (lease_of lease.new)) }
-        ensures core { OnOk result ((leases : ℕ → LeaseSeen (List Datum) Named) → leases lease.old.component.number ≡ lease_of lease.old → SimulatesSteps (machine_of T.turn_of self.old.setup) AreMeetings (exchange_of (machine_of T.turn_of self.old.setup) self.old) leases (exchange_of (machine_of T.turn_of self.old.setup) self.new) (put_lease lease.old.component.number (lease_of lease.new) leases)) }
+        ensures met { OnOk result (HaveMet T.turn_of self.old lease.old self.new lease.new) }
+        ensures core { OnOk result ((leases : ℕ → LeaseSeen (List Datum) Named) → leases lease.old.component.number ≡ lease_of lease.old → Simulates T.turn_of self.old AreMeetings leases self.new (put_lease lease.old.component.number (lease_of lease.new) leases)) }
         ensures rest { self.new ≡ record self.old { stubs = self.new.stubs; held = self.new.held } }
         ensures same { OnOk result ((lease.new.component.setup ≡ lease.old.component.setup) × (lease.new.component.number ≡ lease.old.component.number)) }
         ensures kept { OnErr result ((self.new ≡ self.old) × (lease.new ≡ lease.old)) }
@@ -230,9 +229,9 @@ impl<T: Turns> Exchange<T> {
     // The meeting, where the lease is known.
     fn accept(&mut self, lease: &mut Lease<T>) -> Bound
         requires same { system T.turn_of self.old.setup ≡ system T.turn_of lease.old.component.setup }
-        requires matches { Matches (machine_of T.turn_of self.old.setup) lease.old.component.number ((exchange_of (machine_of T.turn_of self.old.setup) self.old).stub lease.old.component.number) (lease_of lease.old) }
+        requires matches { Knows T.turn_of self.old lease.old }
         ensures bound { result ≡ self.old.bound }
-        ensures met { Met (machine_of T.turn_of self.old.setup) lease.old.component.number (exchange_of (machine_of T.turn_of self.old.setup) self.old) (lease_of lease.old) (exchange_of (machine_of T.turn_of self.old.setup) self.new) (lease_of lease.new) }
+        ensures met { HaveMet T.turn_of self.old lease.old self.new lease.new }
         ensures rest { self.new ≡ record self.old { stubs = self.new.stubs; held = self.new.held } }
         ensures same { (lease.new.component.setup ≡ lease.old.component.setup) × (lease.new.component.number ≡ lease.old.component.number) }
     {

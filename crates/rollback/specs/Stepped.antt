@@ -3,13 +3,14 @@ use Rattle.std.specs.Prelude.{◌≡◌, ℕ, List, Option, Some, IsSomeAnd}
 use Rattle.terms.specs.Datum.{Datum}
 use Rattle.terms.specs.Named.{Named}
 use Rattle.event_keys.specs.declared.key.Key.{Key}
-use Rattle.event_keys.specs.declared.message.Sign.TheVariants.{Plus}
+use Rattle.event_keys.specs.declared.message.Sign.TheVariants.{Plus, Minus}
 use Rattle.event_keys.specs.declared.message.Signed.{Signed}
 use Rattle.event_keys.specs.declared.outcome.Turned.{Turned}
 use Rattle.event_keys.specs.Entries.{action_of}
 use Rattle.event_keys.specs.Ranks.{rank}
 use Rattle.virtual_time.specs.Entries.{Entry, Own, entry_key, number}
-use Rattle.virtual_time.specs.Records.{Record, next_of}
+use Rattle.virtual_time.specs.Machine.{Machine}
+use Rattle.virtual_time.specs.Records.{Record, next_of, unsent}
 use Rattle.task_seed.specs.declared.setup.Setup.{Setup}
 use Rattle.task_seed.specs.declared.turns.Turn.{Turn}
 use Rattle.task_seed.specs.Machines.{machine}
@@ -44,3 +45,11 @@ module _ {T : Type 0} (turn_of : T → ℕ → ℕ → Option Turn) (c : Held (S
   -- a bag gained what its next entry sends
   abbrev pub IsNextSent : List Signed → List Signed → Type 0
   IsNextSent = IsPosted Plus (sent_next (machine_of turn_of c.setup) c.number next_entry)
+
+  -- the machine of its setup
+  abbrev pub machine_at : Machine (List Datum) Named
+  machine_at = machine_of turn_of c.setup
+
+  -- a bag gained an antimessage of all that these entries of it sent
+  abbrev pub IsUnsent : List (Entry Named) → List Signed → List Signed → Type 0
+  IsUnsent entries = IsPosted Minus (unsent machine_at c.number entries)

@@ -1,32 +1,27 @@
 //! One component: what it has done, what waits, and its state.
-ghost use Rattle.std.specs.Prelude.{◌≡◌, ◌<◌, ◌+◌, ◌∷◌, ◌↔◌, [], None, Some, IfSome, true, length, IfOk, OnOk, OnErr, IsErrOf, IsTrue, IsSomeAnd, is_some, not, option_map};
+ghost use Rattle.std.specs.Prelude.{◌≡◌, ◌<◌, ◌+◌, ◌∷◌, ◌↔◌, [], None, Some, IfSome, true, length, IfOk, OnOk, OnErr, IsErrOf, IsTrue, is_some, not, option_map};
 ghost use Rattle.std.specs.Arc.{arc_value};
 ghost use Rattle.event_keys.specs.declared.key.Bound.TheVariants.{At};
-ghost use Rattle.event_keys.specs.declared.message.Sign.TheVariants.{Plus, Minus};
 ghost use Rattle.event_keys.specs.Entries.{action_of};
 ghost use Rattle.event_keys.specs.Ranks.{rank, rank_of_bound};
 ghost use Rattle.raw_events.specs.Around.{is_nonempty};
 ghost use Rattle.plans.specs.Plans.{composition};
 ghost use Rattle.virtual_time.specs.Bags.{IsSorted};
-ghost use Rattle.virtual_time.specs.Entries.{entry_key};
-ghost use Rattle.virtual_time.specs.Records.{next_of, roll_back_of, unsent};
+ghost use Rattle.virtual_time.specs.Records.{roll_back_of};
 ghost use Rattle.task_seed.specs.Setups.{plan_of};
-ghost use Rattle.rollback.specs.declared.refused.ProcessRefused.TheVariants.{NoMemory as OutOfMemory};
-ghost use Rattle.task_seed.specs.Machines.{end_rank};
 ghost use Rattle.task_seed.specs.Setups.{system};
 ghost use Rattle.task_seed.specs.Turning.{key_of};
-ghost use Rattle.rollback.specs.Held.{machine_of, processed, sent_next, next_key, last_key, last_of, is_last_idle, is_receiving, is_turning, start_record};
+ghost use Rattle.rollback.specs.Held.{machine_of, processed, next_key, last_key, last_of, is_last_idle, is_receiving, is_turning, start_record};
 ghost use Rattle.rollback.specs.Kept.{IsSmall, entry_of, turn_receivers};
-ghost use Rattle.rollback.specs.Post.{IsPosted};
-ghost use Rattle.rollback.specs.Stepped.{next_entry, HasNextKey, stepped, IsNextSent, IsNextTurn};
+ghost use Rattle.rollback.specs.Stepped.{HasNextKey, IsNextSent, IsNextTurn, IsUnsent, machine_at, next_entry, stepped};
 
-use crate::turn_reader::TurnReader;
-use message_balance::Done;
 use crate::growth::{outcome_at, post_all, receivers_of_turn, take_input, take_turn};
 use crate::keys::{fits, is_below, key_of};
 use crate::refused::ProcessRefused;
+use crate::turn_reader::TurnReader;
 use antimessage::Bag;
 use event_keys::{Bound, Key, Outcome, Signed, Turned};
+use message_balance::Done;
 use plans::laws::receivers_law;
 use raw_events::EventList;
 use std::alloc::Global;
@@ -132,15 +127,15 @@ impl<T: Turns> Component<T> {
 
     /// The pending inputs and the owed antimessages are in order. The call does nothing.
     pub fn lists_law(&self)
-        ensures pending { IsSorted (machine_of T.turn_of self.now.setup) self.now.history.pending }
-        ensures owed { IsSorted (machine_of T.turn_of self.now.setup) self.now.history.owed }
+        ensures pending { IsSorted (machine_at T.turn_of self.now) self.now.history.pending }
+        ensures owed { IsSorted (machine_at T.turn_of self.now) self.now.history.owed }
     {
         let _pending = self.pending.peek_next();
     }
 
     /// The key of the entry that is processed next, or the end where there is none.
     pub fn next(&self) -> Bound
-        ensures { rank_of_bound result ≡ next_key (machine_of T.turn_of self.now.setup) (next_of (machine_of T.turn_of self.now.setup) self.now.number self.now.history) }
+        ensures { rank_of_bound result ≡ next_key (machine_at T.turn_of self.now) (next_entry T.turn_of self.now) }
     {
         if self.is_input_next() {
             return match self.pending.peek_next() {
@@ -177,7 +172,7 @@ impl<T: Turns> Component<T> {
 
     // Whether the next entry is the first pending input.
     pub(crate) fn is_input_next(&self) -> bool
-        ensures { result ≡ is_receiving (next_of (machine_of T.turn_of self.now.setup) self.now.number self.now.history) }
+        ensures { result ≡ is_receiving (next_entry T.turn_of self.now) }
     {
         match (self.pending.peek_next(), self.coming) {
             (None, _) => false,
@@ -189,10 +184,10 @@ impl<T: Turns> Component<T> {
     /// Does the next entry, and posts a message for each receiver of what a turn did. The answer is the entry's key. A refusal
     /// leaves the component and the bag.
     pub fn process(&mut self, alloc: Global, out: &mut Bag) -> Result<Key, ProcessRefused>
-        ensures key { IfOk result (λ key. IsSomeAnd (next_of (machine_of T.turn_of self.old.setup) self.old.number self.old.history) (λ entry. entry_key entry ≡ rank key)) }
-        ensures record { OnOk result (self.new ≡ record self.old { history = processed (next_of (machine_of T.turn_of self.old.setup) self.old.number self.old.history) self.old.history }) }
-        ensures sent { OnOk result (IsPosted Plus (sent_next (machine_of T.turn_of self.old.setup) self.old.number (next_of (machine_of T.turn_of self.old.setup) self.old.number self.old.history)) out.old out.new) }
-        ensures nothing { IsErrOf result ProcessRefused.NothingPending ↔ (next_of (machine_of T.turn_of self.old.setup) self.old.number self.old.history ≡ None) }
+        ensures key { IfOk result (λ key. HasNextKey T.turn_of self.old key) }
+        ensures record { OnOk result (self.new ≡ stepped T.turn_of self.old) }
+        ensures sent { OnOk result (IsNextSent T.turn_of self.old out.old out.new) }
+        ensures nothing { IsErrOf result ProcessRefused.NothingPending ↔ (next_entry T.turn_of self.old ≡ None) }
         ensures kept { OnErr result (self.new ≡ self.old) }
         ensures out_kept { OnErr result (out.new ≡ out.old) }
     {
@@ -295,8 +290,8 @@ impl<T: Turns> Component<T> {
     /// Takes the last done entry back, and posts an antimessage for each message that it sent. The answer is false where
     /// nothing is done.
     pub fn roll_back(&mut self, out: &mut Bag) -> bool
-        ensures record { self.new ≡ record self.old { history = roll_back_of (machine_of T.turn_of self.old.setup) self.old.history } }
-        ensures sent { IsPosted Minus (unsent (machine_of T.turn_of self.old.setup) self.old.number (last_of self.old.history.done)) out.old out.new }
+        ensures record { self.new ≡ record self.old { history = roll_back_of (machine_at T.turn_of self.old) self.old.history } }
+        ensures sent { IsUnsent T.turn_of self.old (last_of self.old.history.done) out.old out.new }
         ensures answer { result ≡ is_nonempty self.old.history.done }
     {
         receivers_law();

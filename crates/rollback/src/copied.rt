@@ -1,12 +1,8 @@
 //! Steps that copy what they send.
-ghost use Rattle.std.specs.Prelude.{◌≡◌, ◌↔◌, [], None, IfOk, OnOk, OnErr, IsErrOf, IsTrue, IsSomeAnd};
+ghost use Rattle.std.specs.Prelude.{◌≡◌, ◌↔◌, [], None, IfOk, OnOk, OnErr, IsErrOf, IsTrue};
 ghost use Rattle.event_keys.specs.declared.message.Sign.TheVariants.{Plus};
-ghost use Rattle.event_keys.specs.Ranks.{rank};
-ghost use Rattle.virtual_time.specs.Entries.{entry_key};
-ghost use Rattle.virtual_time.specs.Records.{next_of};
-ghost use Rattle.rollback.specs.Held.{machine_of, processed, sent_next, is_turning};
-ghost use Rattle.rollback.specs.Post.{IsPosted};
-ghost use Rattle.rollback.specs.Stepped.{next_entry, HasNextKey, stepped, IsNextSent};
+ghost use Rattle.rollback.specs.Held.{is_turning};
+ghost use Rattle.rollback.specs.Stepped.{HasNextKey, IsNextSent, next_entry, stepped};
 
 use crate::component::Component;
 use crate::growth::{messages_to, post_all, receivers_of_turn};
@@ -50,12 +46,12 @@ impl<T: Turns> Component<T> {
         out: &mut Bag,
         copies: &mut Copies,
     ) -> Result<Key, ProcessRefused>
-        ensures key { IfOk result (λ key. IsSomeAnd (next_of (machine_of T.turn_of self.old.setup) self.old.number self.old.history) (λ entry. entry_key entry ≡ rank key)) }
-        ensures record { OnOk result (self.new ≡ record self.old { history = processed (next_of (machine_of T.turn_of self.old.setup) self.old.number self.old.history) self.old.history }) }
-        ensures sent { OnOk result (IsPosted Plus (sent_next (machine_of T.turn_of self.old.setup) self.old.number (next_of (machine_of T.turn_of self.old.setup) self.old.number self.old.history)) out.old out.new) }
-        ensures of_sender { OnOk result (IsPosted Plus (sent_next (machine_of T.turn_of self.old.setup) self.old.number (next_of (machine_of T.turn_of self.old.setup) self.old.number self.old.history)) copies.old.of_sender copies.new.of_sender) }
-        ensures of_receiver { OnOk result (IsPosted Plus (sent_next (machine_of T.turn_of self.old.setup) self.old.number (next_of (machine_of T.turn_of self.old.setup) self.old.number self.old.history)) copies.old.of_receiver copies.new.of_receiver) }
-        ensures nothing { IsErrOf result ProcessRefused.NothingPending ↔ (next_of (machine_of T.turn_of self.old.setup) self.old.number self.old.history ≡ None) }
+        ensures key { IfOk result (λ key. HasNextKey T.turn_of self.old key) }
+        ensures record { OnOk result (self.new ≡ stepped T.turn_of self.old) }
+        ensures sent { OnOk result (IsNextSent T.turn_of self.old out.old out.new) }
+        ensures of_sender { OnOk result (IsNextSent T.turn_of self.old copies.old.of_sender copies.new.of_sender) }
+        ensures of_receiver { OnOk result (IsNextSent T.turn_of self.old copies.old.of_receiver copies.new.of_receiver) }
+        ensures nothing { IsErrOf result ProcessRefused.NothingPending ↔ (next_entry T.turn_of self.old ≡ None) }
         ensures kept { OnErr result (self.new ≡ self.old) }
         ensures out_kept { OnErr result (out.new ≡ out.old) }
         ensures copies_kept { OnErr result (copies.new ≡ copies.old) }

@@ -7,18 +7,19 @@ ghost use Rattle.antimessage.specs.Bags.{is_one, insert as insert_one, remove as
 ghost use Rattle.antimessage.specs.Order.{Fits, IsInOrder};
 ghost use Rattle.virtual_time.specs.Bags.{insert, remove, has, inputs};
 ghost use Rattle.virtual_time.specs.Entries.{latest};
-ghost use Rattle.virtual_time.specs.Records.{back_at, back_by_message, back_by_antimessage, back_until, before_last, later, not_later, message_comes, antimessage_comes, unsent};
+ghost use Rattle.virtual_time.specs.Records.{back_at, back_by_message, back_by_antimessage, back_until, before_last, later, not_later, message_comes, antimessage_comes};
 ghost use Rattle.rollback.specs.Falling.{Falls};
 ghost use Rattle.rollback.specs.Flight.{goes, item_of};
-ghost use Rattle.rollback.specs.Held.{machine_of, comes, back_by, is_last_later, is_last_another};
+ghost use Rattle.rollback.specs.Held.{comes, back_by, is_last_later, is_last_another};
 ghost use Rattle.rollback.specs.Kept.{IsTimed, entries_of, is_done_later, is_entry_input, is_first_another, is_first_input, is_first_passed, is_any_input, is_first_greater};
-ghost use Rattle.rollback.specs.Post.{IsPosted, opposite, opposed};
+ghost use Rattle.rollback.specs.Post.{opposite, opposed};
+ghost use Rattle.rollback.specs.Stepped.{IsUnsent, machine_at};
 
 use crate::component::Component;
-use message_balance::Done;
 use crate::keys::{fits, is_below, key_of};
 use antimessage::Bag;
 use event_keys::{Sign, Signed};
+use message_balance::Done;
 use raw_events::{EventCell, EventList};
 use task_seed::Turns;
 
@@ -96,9 +97,9 @@ impl<T: Turns> Component<T> {
     /// number of the entries that were taken back.
     pub fn deliver(&mut self, cell: EventCell<Signed>, out: &mut Bag) -> u64
         requires { cell.message.to ≡ self.old.number }
-        ensures record { self.new ≡ record self.old { history = comes (machine_of T.turn_of self.old.setup) cell.sign (item_of cell) self.old.history } }
-        ensures sent { IsPosted Minus (unsent (machine_of T.turn_of self.old.setup) self.old.number (back_by (machine_of T.turn_of self.old.setup) cell.sign (item_of cell) self.old.history)) out.old out.new }
-        ensures count { result ≡ length (back_by (machine_of T.turn_of self.old.setup) cell.sign (item_of cell) self.old.history) }
+        ensures record { self.new ≡ record self.old { history = comes (machine_at T.turn_of self.old) cell.sign (item_of cell) self.old.history } }
+        ensures sent { IsUnsent T.turn_of self.old (back_by (machine_at T.turn_of self.old) cell.sign (item_of cell) self.old.history) out.old out.new }
+        ensures count { result ≡ length (back_by (machine_at T.turn_of self.old) cell.sign (item_of cell) self.old.history) }
     {
         match cell.value().sign {
             Sign::Plus => self.deliver_message(cell, out),
@@ -108,9 +109,9 @@ impl<T: Turns> Component<T> {
 
     fn deliver_message(&mut self, mut cell: EventCell<Signed>, out: &mut Bag) -> u64
         requires { goes Plus self.old.number cell ≡ true }
-        ensures record { self.new ≡ record self.old { history = message_comes (machine_of T.turn_of self.old.setup) (item_of cell) self.old.history } }
-        ensures sent { IsPosted Minus (unsent (machine_of T.turn_of self.old.setup) self.old.number (back_by_message (machine_of T.turn_of self.old.setup) (item_of cell) self.old.history)) out.old out.new }
-        ensures count { result ≡ length (back_by_message (machine_of T.turn_of self.old.setup) (item_of cell) self.old.history) }
+        ensures record { self.new ≡ record self.old { history = message_comes (machine_at T.turn_of self.old) (item_of cell) self.old.history } }
+        ensures sent { IsUnsent T.turn_of self.old (back_by_message (machine_at T.turn_of self.old) (item_of cell) self.old.history) out.old out.new }
+        ensures count { result ≡ length (back_by_message (machine_at T.turn_of self.old) (item_of cell) self.old.history) }
     {
         if self.take_owed(&mut cell) {
             return 0;
@@ -124,9 +125,9 @@ impl<T: Turns> Component<T> {
 
     fn deliver_antimessage(&mut self, mut cell: EventCell<Signed>, out: &mut Bag) -> u64
         requires { goes Minus self.old.number cell ≡ true }
-        ensures record { self.new ≡ record self.old { history = antimessage_comes (machine_of T.turn_of self.old.setup) (item_of cell) self.old.history } }
-        ensures sent { IsPosted Minus (unsent (machine_of T.turn_of self.old.setup) self.old.number (back_by_antimessage (machine_of T.turn_of self.old.setup) (item_of cell) self.old.history)) out.old out.new }
-        ensures count { result ≡ length (back_by_antimessage (machine_of T.turn_of self.old.setup) (item_of cell) self.old.history) }
+        ensures record { self.new ≡ record self.old { history = antimessage_comes (machine_at T.turn_of self.old) (item_of cell) self.old.history } }
+        ensures sent { IsUnsent T.turn_of self.old (back_by_antimessage (machine_at T.turn_of self.old) (item_of cell) self.old.history) out.old out.new }
+        ensures count { result ≡ length (back_by_antimessage (machine_at T.turn_of self.old) (item_of cell) self.old.history) }
     {
         if self.take_pending(&mut cell) {
             return 0;
@@ -152,8 +153,8 @@ impl<T: Turns> Component<T> {
     // Takes the antimessage that is owed for a message, if there is one.
     fn take_owed(&mut self, cell: &mut EventCell<Signed>) -> bool
         requires { goes Plus self.old.number cell.old ≡ true }
-        ensures record { self.new ≡ record self.old { history = record self.old.history { owed = remove (machine_of T.turn_of self.old.setup) (item_of cell.old) self.old.history.owed } } }
-        ensures answer { result ≡ has (machine_of T.turn_of self.old.setup) (item_of cell.old) self.old.history.owed }
+        ensures record { self.new ≡ record self.old { history = record self.old.history { owed = remove (machine_at T.turn_of self.old) (item_of cell.old) self.old.history.owed } } }
+        ensures answer { result ≡ has (machine_at T.turn_of self.old) (item_of cell.old) self.old.history.owed }
         ensures kept { result ≡ false → self.new ≡ self.old }
         ensures cell { cell.new ≡ cell.old }
     {
@@ -163,8 +164,8 @@ impl<T: Turns> Component<T> {
     // Takes the pending message of an antimessage, if there is one.
     fn take_pending(&mut self, cell: &mut EventCell<Signed>) -> bool
         requires { goes Minus self.old.number cell.old ≡ true }
-        ensures record { self.new ≡ record self.old { history = record self.old.history { pending = remove (machine_of T.turn_of self.old.setup) (item_of cell.old) self.old.history.pending } } }
-        ensures answer { result ≡ has (machine_of T.turn_of self.old.setup) (item_of cell.old) self.old.history.pending }
+        ensures record { self.new ≡ record self.old { history = record self.old.history { pending = remove (machine_at T.turn_of self.old) (item_of cell.old) self.old.history.pending } } }
+        ensures answer { result ≡ has (machine_at T.turn_of self.old) (item_of cell.old) self.old.history.pending }
         ensures kept { result ≡ false → self.new ≡ self.old }
         ensures cell { cell.new ≡ cell.old }
     {
@@ -175,7 +176,7 @@ impl<T: Turns> Component<T> {
     fn wait(&mut self, cell: EventCell<Signed>)
         requires here { goes Plus self.old.number cell ≡ true }
         requires late { latest 0 self.old.history.done ≤ (item_of cell).key }
-        ensures { self.new ≡ record self.old { history = record self.old.history { pending = insert (machine_of T.turn_of self.old.setup) (item_of cell) self.old.history.pending } } }
+        ensures { self.new ≡ record self.old { history = record self.old.history { pending = insert (machine_at T.turn_of self.old) (item_of cell) self.old.history.pending } } }
     {
         put(&mut self.pending, cell);
     }
@@ -183,7 +184,7 @@ impl<T: Turns> Component<T> {
     // An antimessage is owed from now on.
     fn owe(&mut self, cell: EventCell<Signed>)
         requires { goes Minus self.old.number cell ≡ true }
-        ensures { self.new ≡ record self.old { history = record self.old.history { owed = insert (machine_of T.turn_of self.old.setup) (item_of cell) self.old.history.owed } } }
+        ensures { self.new ≡ record self.old { history = record self.old.history { owed = insert (machine_at T.turn_of self.old) (item_of cell) self.old.history.owed } } }
     {
         put(&mut self.owed, cell);
     }
@@ -191,7 +192,7 @@ impl<T: Turns> Component<T> {
     // Whether the last done entry is later than a message.
     fn is_last_later(&self, message: &Signed) -> bool
         requires { goes Plus self.now.number message.now ≡ true }
-        ensures { result ≡ is_last_later (machine_of T.turn_of self.now.setup) (item_of message.now) self.now.history.done }
+        ensures { result ≡ is_last_later (machine_at T.turn_of self.now) (item_of message.now) self.now.history.done }
     {
         is_timed(message);
         match self.done.peek_last() {
@@ -203,8 +204,8 @@ impl<T: Turns> Component<T> {
     // Takes the done entries back that are later than a message.
     fn unwind_later(&mut self, message: &Signed, out: &mut Bag)
         requires { goes Plus self.old.number message.now ≡ true }
-        ensures record { self.new ≡ record self.old { history = back_at (machine_of T.turn_of self.old.setup) (later (machine_of T.turn_of self.old.setup) (item_of message.now) self.old.history.done) (not_later (machine_of T.turn_of self.old.setup) (item_of message.now) self.old.history.done) self.old.history } }
-        ensures sent { IsPosted Minus (unsent (machine_of T.turn_of self.old.setup) self.old.number (later (machine_of T.turn_of self.old.setup) (item_of message.now) self.old.history.done)) out.old out.new }
+        ensures record { self.new ≡ record self.old { history = back_at (machine_at T.turn_of self.old) (later (machine_at T.turn_of self.old) (item_of message.now) self.old.history.done) (not_later (machine_at T.turn_of self.old) (item_of message.now) self.old.history.done) self.old.history } }
+        ensures sent { IsUnsent T.turn_of self.old (later (machine_at T.turn_of self.old) (item_of message.now) self.old.history.done) out.old out.new }
     {
         while self.is_last_later(message) {
             self.roll_back(out);
@@ -214,7 +215,7 @@ impl<T: Turns> Component<T> {
     // Whether there is a last done entry, and it isn't the message of an antimessage.
     fn is_last_another(&self, antimessage: &Signed) -> bool
         requires { goes Minus self.now.number antimessage.now ≡ true }
-        ensures { result ≡ is_last_another (machine_of T.turn_of self.now.setup) (item_of antimessage.now) self.now.history.done }
+        ensures { result ≡ is_last_another (machine_at T.turn_of self.now) (item_of antimessage.now) self.now.history.done }
     {
         is_timed(antimessage);
         is_next_back_another(&self.done, antimessage)
@@ -223,7 +224,7 @@ impl<T: Turns> Component<T> {
     // Whether the message of an antimessage is done.
     fn has_done(&mut self, antimessage: &Signed) -> bool
         requires { goes Minus self.old.number antimessage.now ≡ true }
-        ensures answer { result ≡ nat_lt 0 (inputs (machine_of T.turn_of self.old.setup) self.old.history.done (item_of antimessage.now).key (item_of antimessage.now).action) }
+        ensures answer { result ≡ nat_lt 0 (inputs (machine_at T.turn_of self.old) self.old.history.done (item_of antimessage.now).key (item_of antimessage.now).action) }
         ensures kept { self.new ≡ self.old }
     {
         is_timed(antimessage);
@@ -233,8 +234,8 @@ impl<T: Turns> Component<T> {
     // Takes the done entries back from the last message of an antimessage on, that one too.
     fn unwind_until(&mut self, antimessage: &Signed, out: &mut Bag)
         requires { goes Minus self.old.number antimessage.now ≡ true }
-        ensures record { self.new ≡ record self.old { history = back_at (machine_of T.turn_of self.old.setup) (back_until (machine_of T.turn_of self.old.setup) (item_of antimessage.now) self.old.history.done) (before_last (machine_of T.turn_of self.old.setup) (item_of antimessage.now) self.old.history.done) self.old.history } }
-        ensures sent { IsPosted Minus (unsent (machine_of T.turn_of self.old.setup) self.old.number (back_until (machine_of T.turn_of self.old.setup) (item_of antimessage.now) self.old.history.done)) out.old out.new }
+        ensures record { self.new ≡ record self.old { history = back_at (machine_at T.turn_of self.old) (back_until (machine_at T.turn_of self.old) (item_of antimessage.now) self.old.history.done) (before_last (machine_at T.turn_of self.old) (item_of antimessage.now) self.old.history.done) self.old.history } }
+        ensures sent { IsUnsent T.turn_of self.old (back_until (machine_at T.turn_of self.old) (item_of antimessage.now) self.old.history.done) out.old out.new }
     {
         while self.is_last_another(antimessage) {
             self.roll_back(out);

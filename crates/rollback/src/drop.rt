@@ -3,17 +3,17 @@ ghost use Rattle.std.specs.Prelude.{◌≡◌, ◌<◌, ◌^◌, [], ◌++◌, I
 ghost use Rattle.event_keys.specs.Ranks.{rank_of_bound};
 ghost use Rattle.virtual_time.specs.Entries.{below};
 ghost use Rattle.virtual_time.specs.Records.{cut_of, turns_among};
-ghost use Rattle.rollback.specs.Held.{machine_of};
 ghost use Rattle.rollback.specs.Falling.{Falls};
 ghost use Rattle.raw_events.specs.Onto.{onto};
 ghost use Rattle.rollback.specs.Kept.{entries_of};
 ghost use Rattle.task_seed.specs.Taken.{turn_of};
 ghost use Rattle.rollback.specs.Dropped.{dones_below, dones_from, key_in, newest_key, number_after, oldest_below, turn_in, turns_in, without_oldest_below};
+ghost use Rattle.rollback.specs.Stepped.{machine_at};
 
 use crate::component::Component;
-use message_balance::Done;
 use crate::keys::{is_below_bound, key_of};
 use event_keys::{Bound, Key, Turned};
+use message_balance::Done;
 use raw_events::{EventCell, EventList};
 use task_seed::Turns;
 
@@ -30,7 +30,7 @@ impl<T: Turns> Component<T> {
     /// taken back any more. The answer is the dropped own turns, the oldest first, all after the cursor. The caller's bound is neither
     /// below the base nor above the next key.
     pub fn drop_below(&mut self, bound: Bound) -> EventList<Turned>
-        ensures record { self.new ≡ record self.old { base = bound; history = cut_of (machine_of T.turn_of self.old.setup) self.old.number (rank_of_bound bound) self.old.history } }
+        ensures record { self.new ≡ record self.old { base = bound; history = cut_of (machine_at T.turn_of self.old) self.old.number (rank_of_bound bound) self.old.history } }
         ensures turns { map turn_of result.after ≡ onto (turns_among (below (rank_of_bound bound) self.old.history.done)) [] }
         ensures front { result.before ≡ [] }
     {

@@ -16,11 +16,11 @@ ghost use Rattle.rollback.specs.Held.{machine_of};
 ghost use Rattle.rollback.specs.Kept.{signed_by, signed_of, turn_receivers, IsGivenBack};
 ghost use Rattle.rollback.specs.Post.{signed_to, post_all, IsPosted};
 
-use message_balance::Done;
 use crate::keys::fits;
 use antimessage::Bag;
 use antimessage::laws::order_law;
 use event_keys::{Key, Message, Outcome, Sign, Signed, Turned};
+use message_balance::Done;
 use plans::Plan;
 use plans::laws::receivers_law;
 use raw_events::{EventCell, EventList};

@@ -3,11 +3,10 @@ ghost use Rattle.std.specs.Prelude.{◌≡◌, ◌≤◌, ◌+◌, ℕ, take};
 ghost use Rattle.terms.specs.Named.{Named};
 ghost use Rattle.event_keys.specs.declared.message.Sign.TheVariants.{Plus, Minus};
 ghost use Rattle.virtual_time.specs.Bags.{times};
-ghost use Rattle.virtual_time.specs.Records.{roll_back_times, unsent};
+ghost use Rattle.virtual_time.specs.Records.{roll_back_times};
 ghost use Rattle.rollback.specs.Flight.{in_flight};
-ghost use Rattle.rollback.specs.Held.{machine_of};
-ghost use Rattle.rollback.specs.Post.{IsPosted};
 ghost use Rattle.rollback.specs.Runs.{IsRun, IsEnd, IsTrip};
+ghost use Rattle.rollback.specs.Stepped.{IsUnsent, machine_at};
 
 use crate::component::Component;
 use crate::refused::ProcessRefused;
@@ -33,8 +32,8 @@ impl<T: Turns> Component<T> {
     /// sent.
     pub fn there_and_back(&mut self, alloc: Global, most: u32, out: &mut Bag) -> Trip
         ensures same { self.new ≡ self.old }
-        ensures trip { IsTrip (machine_of T.turn_of self.old.setup) self.old.number self.old.history out.old out.new result.entries most result.stopped }
-        ensures balance { (j k : ℕ) (action : Named) → times (machine_of T.turn_of self.old.setup) (in_flight Plus j out.new) k action + times (machine_of T.turn_of self.old.setup) (in_flight Minus j out.old) k action ≡ times (machine_of T.turn_of self.old.setup) (in_flight Minus j out.new) k action + times (machine_of T.turn_of self.old.setup) (in_flight Plus j out.old) k action }
+        ensures trip { IsTrip (machine_at T.turn_of self.old) self.old.number self.old.history out.old out.new result.entries most result.stopped }
+        ensures balance { (j k : ℕ) (action : Named) → times (machine_at T.turn_of self.old) (in_flight Plus j out.new) k action + times (machine_at T.turn_of self.old) (in_flight Minus j out.old) k action ≡ times (machine_at T.turn_of self.old) (in_flight Minus j out.new) k action + times (machine_at T.turn_of self.old) (in_flight Plus j out.old) k action }
         ensures most { result.entries ≤ most }
     {
         machine_is_lawful(self.setup());
@@ -48,8 +47,8 @@ impl<T: Turns> Component<T> {
     // Processes entries, at most `most` of them, until nothing is pending or memory is refused.
     fn process_some(&mut self, alloc: Global, most: u32, out: &mut Bag) -> Trip
         ensures rest { self.new ≡ record self.old { history = self.new.history } }
-        ensures run { IsRun (machine_of T.turn_of self.old.setup) self.old.number self.old.history self.new.history out.old out.new result.entries }
-        ensures end { IsEnd (machine_of T.turn_of self.old.setup) self.old.number self.new.history result.entries most result.stopped }
+        ensures run { IsRun (machine_at T.turn_of self.old) self.old.number self.old.history self.new.history out.old out.new result.entries }
+        ensures end { IsEnd (machine_at T.turn_of self.old) self.old.number self.new.history result.entries most result.stopped }
         ensures most { result.entries ≤ most }
     {
         for entries in 0..most {
@@ -71,8 +70,8 @@ impl<T: Turns> Component<T> {
 
     // Takes entries back, as many as are done but at most `count`.
     fn roll_back_some(&mut self, count: u32, out: &mut Bag)
-        ensures record { self.new ≡ record self.old { history = roll_back_times (machine_of T.turn_of self.old.setup) count self.old.history } }
-        ensures sent { IsPosted Minus (unsent (machine_of T.turn_of self.old.setup) self.old.number (take count self.old.history.done)) out.old out.new }
+        ensures record { self.new ≡ record self.old { history = roll_back_times (machine_at T.turn_of self.old) count self.old.history } }
+        ensures sent { IsUnsent T.turn_of self.old (take count self.old.history.done) out.old out.new }
     {
         for _k in 0..count {
             self.roll_back(out);

@@ -6,9 +6,9 @@ ghost use Rattle.virtual_time.specs.Entries.{entry_key};
 ghost use Rattle.task_seed.specs.Machines.{end_rank};
 ghost use Rattle.rollback.specs.Kept.{entry_of};
 
-use message_balance::Done;
 use event_keys::laws::{bound_rank_law, key_rank_law, rank_law};
 use event_keys::{Bound, Key};
+use message_balance::Done;
 
 /// The numbers of a key fit their types, and its rank is below the end's.
 #[tactic(auto, using(crate::proofs::Sending::end_is))]

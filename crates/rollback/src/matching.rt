@@ -1,7 +1,7 @@
 //! Whether a component is the one that others know by what it has taken and what it has sent.
 ghost use Rattle.std.specs.Prelude.{◌≡◌, ◌<◌, ◌^◌, ◌↔◌, true};
-ghost use Rattle.rollback.specs.Held.{machine_of};
 ghost use Rattle.rollback.specs.Matched.{IsStanding, IsTaken};
+ghost use Rattle.rollback.specs.Stepped.{machine_at};
 
 use crate::component::Component;
 use antimessage::Bag;
@@ -22,7 +22,7 @@ impl<T: Turns> Component<T> {
     ///
     /// No memory is taken. Where they are, the time grows with the number of all these messages; where they are not, it grows as its square.
     pub fn has_taken(&self, taken: &Bag, tray: &Bag) -> bool
-        ensures { (result ≡ true) ↔ IsTaken (machine_of T.turn_of self.now.setup) self.now.number self.now.history taken.now tray.now }
+        ensures { (result ≡ true) ↔ IsTaken (machine_at T.turn_of self.now) self.now.number self.now.history taken.now tray.now }
     {
         order_law(taken);
         order_law(tray);
@@ -42,7 +42,7 @@ impl<T: Turns> Component<T> {
     ///
     /// No memory is taken. Where they are, the time grows with the number of all these messages; where they are not, it grows as its square.
     pub fn has_standing(&self, standing: &Bag, out: &Bag) -> bool
-        ensures { (result ≡ true) ↔ IsStanding (machine_of T.turn_of self.now.setup) self.now.number self.now.history standing.now out.now }
+        ensures { (result ≡ true) ↔ IsStanding (machine_at T.turn_of self.now) self.now.number self.now.history standing.now out.now }
     {
         is_short(self.number);
         receivers_law();

@@ -8,5 +8,6 @@ pub mod Dropping
 pub mod MachineLaws
 pub mod Theory
 pub mod ThereAndBack
+pub mod Answered
 pub mod Same
 pub mod SameLaws

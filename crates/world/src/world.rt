@@ -1,23 +1,20 @@
 //! A world, and its steps.
-ghost use Rattle.std.specs.Prelude.{◌≡◌, ◌≤◌, ◌++◌, ℕ, [], List, IfOk, OnErr, length, map};
+ghost use Rattle.std.specs.Prelude.{◌≡◌, ◌≤◌, ℕ, [], IfOk, OnErr, map};
 ghost use Rattle.std.specs.Arc.{arc_value};
 ghost use Rattle.event_keys.specs.declared.outcome.Turned.{Turned as TurnedValue};
 ghost use Rattle.event_keys.specs.Ranks.{rank_of_bound};
-ghost use Rattle.plans.specs.Plans.{composition};
-ghost use Rattle.task_seed.specs.Setups.{plan_of, system};
+ghost use Rattle.task_seed.specs.Setups.{system};
 ghost use Rattle.task_seed.specs.Taken.{turn_of};
-ghost use Rattle.terms.specs.Named.{Named};
-ghost use Rattle.virtual_time.specs.Reference.{IsReference, Turn};
-ghost use Rattle.virtual_time.specs.Replies.{Answers, IsReached, IsVirtualTime, Runs};
+ghost use Rattle.virtual_time.specs.Reference.{IsReference};
 ghost use Rattle.virtual_time.specs.Rules.{IsRollBack, IsWorld};
 ghost use Rattle.virtual_time.specs.Worlds.{Commit, Meet, Process, RollBack, start_world};
 ghost use Rattle.antimessage.specs.Counts.{plus};
 ghost use Rattle.antimessage.specs.Order.{IsInOrder};
 ghost use Rattle.rollback.specs.Flight.{item_of};
 ghost use Rattle.rollback.specs.Held.{machine_of};
+ghost use Rattle.world.specs.Answered.{Answered, HasVirtualTime, IsReachedBySteps, Ran, StaysCommitted, WentThereAndBack};
 ghost use Rattle.world.specs.Keeping.{Keeps};
 ghost use Rattle.world.specs.Simulation.{IsSimulation, start_simulation, world_of};
-ghost use Rattle.world.specs.ThereAndBack.{IsThereAndBack};
 ghost use Rattle.world.specs.Steps.{answer_by, answer_of, delivery, step_of};
 
 use crate::commit::{append, drop_between, is_above};
@@ -111,7 +108,7 @@ impl<T: Turns> World<T> {
     /// Every world is one that steps reach from the start: its records are proper and grounded, and sends and receipts balance. The call does
     /// nothing.
     pub fn soundness_law(&self)
-        ensures reached { IsReached (machine_of T.turn_of self.now.setup) (length (composition (plan_of self.now.setup))) (world_of (machine_of T.turn_of self.now.setup) self.now) }
+        ensures reached { IsReachedBySteps T.turn_of self.now }
         ensures sound { IsWorld (machine_of T.turn_of self.now.setup) (world_of (machine_of T.turn_of self.now.setup) self.now) }
         ensures simulation { IsSimulation (system T.turn_of self.now.setup) self.now }
         ensures order { IsInOrder self.now.flight }
@@ -122,7 +119,7 @@ impl<T: Turns> World<T> {
 
     /// Global virtual time: the least of the components' next keys and of all keys in flight, or the end. It takes no memory.
     pub fn gvt(&self) -> Bound
-        ensures time { IsVirtualTime (machine_of T.turn_of self.now.setup) (world_of (machine_of T.turn_of self.now.setup) self.now) (rank_of_bound result) }
+        ensures time { HasVirtualTime T.turn_of self.now self.now (rank_of_bound result) }
         ensures bound { rank_of_bound self.now.bound ≤ rank_of_bound result }
     {
         laws(&self.setup);
@@ -148,9 +145,9 @@ impl<T: Turns> World<T> {
     /// `NoMemory`, `NoSuchComponent` and `NothingPending` of `Process`; `NoSuchMessage` of `Deliver` and `Meet`; `NoSuchComponent` and
     /// `NothingToRollBack` of `RollBack`; `AheadOfTime` and `BehindCommit` of `Commit`.
     pub fn step(&mut self, alloc: Global, step: &Step) -> Result<Reply, StepRefused>
-        ensures answers { Answers (machine_of T.turn_of self.old.setup) (length (composition (plan_of self.old.setup))) (world_of (machine_of T.turn_of self.old.setup) self.old) (step_of step.now) (answer_of result) (world_of (machine_of T.turn_of self.old.setup) self.new) }
-        ensures stays { (extra : List (Turn Named)) × ((world_of (machine_of T.turn_of self.old.setup) self.new).committed ≡ extra ++ (world_of (machine_of T.turn_of self.old.setup) self.old).committed) }
-        ensures rises { (g h : ℕ) → (IsRollBack (step_of step.now) → ⊥) → IsVirtualTime (machine_of T.turn_of self.old.setup) (world_of (machine_of T.turn_of self.old.setup) self.old) g → IsVirtualTime (machine_of T.turn_of self.old.setup) (world_of (machine_of T.turn_of self.old.setup) self.new) h → g ≤ h }
+        ensures answers { Answered T.turn_of self.old (step_of step.now) (answer_of result) self.new }
+        ensures stays { StaysCommitted T.turn_of self.old self.new }
+        ensures rises { (g h : ℕ) → (IsRollBack (step_of step.now) → ⊥) → HasVirtualTime T.turn_of self.old self.old g → HasVirtualTime T.turn_of self.old self.new h → g ≤ h }
         ensures setup { self.new.setup ≡ self.old.setup }
         ensures keeps { Keeps self.old self.new }
         ensures kept { OnErr result (self.new ≡ self.old) }
@@ -163,7 +160,7 @@ impl<T: Turns> World<T> {
     }
 
     fn answer(&mut self, alloc: Global, step: &Step) -> Result<Reply, StepRefused>
-        ensures answers { Answers (machine_of T.turn_of self.old.setup) (length (composition (plan_of self.old.setup))) (world_of (machine_of T.turn_of self.old.setup) self.old) (step_of step.now) (answer_of result) (world_of (machine_of T.turn_of self.old.setup) self.new) }
+        ensures answers { Answered T.turn_of self.old (step_of step.now) (answer_of result) self.new }
         ensures setup { self.new.setup ≡ self.old.setup }
         ensures keeps { Keeps self.old self.new }
         ensures kept { OnErr result (self.new ≡ self.old) }
@@ -181,7 +178,7 @@ impl<T: Turns> World<T> {
     }
 
     fn process(&mut self, alloc: Global, i: u16) -> Result<Key, StepRefused>
-        ensures answers { Answers (machine_of T.turn_of self.old.setup) (length (composition (plan_of self.old.setup))) (world_of (machine_of T.turn_of self.old.setup) self.old) (Process i) (answer_by Reply.Processed result) (world_of (machine_of T.turn_of self.old.setup) self.new) }
+        ensures answers { Answered T.turn_of self.old (Process i) (answer_by Reply.Processed result) self.new }
         ensures setup { self.new.setup ≡ self.old.setup }
         ensures keeps { Keeps self.old self.new }
         ensures kept { OnErr result (self.new ≡ self.old) }
@@ -196,7 +193,7 @@ impl<T: Turns> World<T> {
     }
 
     fn roll_back(&mut self, i: u16) -> Result<Key, StepRefused>
-        ensures answers { Answers (machine_of T.turn_of self.old.setup) (length (composition (plan_of self.old.setup))) (world_of (machine_of T.turn_of self.old.setup) self.old) (RollBack i) (answer_by Reply.RolledBack result) (world_of (machine_of T.turn_of self.old.setup) self.new) }
+        ensures answers { Answered T.turn_of self.old (RollBack i) (answer_by Reply.RolledBack result) self.new }
         ensures setup { self.new.setup ≡ self.old.setup }
         ensures keeps { Keeps self.old self.new }
         ensures kept { OnErr result (self.new ≡ self.old) }
@@ -205,7 +202,7 @@ impl<T: Turns> World<T> {
     }
 
     fn deliver(&mut self, signed: &Signed) -> Result<u64, StepRefused>
-        ensures answers { Answers (machine_of T.turn_of self.old.setup) (length (composition (plan_of self.old.setup))) (world_of (machine_of T.turn_of self.old.setup) self.old) (delivery signed.now.sign signed.now.message) (answer_by Reply.Delivered result) (world_of (machine_of T.turn_of self.old.setup) self.new) }
+        ensures answers { Answered T.turn_of self.old (delivery signed.now.sign signed.now.message) (answer_by Reply.Delivered result) self.new }
         ensures setup { self.new.setup ≡ self.old.setup }
         ensures keeps { Keeps self.old self.new }
         ensures kept { OnErr result (self.new ≡ self.old) }
@@ -214,7 +211,7 @@ impl<T: Turns> World<T> {
     }
 
     fn meet(&mut self, message: &Message) -> Result<(), StepRefused>
-        ensures answers { Answers (machine_of T.turn_of self.old.setup) (length (composition (plan_of self.old.setup))) (world_of (machine_of T.turn_of self.old.setup) self.old) (Meet message.now.to (item_of (plus message.now))) (answer_by (λ _. Reply.Met) result) (world_of (machine_of T.turn_of self.old.setup) self.new) }
+        ensures answers { Answered T.turn_of self.old (Meet message.now.to (item_of (plus message.now))) (answer_by (λ _. Reply.Met) result) self.new }
         ensures setup { self.new.setup ≡ self.old.setup }
         ensures keeps { Keeps self.old self.new }
         ensures kept { OnErr result (self.new ≡ self.old) }
@@ -223,7 +220,7 @@ impl<T: Turns> World<T> {
     }
 
     fn commit(&mut self, bound: Bound) -> Result<u64, StepRefused>
-        ensures answers { Answers (machine_of T.turn_of self.old.setup) (length (composition (plan_of self.old.setup))) (world_of (machine_of T.turn_of self.old.setup) self.old) (Commit (rank_of_bound bound)) (answer_by Reply.Committed result) (world_of (machine_of T.turn_of self.old.setup) self.new) }
+        ensures answers { Answered T.turn_of self.old (Commit (rank_of_bound bound)) (answer_by Reply.Committed result) self.new }
         ensures setup { self.new.setup ≡ self.old.setup }
         ensures keeps { Keeps self.old self.new }
         ensures kept { OnErr result (self.new ≡ self.old) }
@@ -256,9 +253,9 @@ impl<T: Turns> World<T> {
         alloc: Global,
         steps: &[Step],
     ) -> Result<Vec<Result<Reply, StepRefused>>, NoMemory>
-        ensures ran { IfOk result (λ answers. Runs (machine_of T.turn_of self.old.setup) (length (composition (plan_of self.old.setup))) (world_of (machine_of T.turn_of self.old.setup) self.old) (map step_of steps.now) (map answer_of answers.items) (world_of (machine_of T.turn_of self.old.setup) self.new)) }
-        ensures back { IfOk result (λ answers. (i : ℕ) → IsThereAndBack (machine_of T.turn_of self.old.setup) (length (composition (plan_of self.old.setup))) i (world_of (machine_of T.turn_of self.old.setup) self.old) (map step_of steps.now) (map answer_of answers.items) (world_of (machine_of T.turn_of self.old.setup) self.new) → self.new ≡ self.old) }
-        ensures stays { IfOk result (λ _. (extra : List (Turn Named)) × ((world_of (machine_of T.turn_of self.old.setup) self.new).committed ≡ extra ++ (world_of (machine_of T.turn_of self.old.setup) self.old).committed)) }
+        ensures ran { IfOk result (λ answers. Ran T.turn_of self.old (map step_of steps.now) (map answer_of answers.items) self.new) }
+        ensures back { IfOk result (λ answers. (i : ℕ) → WentThereAndBack T.turn_of self.old i (map step_of steps.now) (map answer_of answers.items) self.new → self.new ≡ self.old) }
+        ensures stays { IfOk result (λ _. StaysCommitted T.turn_of self.old self.new) }
         ensures setup { self.new.setup ≡ self.old.setup }
         ensures keeps { Keeps self.old self.new }
         ensures kept { OnErr result (self.new ≡ self.old) }
