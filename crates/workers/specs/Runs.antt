@@ -1,12 +1,18 @@
 -- What a run writes.
-use Rattle.std.specs.Prelude.{◌≡◌, ℕ, List, length, take}
+use Rattle.std.specs.Prelude.{◌≡◌, ℕ, Option, List, length, take}
 use Rattle.event_keys.specs.declared.outcome.Turned.{Turned}
 use Rattle.plans.specs.declared.plan.Plan.{Plan}
+use Rattle.task_seed.specs.declared.setup.Setup.{Setup}
+use Rattle.task_seed.specs.declared.turns.Turn.{Turn}
+use Rattle.task_seed.specs.Setups.{plan_of, system}
 use Rattle.task_seed.specs.Turning.{System}
 use Rattle.reference.specs.Schedules.{AreAllTurns, AreSchedule}
 use Rattle.trace.specs.declared.fault.WriteFault.{WriteFault}
+use Rattle.trace.specs.declared.counted.Counted.{Counted}
 use Rattle.trace.specs.declared.lines.Lines.{Lines}
 use Rattle.trace.specs.Lines.{text_of}
+use Rattle.trace.specs.Puts.{Stops}
+use Rattle.trace.specs.Went.{IsWritten}
 use Rattle.workers.specs.declared.fault.RunFault.{RunFault}
 use Rattle.workers.specs.declared.fault.RunFault.TheVariants as fault
 
@@ -38,3 +44,13 @@ IsUnfinished plan system lines Became cut (fault.Meeting refused) = IsBegun plan
 IsUnfinished plan system lines Became cut (fault.Write failed) = IsCut plan system lines (λ text. cut text failed)
 IsUnfinished plan system lines Became cut fault.ThreadRefused = IsBegun plan system lines Became
 IsUnfinished plan system lines Became cut fault.OutOfPlace = IsBegun plan system lines Became
+
+-- what a run of a setup, whose turns are read by turn_of, has written to a writer, of which its contents are known
+module _ {T W : Type 0} (turn_of : T → ℕ → ℕ → Option Turn) (known : W → Option (List ℕ)) (setup : Setup T) (lines : Lines) (old new : Counted W) where
+  -- the text of all turns, so many
+  abbrev pub WroteAll : ℕ → Type 0
+  WroteAll count = IsWhole (plan_of setup) (system turn_of setup) lines (IsWritten known old new) count
+
+  -- not all of it, for this reason
+  abbrev pub WroteSome : RunFault → Type 0
+  WroteSome why = IsUnfinished (plan_of setup) (system turn_of setup) lines (IsWritten known old new) (Stops known old new 0) why

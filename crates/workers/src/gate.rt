@@ -1,9 +1,9 @@
 //! What stands between a worker and the lease that it runs ahead.
 ghost use Rattle.std.specs.Prelude.{◌≡◌, ◌≤◌, ◌⊎◌, None, IfOk, OnErr};
-ghost use Rattle.virtual_time.specs.Records.{next_of};
 ghost use Rattle.rollback.specs.Held.{machine_of};
 ghost use Rattle.exchange.specs.Holding.{IsAhead};
 ghost use Rattle.workers.specs.Gates.{StaysItself};
+ghost use Rattle.rollback.specs.Stepped.{next_entry};
 
 use exchange::Lease;
 use std::alloc::Global;
@@ -71,7 +71,7 @@ pub fn run_ahead<T: Turns>(
     ensures same { StaysItself T.turn_of lease.old lease.new }
     ensures ahead { IfOk result (λ count. IsAhead (machine_of T.turn_of lease.old.component.setup) lease.old lease.new count) }
     ensures most { IfOk result (λ count. count ≤ budget) }
-    ensures none { IfOk result (λ count. count ≡ 0 → (budget ≡ 0) ⊎ (next_of (machine_of T.turn_of lease.old.component.setup) lease.old.component.number lease.old.component.history ≡ None)) }
+    ensures none { IfOk result (λ count. count ≡ 0 → (budget ≡ 0) ⊎ (next_entry T.turn_of lease.old.component ≡ None)) }
     ensures kept { OnErr result (lease.new ≡ lease.old) }
 {
     lease.run_ahead(alloc, budget)

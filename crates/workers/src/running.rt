@@ -2,13 +2,10 @@
 ghost use Rattle.std.specs.Prelude.{◌≡◌, ◌≤◌, All, IfErr, IfOk, length, map};
 ghost use Rattle.std.specs.Arc.{arc_value};
 ghost use Rattle.gvt.specs.Seats.{IsSeatOf};
-ghost use Rattle.task_seed.specs.Setups.{plan_of, system};
-ghost use Rattle.trace.specs.Puts.{Stops};
-ghost use Rattle.trace.specs.Went.{IsWritten};
 ghost use Rattle.pools.specs.Passes.{IsOf as IsOfPool, holding};
 ghost use Rattle.pools.specs.Places.{AreOnce};
 ghost use Rattle.workers.specs.Crews.{AreOfOne, IsCallerOf, IsOf, IsOfAll, lease_in, number_of, setup_of};
-ghost use Rattle.workers.specs.Runs.{IsUnfinished, IsWhole};
+ghost use Rattle.workers.specs.Runs.{WroteAll, WroteSome};
 
 use crate::crew::{Caller, Lent, Paced, Worker};
 use crate::fault::{RunFault, WorkFault};
@@ -45,7 +42,8 @@ pub struct Summary {
 /// and the workers may wait for each other, so that what is promised holds if the call returns.
 ///
 /// What was written is a beginning of the text of the one-thread simulator that always takes the least key, and all of it where the answer
-/// isn't a fault; the actions of these turns are a schedule of the composition. That several threads ran, and that what is written comes of the leases, no clause can say.
+/// isn't a fault; the actions of these turns are a schedule of the composition. That several threads ran, and that what is written comes of
+/// the leases, no clause can say.
 ///
 /// # Errors
 ///
@@ -63,8 +61,8 @@ pub fn run<T: Turns, W: Write + Drop, G: Gate<T>, R: Threads + Wait + Sync>(
 ) -> Result<Summary, RunFault>
     requires workers { (1 ≤ workers) × (workers ≤ 64) }
     requires budget { (1 ≤ budget) × (budget ≤ 65535) }
-    ensures whole { IfOk result (λ summary. IsWhole (plan_of (arc_value setup)) (system T.turn_of (arc_value setup)) lines (IsWritten W.contents out.old out.new) summary.turns) }
-    ensures unfinished { IfErr result (IsUnfinished (plan_of (arc_value setup)) (system T.turn_of (arc_value setup)) lines (IsWritten W.contents out.old out.new) (Stops W.contents out.old out.new 0)) }
+    ensures whole { IfOk result (λ summary. WroteAll T.turn_of W.contents (arc_value setup) lines out.old out.new summary.turns) }
+    ensures unfinished { IfErr result (WroteSome T.turn_of W.contents (arc_value setup) lines out.old out.new) }
 {
     turns_are_schedule(&setup);
     match start(rt, alloc, &setup, workers, budget) {
@@ -205,8 +203,8 @@ fn run_begun<T: Turns, W: Write + Drop, G: Gate<T>, R: Threads + Wait + Sync>(
 ) -> Result<Summary, RunFault>
     requires crew { All (IsOf begun.shared) begun.crew.items }
     requires caller { IsCallerOf begun.shared own.now begun.caller }
-    ensures whole { IfOk result (λ summary. IsWhole (plan_of own.now) (system T.turn_of own.now) lines (IsWritten W.contents out.old out.new) summary.turns) }
-    ensures unfinished { IfErr result (IsUnfinished (plan_of own.now) (system T.turn_of own.now) lines (IsWritten W.contents out.old out.new) (Stops W.contents out.old out.new 0)) }
+    ensures whole { IfOk result (λ summary. WroteAll T.turn_of W.contents own.now lines out.old out.new summary.turns) }
+    ensures unfinished { IfErr result (WroteSome T.turn_of W.contents own.now lines out.old out.new) }
 {
     let Begun {
         shared,
@@ -233,8 +231,8 @@ fn lend<'x, T: Turns, W: Write + Drop, G: Gate<T>, R: Threads + Wait + Sync>(
 ) -> Result<Summary, RunFault>
     requires crew { All (IsOf shared.now) crew.items }
     requires caller { IsCallerOf shared.now own.now caller }
-    ensures whole { IfOk result (λ summary. IsWhole (plan_of own.now) (system T.turn_of own.now) lines (IsWritten W.contents out.old out.new) summary.turns) }
-    ensures unfinished { IfErr result (IsUnfinished (plan_of own.now) (system T.turn_of own.now) lines (IsWritten W.contents out.old out.new) (Stops W.contents out.old out.new 0)) }
+    ensures whole { IfOk result (λ summary. WroteAll T.turn_of W.contents own.now lines out.old out.new summary.turns) }
+    ensures unfinished { IfErr result (WroteSome T.turn_of W.contents own.now lines out.old out.new) }
 {
     replace_with(
         out,
@@ -244,8 +242,8 @@ fn lend<'x, T: Turns, W: Write + Drop, G: Gate<T>, R: Threads + Wait + Sync>(
             Result<Summary, RunFault>,
         )
             requires { All (IsOf shared.now) hands.0.items × IsCallerOf shared.now own.now hands.1 }
-            ensures whole { IfOk result.1 (λ summary. IsWhole (plan_of own.entry.now) (system T.turn_of own.entry.now) lines (IsWritten W.contents lent result.0) summary.turns) }
-            ensures unfinished { IfErr result.1 (IsUnfinished (plan_of own.entry.now) (system T.turn_of own.entry.now) lines (IsWritten W.contents lent result.0) (Stops W.contents lent result.0 0)) }
+            ensures whole { IfOk result.1 (λ summary. WroteAll T.turn_of W.contents own.entry.now lines lent result.0 summary.turns) }
+            ensures unfinished { IfErr result.1 (WroteSome T.turn_of W.contents own.entry.now lines lent result.0) }
         {
             in_scope(
                 rt, alloc, shared, own, hands.0, hands.1, budget, gate, lines, lent,
@@ -269,16 +267,16 @@ fn in_scope<'x, T: Turns, W: Write + Drop, G: Gate<T>, R: Threads + Wait + Sync>
 ) -> (Counted<W>, Result<Summary, RunFault>)
     requires crew { All (IsOf shared.now) crew.items }
     requires caller { IsCallerOf shared.now own.now caller }
-    ensures whole { IfOk result.1 (λ summary. IsWhole (plan_of own.now) (system T.turn_of own.now) lines (IsWritten W.contents out result.0) summary.turns) }
-    ensures unfinished { IfErr result.1 (IsUnfinished (plan_of own.now) (system T.turn_of own.now) lines (IsWritten W.contents out result.0) (Stops W.contents out result.0 0)) }
+    ensures whole { IfOk result.1 (λ summary. WroteAll T.turn_of W.contents own.now lines out result.0 summary.turns) }
+    ensures unfinished { IfErr result.1 (WroteSome T.turn_of W.contents own.now lines out result.0) }
 {
     thread::scope(
         thread::scope_env(),
         rt,
         move |scope| -> (Counted<W>, Result<Summary, RunFault>)
             requires { All (IsOf shared.now) crew.items × IsCallerOf shared.now own.now caller }
-            ensures whole { IfOk result.1 (λ summary. IsWhole (plan_of own.entry.now) (system T.turn_of own.entry.now) lines (IsWritten W.contents out result.0) summary.turns) }
-            ensures unfinished { IfErr result.1 (IsUnfinished (plan_of own.entry.now) (system T.turn_of own.entry.now) lines (IsWritten W.contents out result.0) (Stops W.contents out result.0 0)) }
+            ensures whole { IfOk result.1 (λ summary. WroteAll T.turn_of W.contents own.entry.now lines out result.0 summary.turns) }
+            ensures unfinished { IfErr result.1 (WroteSome T.turn_of W.contents own.entry.now lines out result.0) }
         {
             for worker in crew {
                 if !gate.may_start(worker.number) {

@@ -1,12 +1,11 @@
 //! What the calling thread does: it writes the turns that are committed for good.
 ghost use Rattle.std.specs.Prelude.{◌≡◌, IfErr, IfOk, []};
-ghost use Rattle.task_seed.specs.Setups.{plan_of, system};
+ghost use Rattle.task_seed.specs.Setups.{system};
 ghost use Rattle.trace.specs.Lines.{text_of};
 ghost use Rattle.trace.specs.Puts.{Puts, Stops};
-ghost use Rattle.trace.specs.Went.{IsWritten};
 ghost use Rattle.workers.specs.Crews.{IsCallerOf};
 ghost use Rattle.workers.specs.Portions.{IsPortion, IsDuePortion};
-ghost use Rattle.workers.specs.Runs.{IsUnfinished, IsWhole};
+ghost use Rattle.workers.specs.Runs.{WroteAll, WroteSome};
 
 use crate::crew::Caller;
 use crate::fault::{RunFault, WorkFault, run_fault};
@@ -124,8 +123,8 @@ pub(crate) fn write_all<T: Turns, W: Write, R: Wait>(
     out: &mut Counted<W>,
 ) -> Result<Summary, RunFault>
     requires { IsCallerOf shared.now own.now caller.old }
-    ensures whole { IfOk result (λ summary. IsWhole (plan_of own.now) (system T.turn_of own.now) lines (IsWritten W.contents out.old out.new) summary.turns) }
-    ensures unfinished { IfErr result (IsUnfinished (plan_of own.now) (system T.turn_of own.now) lines (IsWritten W.contents out.old out.new) (Stops W.contents out.old out.new 0)) }
+    ensures whole { IfOk result (λ summary. WroteAll T.turn_of W.contents own.now lines out.old out.new summary.turns) }
+    ensures unfinished { IfErr result (WroteSome T.turn_of W.contents own.now lines out.old out.new) }
 {
     turns_are_schedule(own);
     let mut written = 0;
