@@ -2,8 +2,8 @@
 ghost use Rattle.std.specs.Prelude.{IfErr, IfOk};
 ghost use Rattle.sources.specs.Composed.{IsComposed, IsRefused};
 
-use crate::fault::SourceError;
 use compose::{Plan, compose};
+use crate::fault::SourceError;
 use ioa_check::check;
 use ioa_front::read;
 use std::alloc::Global;
