@@ -1,8 +1,8 @@
 -- The entries of components, one component after the other, and the search among them.
 use Rattle.std.specs.Prelude.{ℕ, suc, Bool, false, not, if◌then◌else◌, bytes_eq, string_bytes, List, [], ◌∷◌, ◌++◌, map, Option, None, Some}
 use Rattle.std.specs.declared.string.String.{String}
-use Rattle.ioa_kinds.specs.Views.{option_tree}
-use Rattle.ioa_entries.specs.Views.{slot_tree}
+use Rattle.ioa_typing.specs.KindViews.{option_tree}
+use Rattle.ioa_entries.specs.EntryViews.{slot_tree}
 use Rattle.ioa_trees.specs.Trees.{Bytes}
 use Rattle.ioa_rules.specs.Kinds.{Kind}
 use Rattle.ioa_rules.specs.EntryRules.{Meant}

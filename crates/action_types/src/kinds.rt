@@ -1,14 +1,14 @@
 //! The types of parameters.
 ghost use Rattle.std.specs.Prelude.{◌≡◌, map, Some, option_map};
-ghost use Rattle.ioa_kinds.specs.Views.{kind_tree, option_tree};
-ghost use Rattle.ioa_entries.specs.Views.{slot_tree};
+ghost use Rattle.ioa_typing.specs.KindViews.{kind_tree, option_tree};
+ghost use Rattle.ioa_entries.specs.EntryViews.{slot_tree};
 ghost use Rattle.action_types.specs.Types.{slot_kind, same_kind, same_kinds};
 ghost use Rattle.action_types.specs.Standings.{stood};
 
 use crate::standing::Standing;
 use ioa_entries::Slot;
-use ioa_kinds::Kind;
-use ioa_kinds::kind::is_same;
+use ioa_typing::Kind;
+use ioa_typing::kind::is_same;
 
 // The type of a parameter.
 fn kind_of<'a>(formals: &'a [Kind], slot: &'a Slot) -> Option<&'a Kind>

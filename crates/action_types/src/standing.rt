@@ -5,7 +5,7 @@ ghost use Rattle.action_types.specs.Types.{automaton_of};
 ghost use Rattle.action_types.specs.Standings.{stood, stood_in, entries_in, stands};
 
 use ioa_check::{Automaton, Component, Transition};
-use ioa_kinds::Kind;
+use ioa_typing::Kind;
 use std::alloc::Global;
 use terms::NoMemory;
 

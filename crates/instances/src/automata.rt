@@ -5,7 +5,7 @@ ghost use Rattle.terms.specs.TermTree.{term_tree};
 ghost use Rattle.plans.specs.Automata.{absent, with_formals};
 ghost use Rattle.plans.specs.Plans.{text_of};
 ghost use Rattle.ioa_check.specs.Resolutions.{automaton_meaning};
-ghost use Rattle.ioa_typing.specs.Views.{core_tree};
+ghost use Rattle.ioa_typing.specs.TermViews.{core_tree};
 ghost use Rattle.instances.specs.Instances.{built, term_or_true};
 ghost use Rattle.instances.specs.Names.{IsRising};
 ghost use Rattle.instances.specs.Tables.{converted};

@@ -1,7 +1,7 @@
 //! Components with the values of their formals.
 ghost use Rattle.std.specs.Prelude.{◌≡◌, Some, map, IfOk};
 ghost use Rattle.ioa_check.specs.Resolutions.{component_meaning};
-ghost use Rattle.ioa_typing.specs.Views.{core_tree};
+ghost use Rattle.ioa_typing.specs.TermViews.{core_tree};
 ghost use Rattle.instances.specs.Instances.{argument};
 ghost use Rattle.instances.specs.Tables.{meant_parts, parts_in};
 

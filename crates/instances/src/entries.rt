@@ -3,16 +3,16 @@ ghost use Rattle.std.specs.Prelude.{◌≡◌, ◌<◌, ◌^◌, Some, map, leng
 ghost use Rattle.plans.specs.Automata.{transition_of};
 ghost use Rattle.plans.specs.Plans.{text_of};
 ghost use Rattle.ioa_check.specs.Resolutions.{transition_meaning};
-ghost use Rattle.ioa_entries.specs.Views.{slot_tree};
-ghost use Rattle.ioa_kinds.specs.Views.{kind_tree};
+ghost use Rattle.ioa_entries.specs.EntryViews.{slot_tree};
+ghost use Rattle.ioa_typing.specs.KindViews.{kind_tree};
 ghost use Rattle.instances.specs.Instances.{is_short, kind_as, param_in, param_of, transition};
 ghost use Rattle.instances.specs.Names.{IsRising};
 
 use crate::actions::number_of;
 use ioa_check::Transition;
 use ioa_entries::Slot;
-use ioa_kinds::Kind;
 use ioa_trees::tree::EntryKind;
+use ioa_typing::Kind;
 use ioa_typing::listing::listed_of;
 use plans::{ActionName, Entry, Param};
 use std::alloc::{AllocError, Global};

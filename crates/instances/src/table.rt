@@ -2,15 +2,15 @@
 ghost use Rattle.std.specs.Prelude.{◌≡◌, ◌+◌, ◌≤◌, ◌++◌, ◌∷◌, [], List, true, false, Some, map, length, replicate, slice_set, OnOk, IfOk};
 ghost use Rattle.terms.specs.ShapeTree.{shape_tree};
 ghost use Rattle.ioa_rules.specs.SourceRules.{MeantComponent};
-ghost use Rattle.ioa_entries.specs.Views.{slot_tree};
-ghost use Rattle.ioa_kinds.specs.Views.{option_tree};
+ghost use Rattle.ioa_entries.specs.EntryViews.{slot_tree};
+ghost use Rattle.ioa_typing.specs.KindViews.{option_tree};
 ghost use Rattle.ioa_check.specs.Resolutions.{automaton_meaning, component_meaning, transition_meaning};
 ghost use Rattle.instances.specs.Names.{signature_of, signatures_in, type_in};
 ghost use Rattle.instances.specs.Tables.{Adds, IsTable, mark_at, table};
 
 use ioa_check::{Automaton, Component, Transition};
 use ioa_entries::Slot;
-use ioa_kinds::Kind;
+use ioa_typing::Kind;
 use ioa_typing::listing::item_shape;
 use std::alloc::{AllocError, Global};
 use std::collections::BTreeMap;

@@ -1,17 +1,12 @@
 -- Definitions, one after the other.
-use Rattle.std.proofs.Common.{◌≡◌, ℕ, suc, ◌+◌, ◌<◌, Option, List, [], ◌∷◌, ◌++◌, drop, get_or, length, map, refl, ap, sym, ◌∙◌, arith}
-use Rattle.std.proofs.Math.Seq.{drop-cons}
+use Rattle.std.proofs.Common.{◌≡◌, ℕ, suc, ◌+◌, Option, List, [], ◌∷◌, ◌++◌, length, map, refl, ap, sym, ◌∙◌, arith}
 use Rattle.std.proofs.lemmas.List.{append_assoc}
 use Rattle.ioa_trees.specs.Trees.{Bytes, PlainTypeDefinition}
 use Rattle.ioa_rules.specs.Faults.{Fault, keep}
 use Rattle.ioa_rules.specs.Scopes.{Scope}
 use Rattle.ioa_rules.specs.Sizes.{definition_size}
 use Rattle.ioa_rules.specs.SourceRules.{definition_faults, definitions_faults, members_in, with_definition, with_definitions}
-use Rattle.ioa_check.proofs.Keeps.{keep_both}
-
--- what is left is the item at its place and what is left after it
-pub drop_at : {A : Type 0} (xs : List A) (i : ℕ) (x : A) → x ≡ get_or xs i x → i < length xs → drop i xs ≡ x ∷ drop (i + 1) xs
-drop_at xs i x is low = let next : suc i ≡ i + 1 = omega arith in drop-cons xs i x low ∙ ap (λ y. y ∷ drop (suc i) xs) (sym is) ∙ ap (λ k. x ∷ drop k xs) next
+use Rattle.ioa_typing.proofs.Keeps.{keep_both}
 
 pub definitions_kept : (s t : Scope) (n m at after : ℕ) (d : PlainTypeDefinition) (ds : List PlainTypeDefinition) (o p : Option Fault) →
     p ≡ keep o (definition_faults s n at d) → t ≡ with_definition s n d → m ≡ n + length (members_in d.body) → after ≡ at + definition_size d →

@@ -1,24 +1,17 @@
 -- The faults of a whole source, one part after the other.
-use Rattle.std.proofs.Common.{◌≡◌, ℕ, ◌+◌, Bool, true, false, ◌||◌, Option, None, List, [], ◌++◌, bytes_eq, refl, ap, ◌∙◌, arith}
+use Rattle.std.proofs.Common.{◌≡◌, ℕ, ◌+◌, Option, None, List, [], ◌++◌, bytes_eq, refl, ap, ◌∙◌, arith}
 use Rattle.std.specs.List.{list_any}
 use Rattle.ioa_trees.specs.Trees.{Bytes, PlainSource}
-use Rattle.ioa_automata.specs.Sets.{Adds, AreNames}
+use Rattle.ioa_check.specs.Sets.{Adds, AreNames}
 use Rattle.ioa_rules.specs.Faults.{Fault, keep}
 use Rattle.ioa_rules.specs.Scopes.{Scope, taken_before}
 use Rattle.ioa_rules.specs.AutomatonRules.{MeantAutomaton}
 use Rattle.ioa_rules.specs.SourceRules.{all_locals, automata_faults, automata_size, components_faults, composed_at, definitions_faults, definitions_size, meanings_of, source_faults, table_of, types_scope, whole_scope, with_automata, with_definitions}
-use Rattle.ioa_check.proofs.Keeps.{keep_both}
+use Rattle.ioa_typing.proofs.Keeps.{keep_both}
+use Rattle.ioa_check.proofs.AutomatonRows.{from_none}
 
 none_named : (names : List Bytes) → names ≡ [] → AreNames names []
 none_named names none = λ q. ap (list_any (bytes_eq q)) none
-
-or_false : (b : Bool) → (b || false) ≡ b
-or_false true = refl
-or_false false = refl
-
--- names that were added to none
-added : (after names before : List Bytes) → before ≡ [] → Adds after names before → AreNames after names
-added after names before none adds = λ q. adds q ∙ ap (λ l. list_any (bytes_eq q) names || list_any (bytes_eq q) l) none ∙ or_false (list_any (bytes_eq q) names)
 
 -- what is seen of a check's parts
 pub record Parts (x : PlainSource) : Type 0 where
@@ -73,6 +66,6 @@ all_kept x h =
     let given = taken_before h.u names (h.last + 1) x.composed.name ++ components_faults h.u h.table [] (h.last + 3) x.composed.components in
     let wanted = taken_before (whole_scope x) names (composed_at x + 1) x.composed.name ++ components_faults (whole_scope x) (table_of x) [] (composed_at x + 3) x.composed.components in
     let automata = automata_faults (types_scope x) [] 0 (definitions_size x.types) x.automata in
-    let third = h.composed_kept names (added h.grown names h.used h.none_used h.uses) in
+    let third = h.composed_kept names (from_none h.grown names h.used h.none_used h.uses) in
     let both : h.r ≡ keep h.p (automata ++ wanted) = keep_both h.p h.q h.r automata given wanted second rest third in
     keep_both None h.p h.r (definitions_faults [] 0 0 x.types) (automata ++ wanted) (automata ++ wanted) first refl both

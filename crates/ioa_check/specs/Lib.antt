@@ -1,5 +1,12 @@
+pub mod AutomatonParts
+pub mod AutomatonViews
+pub mod Bodies
+pub mod ComponentParts
+pub mod ComponentViews
+pub mod ListParts
+pub mod Meant
 pub mod Numbers
-pub mod Parts
 pub mod Refusals
 pub mod Resolutions
-pub mod Views
+pub mod Sets
+pub mod SourceViews

@@ -1,10 +1,10 @@
 -- What is resolved, in the words of the rules: no part is missing.
 use Rattle.std.specs.Prelude.{Some, map, string_bytes}
-use Rattle.ioa_automata.specs.Views.{place_lists}
-use Rattle.ioa_effects.specs.Views.{done_tree}
-use Rattle.ioa_entries.specs.Views.{slot_tree}
-use Rattle.ioa_kinds.specs.Views.{option_tree}
-use Rattle.ioa_typing.specs.Views.{core_tree}
+use Rattle.ioa_check.specs.AutomatonViews.{place_lists}
+use Rattle.ioa_entries.specs.EffectViews.{done_tree}
+use Rattle.ioa_entries.specs.EntryViews.{slot_tree}
+use Rattle.ioa_typing.specs.KindViews.{option_tree}
+use Rattle.ioa_typing.specs.TermViews.{core_tree}
 use Rattle.ioa_rules.specs.EntryRules as entry
 use Rattle.ioa_rules.specs.AutomatonRules as automaton
 use Rattle.ioa_rules.specs.SourceRules as source

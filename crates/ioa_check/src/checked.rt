@@ -17,7 +17,7 @@ impl Model for Checked {
     ghost use Rattle.ioa_check.specs.declared.resolved.Resolved.{Resolved};
     ghost use Rattle.ioa_check.specs.Refusals.{IsMeant};
     ghost use Rattle.ioa_check.specs.Resolutions.{meaning};
-    ghost use Rattle.ioa_kinds.specs.contracts.kind.Kind as kind;
+    ghost use Rattle.ioa_typing.specs.contracts.kind.Kind as kind;
     ghost use Rattle.terms.specs.contracts.term.Term as term;
     ghost use Rattle.terms.specs.contracts.effect.Effect as effect;
 

@@ -4,25 +4,25 @@ ghost use Rattle.ioa_trees.specs.Views.{view_source};
 ghost use Rattle.ioa_rules.specs.Faults.{keep};
 ghost use Rattle.ioa_rules.specs.Sizes.{component_size, listed_size};
 ghost use Rattle.ioa_rules.specs.SourceRules.{composed_at, source_faults, source_meaning};
-ghost use Rattle.ioa_typing.specs.Views.{least_tree};
+ghost use Rattle.ioa_typing.specs.TermViews.{least_tree};
 ghost use Rattle.ioa_check.specs.Refusals.{IsRefused};
 ghost use Rattle.ioa_check.specs.Resolutions.{meaning};
-ghost use Rattle.ioa_check.specs.Views.{source_tree};
+ghost use Rattle.ioa_check.specs.SourceViews.{source_tree};
 
+use crate::automata::check_automata;
 use crate::checked::Checked;
+use crate::composed::check_composed;
 use crate::definitions::check_definitions;
 use crate::fault::{CheckError, refusal};
 use crate::laws::number_law;
 use crate::meant::MeantSource;
 use crate::resolving::resolve;
-use ioa_automata::{Used, check_automata};
-use ioa_components::check_composed;
+use crate::used::Used;
 use ioa_front::Source;
-use ioa_names::Names;
 use ioa_rules::laws::{least_law, size_law};
 use ioa_rules::meant::sources_meant_law;
 use ioa_trees::tree::SourceTree;
-use ioa_typing::{Fault, Walk};
+use ioa_typing::{Fault, Names, Walk};
 use std::alloc::{AllocError, Global};
 
 // What a tree means, and its least fault.

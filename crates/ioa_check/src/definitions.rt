@@ -7,22 +7,14 @@ ghost use Rattle.ioa_rules.specs.Scopes as scopes;
 ghost use Rattle.ioa_rules.specs.Sizes.{definition_size, listed_size, name_size, type_size};
 ghost use Rattle.ioa_rules.specs.TypeRules.{kind_of, type_faults};
 ghost use Rattle.ioa_rules.specs.SourceRules as rule;
-ghost use Rattle.ioa_names.specs.Views.{names_tree};
-ghost use Rattle.ioa_typing.specs.Views.{least_tree};
-ghost use Rattle.ioa_check.specs.Parts as part;
+ghost use Rattle.ioa_typing.specs.NameViews.{names_tree};
+ghost use Rattle.ioa_typing.specs.TermViews.{least_tree};
+ghost use Rattle.ioa_check.specs.ListParts as part;
 
-use ioa_kinds::Kind;
-use ioa_names::{Meaning, Names};
+use crate::between::between;
 use ioa_trees::tree::{TypeBody, TypeDefinition, TypeTree};
-use ioa_typing::{Walk, check_type};
+use ioa_typing::{Kind, Meaning, Names, Walk, check_type};
 use std::alloc::{AllocError, Global};
-
-// The token between two names.
-fn between(is_first: bool) -> u32
-    ensures { result ≡ part.between is_first }
-{
-    if is_first { 0 } else { 1 }
-}
 
 // Checks the members of an enumeration, and declares each of them; the first one has this number among all members.
 fn check_members(

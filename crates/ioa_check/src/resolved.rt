@@ -1,7 +1,7 @@
 //! What a source means, without names: nothing has to be looked up any more, and nothing is missing.
 use ioa_entries::Slot;
-use ioa_kinds::Kind;
 use ioa_trees::tree::EntryKind;
+use ioa_typing::Kind;
 use terms::{Effect, Term};
 
 /// What an automaton does by an action. The parameters of its precondition and of its effect are numbered by their places.

@@ -1,20 +1,20 @@
 // What is there of the parts of a meaning, of which none is missing.
 ghost use Rattle.std.specs.Prelude.{◌≡◌, Some, IsSome, map, IfOk};
 ghost use Rattle.std.specs.List.{All};
-ghost use Rattle.ioa_automata.specs.Meant.{automaton_tree};
-ghost use Rattle.ioa_automata.specs.Views.{cell_kind, cell_start};
-ghost use Rattle.ioa_components.specs.Views.{component_tree};
-ghost use Rattle.ioa_entries.specs.Views.{meant_tree};
-ghost use Rattle.ioa_kinds.specs.Views.{option_tree};
+ghost use Rattle.ioa_check.specs.Meant.{automaton_tree};
+ghost use Rattle.ioa_check.specs.AutomatonViews.{cell_kind, cell_start};
+ghost use Rattle.ioa_check.specs.ComponentViews.{component_tree};
+ghost use Rattle.ioa_entries.specs.EntryViews.{meant_tree};
+ghost use Rattle.ioa_typing.specs.KindViews.{option_tree};
 ghost use Rattle.ioa_rules.specs.Meant.{AllSome, IsWhole, IsWholeAutomaton, IsWholeComponent, IsWholeEntry};
-ghost use Rattle.ioa_typing.specs.Views.{core_tree};
+ghost use Rattle.ioa_typing.specs.TermViews.{core_tree};
 ghost use Rattle.ioa_check.specs.Resolutions.{automaton_meaning, component_meaning, meaning, transition_meaning};
-ghost use Rattle.ioa_check.specs.Views.{source_tree};
+ghost use Rattle.ioa_check.specs.SourceViews.{source_tree};
 
-use crate::meant::MeantSource;
+use crate::component::MeantComponent;
+use crate::meant::{MeantAutomaton, MeantSource};
 use crate::resolved::{Automaton, Component, Resolved, Transition, Variable};
-use ioa_automata::{Cell, MeantAutomaton};
-use ioa_components::MeantComponent;
+use crate::variables::Cell;
 use ioa_entries::Meant;
 use std::alloc::{AllocError, Global};
 

@@ -3,8 +3,8 @@
 use action_types::first_difference;
 use ioa_check::{Automaton, Component, Resolved, Transition};
 use ioa_entries::Slot;
-use ioa_kinds::Kind;
 use ioa_trees::tree::EntryKind;
+use ioa_typing::Kind;
 use std::alloc::AllocGlobal;
 use std::process::Abort;
 use terms::{Effect, Scalar, Term};

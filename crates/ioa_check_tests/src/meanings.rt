@@ -2,7 +2,7 @@
 use ioa_check::{Automaton, Component, check};
 use ioa_entries::Slot;
 use ioa_front::read;
-use ioa_kinds::Kind;
+use ioa_typing::Kind;
 use std::alloc::Global;
 use std::test::Fail;
 use terms::{Env, Scalar, State, Value, eval, run};

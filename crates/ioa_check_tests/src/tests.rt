@@ -2,8 +2,8 @@
 use ioa_check::{Automaton, CheckError, Component, Resolved, Transition, check};
 use ioa_entries::Slot;
 use ioa_front::read;
-use ioa_kinds::Kind;
 use ioa_trees::tree::EntryKind;
+use ioa_typing::Kind;
 use std::alloc::Global;
 use std::test::Fail;
 

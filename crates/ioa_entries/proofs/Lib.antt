@@ -1,5 +1,6 @@
-pub mod Capped
-pub mod Keeps
-pub mod Parts
+pub mod Chained
+pub mod Misfits
+pub mod ParameterParts
 pub mod Rows
 pub mod Scans
+pub mod StatementParts

@@ -14,15 +14,11 @@ use Rattle.ioa_rules.specs.Faults.{Fault, keep, where_wrong}
 use Rattle.ioa_rules.specs.Scopes.{Scope, Meaning, OfParameter, declare}
 use Rattle.ioa_rules.specs.Sizes.{bracketed_size, entry_size, listed_size, parameter_size, pre_size, transition_size}
 use Rattle.ioa_rules.specs.TypeRules.{kind_of}
-use Rattle.ioa_entries.specs.Parts.{bracket, inside_faults}
-use Rattle.ioa_entries.proofs.Keeps.{keep_append, keep_both, keep_five, keep_three}
-use Rattle.ioa_entries.proofs.Scans.{any_map}
+use Rattle.ioa_entries.specs.EntryParts.{bracket, inside_faults}
+use Rattle.ioa_typing.proofs.Keeps.{keep_append, keep_both, keep_five, keep_three}
+use Rattle.ioa_typing.proofs.Items.{any_map, take_all}
 
 -- ---- names that were declared last are forgotten
-
-take_all : {A : Type 0} (xs : List A) → take (length xs) xs ≡ xs
-take_all [] = refl
-take_all (x ∷ xs) = ap (λ ys. x ∷ ys) (take_all xs)
 
 abbrev first_or : {A : Type 0} → A → List A → A
 first_or x [] = x

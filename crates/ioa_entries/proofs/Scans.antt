@@ -7,11 +7,8 @@ use Rattle.ioa_trees.specs.declared.tree.Entry.{Entry}
 use Rattle.ioa_trees.specs.Trees.{PlainEntry}
 use Rattle.ioa_trees.specs.Views.{view_entry}
 use Rattle.ioa_rules.specs.EntryRules.{agrees, entry_for, has_task}
-use Rattle.ioa_entries.specs.Lists.{task_names}
-
-pub any_map : {A B : Type 0} (f : B → Bool) (h : A → B) (xs : List A) → list_any f (map h xs) ≡ list_any (λ x. f (h x)) xs
-any_map f h [] = refl
-any_map f h (x ∷ xs) = ap (λ b. f (h x) || b) (any_map f h xs)
+use Rattle.ioa_entries.specs.TaskNames.{task_names}
+use Rattle.ioa_typing.proofs.Items.{any_map}
 
 pub found_is : (t : PlainEntry) (es : List Entry) → option_map view_entry (find (λ e. agrees t (view_entry e)) es) ≡ entry_for t (map view_entry es)
 found_is t [] = refl

@@ -1,3 +1,6 @@
-pub mod Lists
-pub mod Parts
-pub mod Views
+pub mod EffectLists
+pub mod EffectViews
+pub mod EntryParts
+pub mod EntryViews
+pub mod StatementParts
+pub mod TaskNames

@@ -5,17 +5,16 @@ ghost use Rattle.ioa_rules.specs.EntryRules as rule;
 ghost use Rattle.ioa_rules.specs.Faults.{keep};
 ghost use Rattle.ioa_rules.specs.Scopes.{Scope};
 ghost use Rattle.ioa_rules.specs.Sizes.{bracketed_size, entry_size, parameter_size, row_size};
-ghost use Rattle.ioa_kinds.specs.Views.{capped};
-ghost use Rattle.ioa_names.specs.Views.{names_tree};
-ghost use Rattle.ioa_typing.specs.Views.{least_tree};
-ghost use Rattle.ioa_entries.specs.Lists.{task_names};
-ghost use Rattle.ioa_entries.specs.Parts as part;
+ghost use Rattle.ioa_typing.specs.KindViews.{capped};
+ghost use Rattle.ioa_typing.specs.NameViews.{names_tree};
+ghost use Rattle.ioa_typing.specs.TermViews.{least_tree};
+ghost use Rattle.ioa_entries.specs.TaskNames.{task_names};
+ghost use Rattle.ioa_entries.specs.EntryParts as part;
 
 use crate::heads::{clashes_before, has_task, has_transition, is_controlled};
 use crate::parameters::check_parameters;
-use ioa_names::Names;
 use ioa_trees::tree::{Entry, Parameter, Transition};
-use ioa_typing::Walk;
+use ioa_typing::{Names, Walk};
 use std::alloc::{AllocError, Global};
 
 // A parenthesis, where there are parameters.

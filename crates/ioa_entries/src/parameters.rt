@@ -6,17 +6,15 @@ ghost use Rattle.ioa_rules.specs.Faults.{keep};
 ghost use Rattle.ioa_rules.specs.Scopes.{doubled, is_formal, named};
 ghost use Rattle.ioa_rules.specs.Sizes.{declared_size, listed_size, parameter_size};
 ghost use Rattle.ioa_rules.specs.TypeRules.{kind_of, type_faults};
-ghost use Rattle.ioa_kinds.specs.Views.{capped, option_tree};
-ghost use Rattle.ioa_names.specs.Views.{names_tree};
-ghost use Rattle.ioa_typing.specs.Views.{least_tree};
-ghost use Rattle.ioa_entries.specs.Parts as part;
+ghost use Rattle.ioa_typing.specs.KindViews.{capped, option_tree};
+ghost use Rattle.ioa_typing.specs.NameViews.{names_tree};
+ghost use Rattle.ioa_typing.specs.TermViews.{least_tree};
+ghost use Rattle.ioa_entries.specs.EntryParts as part;
 
-use ioa_kinds::Kind;
-use ioa_kinds::kind::{can_be_listed, count};
-use ioa_names::{Meaning, Names};
 use ioa_trees::tree::{Declared, Parameter};
+use ioa_typing::kind::{can_be_listed, count};
 use ioa_typing::types::{note_unlisted, note_unscalar};
-use ioa_typing::{Walk, check_type};
+use ioa_typing::{Kind, Meaning, Names, Walk, check_type};
 use std::alloc::{AllocError, Global};
 
 fn is_formal(names: &Names, name: &str) -> bool
@@ -66,7 +64,7 @@ pub(crate) fn between(place: usize) -> u32
     if place == 0 { 0 } else { 1 }
 }
 
-#[tactic(auto, using(crate::proofs::Keeps::keep_append))]
+#[tactic(auto, using(ioa_typing::proofs::Keeps::keep_append))]
 fn check_typed(
     alloc: Global,
     names: &mut Names,

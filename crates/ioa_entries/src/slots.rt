@@ -5,17 +5,15 @@ ghost use Rattle.ioa_rules.specs.EntryRules as rule;
 ghost use Rattle.ioa_rules.specs.Scopes.{named};
 ghost use Rattle.ioa_rules.specs.Sizes.{declared_size, listed_size, parameter_size};
 ghost use Rattle.ioa_rules.specs.TypeRules.{kind_of};
-ghost use Rattle.ioa_kinds.specs.Views.{option_tree};
-ghost use Rattle.ioa_names.specs.Views.{names_tree};
-ghost use Rattle.ioa_entries.specs.Parts as part;
-ghost use Rattle.ioa_entries.specs.Views.{slot_tree};
+ghost use Rattle.ioa_typing.specs.KindViews.{option_tree};
+ghost use Rattle.ioa_typing.specs.NameViews.{names_tree};
+ghost use Rattle.ioa_entries.specs.EntryParts as part;
+ghost use Rattle.ioa_entries.specs.EntryViews.{slot_tree};
 
 use crate::parameters::between;
-use ioa_kinds::Kind;
-use ioa_kinds::kind::copy_kind;
-use ioa_names::{Meaning, Names};
 use ioa_trees::tree::{Declared, Parameter};
-use ioa_typing::{Walk, check_type};
+use ioa_typing::kind::copy_kind;
+use ioa_typing::{Kind, Meaning, Names, Walk, check_type};
 use std::alloc::{AllocError, Global};
 
 /// What a parameter of an action takes.

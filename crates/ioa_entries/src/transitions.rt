@@ -7,20 +7,19 @@ ghost use Rattle.ioa_rules.specs.Faults.{keep};
 ghost use Rattle.ioa_rules.specs.Kinds.{is_truth};
 ghost use Rattle.ioa_rules.specs.Sizes.{bracketed_size, eff_size, entry_size, parameter_size, pre_size, row_size, size, transition_size};
 ghost use Rattle.ioa_rules.specs.TermRules as term;
-ghost use Rattle.ioa_effects.specs.Views.{done_tree};
-ghost use Rattle.ioa_names.specs.Views.{names_tree};
-ghost use Rattle.ioa_typing.specs.Views.{core_tree, least_tree};
-ghost use Rattle.ioa_entries.specs.Parts as part;
-ghost use Rattle.ioa_entries.specs.Views.{meant_tree, slot_tree};
+ghost use Rattle.ioa_entries.specs.EffectViews.{done_tree};
+ghost use Rattle.ioa_typing.specs.NameViews.{names_tree};
+ghost use Rattle.ioa_typing.specs.TermViews.{core_tree, least_tree};
+ghost use Rattle.ioa_entries.specs.EntryParts as part;
+ghost use Rattle.ioa_entries.specs.EntryViews.{meant_tree, slot_tree};
 
 use crate::entries::bracket;
 use crate::heads::{entry_for, has_transition, is_input, same_parameters};
 use crate::slots::{Slot, declare_parameters};
-use ioa_effects::check_statements;
-use ioa_names::Names;
+use crate::statements::check_statements;
 use ioa_trees::tree::{Entry, EntryKind, Parameter, Statement, Term as TermTree, Transition};
 use ioa_typing::typed::{note_unless_truth, truth_of};
-use ioa_typing::{Walk, check_term};
+use ioa_typing::{Names, Walk, check_term};
 use std::alloc::{AllocError, Global};
 use terms::{Effect, Scalar, Term};
 
@@ -67,7 +66,7 @@ fn declare_bracketed(
     Ok(slots)
 }
 
-#[tactic(auto, using(crate::proofs::Keeps::keep_append))]
+#[tactic(auto, using(ioa_typing::proofs::Keeps::keep_append))]
 fn check_truth(
     alloc: Global,
     names: &Names,
@@ -86,7 +85,7 @@ fn check_truth(
 }
 
 // Checks what stands behind `pre`; where nothing stands, each state will do.
-#[tactic(auto, using(crate::proofs::Keeps::keep_append))]
+#[tactic(auto, using(ioa_typing::proofs::Keeps::keep_append))]
 fn check_pre(
     alloc: Global,
     names: &Names,

@@ -1,7 +1,5 @@
 -- The least fault after lists of faults, one after the other.
-use Rattle.std.proofs.Common.{◌≡◌, ◌<◌, ◌+◌, ℕ, Option, List, [], ◌∷◌, ◌++◌, refl, ap, sym, ◌∙◌, drop, length}
-use Rattle.std.proofs.Math.ListN.{get_or}
-use Rattle.std.proofs.lemmas.List.{drop_more}
+use Rattle.std.proofs.Common.{◌≡◌, Option, List, [], ◌∷◌, ◌++◌, refl, ap, sym, ◌∙◌}
 use Rattle.ioa_rules.specs.Faults.{Fault, keep, note}
 
 pub keep_append : (o : Option Fault) (fs gs : List Fault) → keep o (fs ++ gs) ≡ keep (keep o fs) gs
@@ -22,6 +20,8 @@ pub keep_parts : (o p q z : Option Fault) (fs gs hs rest tail : List Fault) → 
 keep_parts o p q z fs gs hs rest tail first same second rests third =
     keep_three o p q z fs gs hs tail first same second (third ∙ ap (λ xs. keep q xs) rests)
 
--- what is left of a list, and its first item
-pub drop_item : {X : Type 0} (xs : List X) (i : ℕ) (x : X) → x ≡ get_or xs i x → i < length xs → drop i xs ≡ x ∷ drop (i + 1) xs
-drop_item xs i x is below = drop_more xs i x below ∙ ap (λ y. y ∷ drop (i + 1) xs) (sym is)
+pub keep_five : (o p q r u z : Option Fault) (fs gs hs js is' rest : List Fault) → p ≡ keep o fs → q ≡ keep p gs → r ≡ keep q js → js ≡ hs → u ≡ keep r is' → z ≡ keep u rest → z ≡ keep o (fs ++ (gs ++ (hs ++ (is' ++ rest))))
+keep_five o p q r u z fs gs hs js is' rest first second third same fourth fifth =
+    let last : z ≡ keep r (is' ++ rest) = fifth ∙ ap (λ x. keep x rest) fourth ∙ sym (keep_append r is' rest) in
+    let middle : z ≡ keep p (gs ++ (hs ++ (is' ++ rest))) = keep_three p q r z gs js hs (is' ++ rest) second same third last in
+    middle ∙ ap (λ x. keep x (gs ++ (hs ++ (is' ++ rest)))) first ∙ sym (keep_append o fs (gs ++ (hs ++ (is' ++ rest))))

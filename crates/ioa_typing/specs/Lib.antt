@@ -1,1 +1,3 @@
-pub mod Views
+pub mod KindViews
+pub mod NameViews
+pub mod TermViews

@@ -1,11 +1,10 @@
 //! Kinds as terms and effects have them.
 ghost use Rattle.std.specs.Prelude.{◌≡◌, IfOk};
 ghost use Rattle.terms.specs.ShapeTree.{shape_tree};
-ghost use Rattle.ioa_kinds.specs.Views.{kind_tree};
+ghost use Rattle.ioa_typing.specs.KindViews.{kind_tree};
 ghost use Rattle.ioa_rules.specs.Kinds as kinds;
 
-use ioa_kinds::Kind;
-use ioa_kinds::kind::count;
+use crate::kind::{Kind, count};
 use std::alloc::{AllocError, Global};
 use terms::{Listed, Shape};
 

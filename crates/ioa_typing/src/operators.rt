@@ -2,19 +2,20 @@
 ghost use Rattle.std.specs.Prelude.{◌≡◌, ◌+◌, ◌<◌, ◌^◌, not, OnOk, IfOk};
 ghost use Rattle.terms.specs.TermTree as core;
 ghost use Rattle.terms.specs.TermTree.{term_tree};
-ghost use Rattle.ioa_kinds.specs.Views.{option_tree, shape_tree};
-ghost use Rattle.ioa_names.specs.Views.{names_tree};
+ghost use Rattle.ioa_typing.specs.KindViews.{option_tree, shape_tree};
+ghost use Rattle.ioa_typing.specs.NameViews.{names_tree};
 ghost use Rattle.ioa_rules.specs.Faults.{keep, where_wrong};
 ghost use Rattle.ioa_rules.specs.Kinds as kinds;
 ghost use Rattle.ioa_rules.specs.Scopes.{named, is_value};
 ghost use Rattle.ioa_rules.specs.TermRules as rule;
-ghost use Rattle.ioa_typing.specs.Views.{core_tree, judged_tree, least_tree, typed_tree};
+ghost use Rattle.ioa_typing.specs.TermViews.{core_tree, judged_tree, least_tree, typed_tree};
 
+use crate::kind::Kind;
+use crate::meaning::Meaning;
+use crate::names::Names;
+use crate::shape::{Shape, fits, is_whole, shape_of};
 use crate::typed::{Typed, note_unless_truth, note_unless_whole, truth_of, whole_of};
 use crate::walk::Walk;
-use ioa_kinds::shape::{fits, is_whole, shape_of};
-use ioa_kinds::{Kind, Shape};
-use ioa_names::{Meaning, Names};
 use ioa_trees::tree::{Relation, Sign};
 use std::alloc::{AllocError, Global};
 use terms::{Operator, Scalar, Term};

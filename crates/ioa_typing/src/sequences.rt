@@ -1,17 +1,17 @@
 //! What is asked of sequences, and the elements of arrays.
 ghost use Rattle.std.specs.Prelude.{◌≡◌, ◌++◌, Some, OnOk, IfOk};
 ghost use Rattle.terms.specs.TermTree.{term_tree};
-ghost use Rattle.ioa_kinds.specs.Views.{kind_tree, shape_tree};
+ghost use Rattle.ioa_typing.specs.KindViews.{kind_tree, shape_tree};
 ghost use Rattle.ioa_rules.specs.Faults.{keep};
 ghost use Rattle.ioa_rules.specs.Kinds as kinds;
 ghost use Rattle.ioa_rules.specs.TermRules as rule;
-ghost use Rattle.ioa_typing.specs.Views.{judged_tree, least_tree, typed_tree};
+ghost use Rattle.ioa_typing.specs.TermViews.{judged_tree, least_tree, typed_tree};
 
+use crate::kind::Kind;
 use crate::listing::{item_shape, listed_of};
+use crate::shape::{Shape, fits, shape_of};
 use crate::typed::{Typed, note_unfit, note_unless_seq, placed};
 use crate::walk::Walk;
-use ioa_kinds::shape::{fits, shape_of};
-use ioa_kinds::{Kind, Shape};
 use ioa_trees::tree::Call;
 use std::alloc::{AllocError, Global};
 use terms::Term;

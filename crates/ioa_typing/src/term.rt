@@ -7,18 +7,18 @@ ghost use Rattle.ioa_rules.specs.TermRules as rule;
 ghost use Rattle.ioa_trees.specs.Trees as plain;
 ghost use Rattle.ioa_trees.specs.Trees.{no_factor, more_factors, pack_terms, pack_factors, pack_addends};
 ghost use Rattle.ioa_trees.specs.Views.{view, view_factor, view_addend};
-ghost use Rattle.ioa_names.specs.Views.{names_tree};
-ghost use Rattle.ioa_typing.specs.Views.{core_tree, judged_tree, least_tree};
+ghost use Rattle.ioa_typing.specs.NameViews.{names_tree};
+ghost use Rattle.ioa_typing.specs.TermViews.{core_tree, judged_tree, least_tree};
 
+use crate::names::Names;
 use crate::operators::{
     check_name, end_compare, end_minus, end_not, join_truth, join_whole, known, modulo_of, of_core,
     operator_of,
 };
 use crate::sequences::{end_append, end_call, end_element};
+use crate::shape::Shape;
 use crate::typed::{Typed, note_unless_truth, note_unless_whole, truth_of, whole_of};
 use crate::walk::Walk;
-use ioa_kinds::Shape;
-use ioa_names::Names;
 use ioa_trees::tree::{Addend, Call, Factor, Relation, Term};
 use std::alloc::{AllocError, Global};
 use terms::{Operator, Scalar};

@@ -1,16 +1,15 @@
 //! Terms without names, and what is asked of their kinds.
 ghost use Rattle.std.specs.Prelude.{◌≡◌, IfOk};
 ghost use Rattle.terms.specs.TermTree.{term_tree};
-ghost use Rattle.ioa_kinds.specs.Views.{shape_tree};
+ghost use Rattle.ioa_typing.specs.KindViews.{shape_tree};
 ghost use Rattle.ioa_rules.specs.Faults.{keep};
 ghost use Rattle.ioa_rules.specs.Kinds as kinds;
 ghost use Rattle.ioa_rules.specs.TermRules as rule;
 ghost use Rattle.ioa_rules.specs.ValueRules as value;
-ghost use Rattle.ioa_typing.specs.Views.{core_tree, judged_tree, least_tree};
+ghost use Rattle.ioa_typing.specs.TermViews.{core_tree, judged_tree, least_tree};
 
+use crate::shape::{Shape, fits, is_seq, is_truth, is_whole};
 use crate::walk::Walk;
-use ioa_kinds::Shape;
-use ioa_kinds::shape::{fits, is_seq, is_truth, is_whole};
 use std::alloc::{AllocError, Global};
 use terms::Term;
 

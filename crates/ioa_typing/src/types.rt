@@ -6,14 +6,14 @@ ghost use Rattle.ioa_rules.specs.Scopes.{named, is_type, kind_meant};
 ghost use Rattle.ioa_rules.specs.Sizes.{signed_size, type_size};
 ghost use Rattle.ioa_rules.specs.TypeRules as rule;
 ghost use Rattle.ioa_trees.specs.Views.{view_type};
-ghost use Rattle.ioa_kinds.specs.Views.{kind_tree, option_tree};
-ghost use Rattle.ioa_names.specs.Views.{names_tree};
-ghost use Rattle.ioa_typing.specs.Views.{least_tree};
+ghost use Rattle.ioa_typing.specs.KindViews.{kind_tree, option_tree};
+ghost use Rattle.ioa_typing.specs.NameViews.{names_tree};
+ghost use Rattle.ioa_typing.specs.TermViews.{least_tree};
 
+use crate::kind::{Kind, can_be_listed, copy_kind, count, is_scalar, weight};
+use crate::meaning::Meaning;
+use crate::names::Names;
 use crate::walk::Walk;
-use ioa_kinds::Kind;
-use ioa_kinds::kind::{can_be_listed, copy_kind, count, is_scalar, weight};
-use ioa_names::{Meaning, Names};
 use ioa_trees::tree::{Signed, TypeTree};
 use std::alloc::{AllocError, Global};
 

@@ -1,7 +1,7 @@
 //! Where a check stands, and the least fault so far.
 ghost use Rattle.std.specs.Prelude.{◌≡◌, Bool};
 ghost use Rattle.ioa_rules.specs.Faults as rule;
-ghost use Rattle.ioa_typing.specs.Views.{fault_tree, least_tree};
+ghost use Rattle.ioa_typing.specs.TermViews.{fault_tree, least_tree};
 
 /// A fault: the number of the token, and the fault's number.
 #[derive(Clone, Copy, PartialEq, Eq, Debug)]

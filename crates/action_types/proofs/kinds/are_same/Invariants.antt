@@ -1,6 +1,6 @@
 use Rattle.std.proofs.Common.{◌≡◌, ◌≤◌, Some, drop, length, map}
-use Rattle.ioa_entries.specs.Views.{slot_tree}
-use Rattle.ioa_kinds.specs.Views.{option_tree}
+use Rattle.ioa_entries.specs.EntryViews.{slot_tree}
+use Rattle.ioa_typing.specs.KindViews.{option_tree}
 use Rattle.action_types.specs.Types.{same_kinds, slot_kind}
 use Rattle.action_types.specs.Standings.{stood}
 use Rattle.action_types.proofs.kinds.are_same.Given as goal

@@ -1,9 +1,9 @@
 use Rattle.std.proofs.Common.{◌≡◌, ◌+◌, ◌++◌, ◌∷◌, List, Some, ap, drop, map, string_bytes, subst}
 use Rattle.ioa_check.specs.Resolutions.{automaton_meaning, transition_meaning}
 use Rattle.ioa_check.specs.declared.resolved.Transition.{Transition}
-use Rattle.ioa_entries.specs.Views.{slot_tree}
-use Rattle.ioa_kinds.specs.Views.{option_tree}
-use Rattle.ioa_kinds.specs.declared.kind.Kind.{Kind}
+use Rattle.ioa_entries.specs.EntryViews.{slot_tree}
+use Rattle.ioa_typing.specs.KindViews.{option_tree}
+use Rattle.ioa_typing.specs.declared.kind.Kind.{Kind}
 use Rattle.action_types.specs.Types.{slot_kind}
 use Rattle.action_types.specs.Standings.{Stood, stood, stood_in}
 use Rattle.action_types.proofs.Steps.{drop_at, push_step}

@@ -1,5 +1,5 @@
 use Rattle.std.proofs.Common.{[]}
-use Rattle.ioa_automata.specs.Views.{place_lists}
+use Rattle.ioa_check.specs.AutomatonViews.{place_lists}
 use Rattle.instances.proofs.automata.automaton.Goals as goal
 
 pub returns : goal.returns

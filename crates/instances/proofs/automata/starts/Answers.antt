@@ -1,7 +1,7 @@
 use Rattle.std.proofs.Common.{rules, arith, ◌≡◌, ◌∷◌, Some, length, map, refl, ap}
 use Rattle.std.specs.Vec.Iter.{into_iter_items}
 use Rattle.terms.specs.TermTree.{term_tree}
-use Rattle.ioa_typing.specs.Views.{core_tree}
+use Rattle.ioa_typing.specs.TermViews.{core_tree}
 use Rattle.ioa_check.specs.declared.resolved.Variable.{Variable}
 use Rattle.instances.specs.Instances.{term_or_true}
 use Rattle.instances.proofs.Grown.{put}

@@ -1,7 +1,7 @@
 use Rattle.std.proofs.Common.{◌≡◌, ◌++◌, Some, length, map}
 use Rattle.std.specs.Vec.Iter.{into_iter_items, into_iter_len}
 use Rattle.terms.specs.TermTree.{term_tree}
-use Rattle.ioa_typing.specs.Views.{core_tree}
+use Rattle.ioa_typing.specs.TermViews.{core_tree}
 use Rattle.instances.specs.Instances.{term_or_true}
 use Rattle.instances.proofs.automata.starts.Given as goal
 

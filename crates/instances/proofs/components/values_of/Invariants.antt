@@ -1,5 +1,5 @@
 use Rattle.std.proofs.Common.{◌≡◌, Some, map, take}
-use Rattle.ioa_typing.specs.Views.{core_tree}
+use Rattle.ioa_typing.specs.TermViews.{core_tree}
 use Rattle.instances.specs.Instances.{argument}
 use Rattle.instances.proofs.components.values_of.Given as goal
 

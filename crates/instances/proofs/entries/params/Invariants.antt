@@ -1,5 +1,5 @@
 use Rattle.std.proofs.Common.{◌≡◌, Some, map, take}
-use Rattle.ioa_entries.specs.Views.{slot_tree}
+use Rattle.ioa_entries.specs.EntryViews.{slot_tree}
 use Rattle.instances.specs.Instances.{param_of}
 use Rattle.instances.proofs.entries.params.Given as goal
 

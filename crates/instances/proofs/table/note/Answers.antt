@@ -1,6 +1,6 @@
 use Rattle.std.proofs.Common.{rules, ◌≡◌, true, false, Some, is_some, map, string_bytes}
 use Rattle.std.specs.BTreeMap.{get_by_text}
-use Rattle.ioa_kinds.specs.Views.{option_tree}
+use Rattle.ioa_typing.specs.KindViews.{option_tree}
 use Rattle.ioa_check.specs.Resolutions.{transition_meaning}
 use Rattle.instances.specs.Names.{signature_of}
 use Rattle.instances.proofs.Firsts.{inserted, noted}

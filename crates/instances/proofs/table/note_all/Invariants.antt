@@ -1,5 +1,5 @@
 use Rattle.std.proofs.Common.{◌≤◌, ◌+◌, Some, map, take, length}
-use Rattle.ioa_kinds.specs.Views.{option_tree}
+use Rattle.ioa_typing.specs.KindViews.{option_tree}
 use Rattle.ioa_check.specs.Resolutions.{transition_meaning}
 use Rattle.instances.specs.Names.{signature_of}
 use Rattle.instances.specs.Tables.{Adds, table}

@@ -1,7 +1,7 @@
 use Rattle.std.proofs.Common.{◌≡◌, Some, map, take}
 use Rattle.terms.specs.ShapeTree.{shape_tree}
-use Rattle.ioa_entries.specs.Views.{slot_tree}
-use Rattle.ioa_kinds.specs.Views.{option_tree}
+use Rattle.ioa_entries.specs.EntryViews.{slot_tree}
+use Rattle.ioa_typing.specs.KindViews.{option_tree}
 use Rattle.instances.specs.Names.{type_in}
 use Rattle.instances.proofs.table.types_of.Given as goal
 

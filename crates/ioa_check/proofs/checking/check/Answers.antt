@@ -4,8 +4,8 @@ use Rattle.ioa_rules.specs.Faults.{IsLeast, keep}
 use Rattle.ioa_rules.specs.Meant.{IsWhole}
 use Rattle.ioa_rules.specs.Sizes.{component_size, listed_size}
 use Rattle.ioa_rules.specs.SourceRules.{composed_at, source_faults, source_meaning}
-use Rattle.ioa_typing.specs.Views.{fault_tree, least_tree}
-use Rattle.ioa_check.specs.Views.{source_tree}
+use Rattle.ioa_typing.specs.TermViews.{fault_tree, least_tree}
+use Rattle.ioa_check.specs.SourceViews.{source_tree}
 use Rattle.ioa_check.proofs.Answered.{room, told}
 use Rattle.ioa_check.proofs.checking.check.Goals as goal
 

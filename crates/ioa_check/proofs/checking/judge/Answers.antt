@@ -1,9 +1,9 @@
 use Rattle.std.proofs.Common.{rules, refl, None}
-use Rattle.ioa_automata.specs.Meant.{automaton_tree}
-use Rattle.ioa_automata.specs.Views.{used_names}
-use Rattle.ioa_names.specs.Views.{names_tree}
+use Rattle.ioa_check.specs.Meant.{automaton_tree}
+use Rattle.ioa_check.specs.AutomatonViews.{used_names}
+use Rattle.ioa_typing.specs.NameViews.{names_tree}
 use Rattle.ioa_trees.specs.Views.{view_source}
-use Rattle.ioa_typing.specs.Views.{least_tree}
+use Rattle.ioa_typing.specs.TermViews.{least_tree}
 use Rattle.std.proofs.Common.{map}
 use Rattle.ioa_check.proofs.Whole.{all_kept}
 use Rattle.ioa_check.proofs.checking.judge.Goals as goal

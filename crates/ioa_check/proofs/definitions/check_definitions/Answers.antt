@@ -3,9 +3,10 @@ use Rattle.ioa_trees.specs.Views.{view_type_definition}
 use Rattle.ioa_rules.specs.Faults.{keep}
 use Rattle.ioa_rules.specs.Sizes.{body_size, definition_size}
 use Rattle.ioa_rules.specs.SourceRules.{all_members, definitions_faults, definitions_size, members_in, with_definitions}
-use Rattle.ioa_names.specs.Views.{names_tree}
-use Rattle.ioa_typing.specs.Views.{least_tree}
-use Rattle.ioa_check.proofs.Defined.{counted, definitions_kept, definitions_named, drop_at, length_same, pushed_all}
+use Rattle.ioa_typing.specs.NameViews.{names_tree}
+use Rattle.ioa_typing.specs.TermViews.{least_tree}
+use Rattle.ioa_check.proofs.Defined.{counted, definitions_kept, definitions_named, length_same, pushed_all}
+use Rattle.ioa_typing.proofs.Items.{drop_at}
 use Rattle.ioa_check.proofs.Enumerations.{few_members}
 use Rattle.ioa_check.proofs.definitions.check_definitions.Goals as goal
 

@@ -2,8 +2,8 @@ use Rattle.std.proofs.Common.{◌≡◌, ◌++◌, ◌+◌, ◌≤◌, drop, len
 use Rattle.ioa_trees.specs.Views.{view_type_definition}
 use Rattle.ioa_rules.specs.Faults.{keep}
 use Rattle.ioa_rules.specs.SourceRules.{all_members, definitions_faults, definitions_size, with_definitions}
-use Rattle.ioa_names.specs.Views.{names_tree}
-use Rattle.ioa_typing.specs.Views.{least_tree}
+use Rattle.ioa_typing.specs.NameViews.{names_tree}
+use Rattle.ioa_typing.specs.TermViews.{least_tree}
 use Rattle.ioa_check.proofs.definitions.check_definitions.Given as goal
 
 abbrev pub invariant-loop-definition : goal.invariant-loop-definition

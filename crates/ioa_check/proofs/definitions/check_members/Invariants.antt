@@ -2,9 +2,9 @@ use Rattle.std.proofs.Common.{◌≡◌, ◌+◌, drop, length, map, string_byte
 use Rattle.ioa_rules.specs.Faults.{keep}
 use Rattle.ioa_rules.specs.Sizes.{listed_size, name_size}
 use Rattle.ioa_rules.specs.SourceRules.{members_faults, with_members}
-use Rattle.ioa_names.specs.Views.{names_tree}
-use Rattle.ioa_typing.specs.Views.{least_tree}
-use Rattle.ioa_check.specs.Parts.{between, left_size}
+use Rattle.ioa_typing.specs.NameViews.{names_tree}
+use Rattle.ioa_typing.specs.TermViews.{least_tree}
+use Rattle.ioa_check.specs.ListParts.{between, left_size}
 use Rattle.ioa_check.proofs.definitions.check_members.Given as goal
 
 abbrev pub invariant-loop-name : goal.invariant-loop-name

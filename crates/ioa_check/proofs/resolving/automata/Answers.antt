@@ -1,7 +1,7 @@
 use Rattle.std.proofs.Common.{rules, arith, ◌≡◌, ◌∷◌, ◌++◌, length, map, sym, ap, subst}
 use Rattle.std.specs.Vec.Iter.{into_iter_items}
 use Rattle.std.specs.List.{All}
-use Rattle.ioa_automata.specs.Meant.{automaton_tree}
+use Rattle.ioa_check.specs.Meant.{automaton_tree}
 use Rattle.ioa_rules.specs.Meant.{IsWholeAutomaton}
 use Rattle.ioa_check.specs.Resolutions.{automaton_meaning}
 use Rattle.ioa_check.proofs.Taken.{next_of, others_of, put}

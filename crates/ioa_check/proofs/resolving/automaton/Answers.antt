@@ -1,6 +1,6 @@
 use Rattle.std.proofs.Common.{refl, string_bytes}
-use Rattle.ioa_automata.specs.Views.{place_lists}
-use Rattle.ioa_kinds.specs.Views.{option_tree}
+use Rattle.ioa_check.specs.AutomatonViews.{place_lists}
+use Rattle.ioa_typing.specs.KindViews.{option_tree}
 use Rattle.ioa_check.proofs.Taken.{below, raised}
 use Rattle.ioa_check.proofs.resolving.automaton.Goals as goal
 

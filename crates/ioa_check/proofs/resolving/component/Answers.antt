@@ -1,5 +1,5 @@
 use Rattle.std.proofs.Common.{refl, string_bytes}
-use Rattle.ioa_typing.specs.Views.{core_tree}
+use Rattle.ioa_typing.specs.TermViews.{core_tree}
 use Rattle.ioa_check.proofs.Taken.{below, raised}
 use Rattle.ioa_check.proofs.resolving.component.Goals as goal
 

@@ -1,7 +1,7 @@
 use Rattle.std.proofs.Common.{refl, sym, string_bytes}
-use Rattle.ioa_effects.specs.Views.{done_tree}
-use Rattle.ioa_entries.specs.Views.{slot_tree}
-use Rattle.ioa_typing.specs.Views.{core_tree}
+use Rattle.ioa_entries.specs.EffectViews.{done_tree}
+use Rattle.ioa_entries.specs.EntryViews.{slot_tree}
+use Rattle.ioa_typing.specs.TermViews.{core_tree}
 use Rattle.ioa_check.proofs.Taken.{below, raised}
 use Rattle.ioa_check.proofs.resolving.transition.Goals as goal
 

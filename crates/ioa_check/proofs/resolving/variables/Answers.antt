@@ -1,10 +1,10 @@
 use Rattle.std.proofs.Common.{rules, arith, ◌≡◌, ◌∷◌, Some, IsSome, Option, length, map, ap}
 use Rattle.std.specs.Vec.Iter.{into_iter_items}
 use Rattle.terms.specs.TermTree.{TermTree}
-use Rattle.ioa_automata.specs.Views.{cell_kind, cell_start}
-use Rattle.ioa_kinds.specs.Views.{option_tree}
+use Rattle.ioa_check.specs.AutomatonViews.{cell_kind, cell_start}
+use Rattle.ioa_typing.specs.KindViews.{option_tree}
 use Rattle.ioa_rules.specs.Kinds.{Kind}
-use Rattle.ioa_typing.specs.Views.{core_tree}
+use Rattle.ioa_typing.specs.TermViews.{core_tree}
 use Rattle.ioa_check.specs.declared.resolved.Variable.{Variable}
 use Rattle.ioa_check.proofs.Taken.{others_of, put}
 use Rattle.ioa_check.proofs.resolving.variables.Goals as goal

@@ -4,10 +4,10 @@ use Rattle.ioa_trees.specs.Views.{view_entry, view_transition}
 use Rattle.ioa_rules.specs.EntryRules.{entries_faults, entry_faults}
 use Rattle.ioa_rules.specs.Faults.{keep}
 use Rattle.ioa_rules.specs.Sizes.{entry_size, row_size}
-use Rattle.ioa_names.specs.Views.{names_tree}
-use Rattle.ioa_typing.specs.Views.{least_tree}
-use Rattle.ioa_entries.specs.Lists.{task_names}
-use Rattle.ioa_entries.proofs.Parts.{drop_at}
+use Rattle.ioa_typing.specs.NameViews.{names_tree}
+use Rattle.ioa_typing.specs.TermViews.{least_tree}
+use Rattle.ioa_entries.specs.TaskNames.{task_names}
+use Rattle.ioa_typing.proofs.Items.{drop_at}
 use Rattle.ioa_entries.proofs.Rows.{before_reversed, entry_kept, reverse_next}
 use Rattle.ioa_entries.proofs.entries.check_entries.Goals as goal
 

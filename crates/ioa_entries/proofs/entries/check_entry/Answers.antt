@@ -1,10 +1,10 @@
 use Rattle.std.proofs.Common.{rules, arith, ◌≡◌, ◌+◌, map, option_map}
 use Rattle.ioa_trees.specs.Views.{view_entry, view_transition}
 use Rattle.ioa_rules.specs.EntryRules.{tuples}
-use Rattle.ioa_kinds.specs.Views.{capped}
-use Rattle.ioa_names.specs.Views.{names_tree}
-use Rattle.ioa_typing.specs.Views.{least_tree}
-use Rattle.ioa_entries.specs.Lists.{task_names}
+use Rattle.ioa_typing.specs.KindViews.{capped}
+use Rattle.ioa_typing.specs.NameViews.{names_tree}
+use Rattle.ioa_typing.specs.TermViews.{least_tree}
+use Rattle.ioa_entries.specs.TaskNames.{task_names}
 use Rattle.ioa_entries.proofs.Rows.{clash_is, entry_noted, not_missing}
 use Rattle.ioa_entries.proofs.entries.check_entry.Goals as goal
 

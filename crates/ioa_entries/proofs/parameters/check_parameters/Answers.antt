@@ -1,13 +1,14 @@
 use Rattle.std.proofs.Common.{rules, arith, ◌≡◌, ◌+◌, ◌∷◌, drop, map, option_map, refl, ap, sym, ◌∙◌}
 use Rattle.ioa_trees.specs.Views.{view_parameter}
-use Rattle.ioa_kinds.specs.Views.{capped}
-use Rattle.ioa_names.specs.Views.{names_tree}
+use Rattle.ioa_typing.specs.KindViews.{capped}
+use Rattle.ioa_typing.specs.NameViews.{names_tree}
 use Rattle.ioa_rules.specs.EntryRules.{parameters_faults, times, tuples, with_parameters}
 use Rattle.ioa_rules.specs.Faults.{keep}
 use Rattle.ioa_rules.specs.Sizes.{listed_size, parameter_size}
-use Rattle.ioa_typing.specs.Views.{least_tree}
-use Rattle.ioa_entries.specs.Parts.{after_parameter, between, parameter_faults, rest_size, values_of}
-use Rattle.ioa_entries.proofs.Parts.{add_zero, capped_again, drop_at, kept_between, names_next, parameter_kept, rest_sized, tuples_kept, tuples_start}
+use Rattle.ioa_typing.specs.TermViews.{least_tree}
+use Rattle.ioa_entries.specs.EntryParts.{after_parameter, between, parameter_faults, rest_size, values_of}
+use Rattle.ioa_entries.proofs.ParameterParts.{add_zero, capped_again, kept_between, names_next, parameter_kept, rest_sized, tuples_kept, tuples_start}
+use Rattle.ioa_typing.proofs.Items.{drop_at}
 use Rattle.ioa_entries.proofs.parameters.check_parameters.Goals as goal
 
 pub loop-place-init : goal.loop-place-init

@@ -3,10 +3,10 @@ use Rattle.ioa_trees.specs.Views.{view_parameter}
 use Rattle.ioa_rules.specs.EntryRules.{parameters_faults, times, tuples, with_parameters}
 use Rattle.ioa_rules.specs.Faults.{keep}
 use Rattle.ioa_rules.specs.Sizes.{listed_size, parameter_size}
-use Rattle.ioa_kinds.specs.Views.{capped}
-use Rattle.ioa_names.specs.Views.{names_tree}
-use Rattle.ioa_typing.specs.Views.{least_tree}
-use Rattle.ioa_entries.specs.Parts.{between, rest_size}
+use Rattle.ioa_typing.specs.KindViews.{capped}
+use Rattle.ioa_typing.specs.NameViews.{names_tree}
+use Rattle.ioa_typing.specs.TermViews.{least_tree}
+use Rattle.ioa_entries.specs.EntryParts.{between, rest_size}
 use Rattle.ioa_entries.proofs.parameters.check_parameters.Given as goal
 
 abbrev pub invariant-loop-place : goal.invariant-loop-place

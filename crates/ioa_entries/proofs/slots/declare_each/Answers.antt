@@ -1,11 +1,12 @@
 use Rattle.std.proofs.Common.{rules, arith, ◌≡◌, ◌+◌, ◌∷◌, ◌++◌, drop, map, ap, sym, ◌∙◌}
 use Rattle.ioa_trees.specs.Views.{view_parameter}
-use Rattle.ioa_names.specs.Views.{names_tree}
+use Rattle.ioa_typing.specs.NameViews.{names_tree}
 use Rattle.ioa_rules.specs.EntryRules.{slots, with_parameters}
 use Rattle.ioa_rules.specs.Sizes.{listed_size, parameter_size}
-use Rattle.ioa_entries.specs.Parts.{after_parameter, between, rest_size, slot_of}
-use Rattle.ioa_entries.specs.Views.{slot_tree}
-use Rattle.ioa_entries.proofs.Parts.{drop_at, names_next, push_step, rest_sized, slots_next}
+use Rattle.ioa_entries.specs.EntryParts.{after_parameter, between, rest_size, slot_of}
+use Rattle.ioa_entries.specs.EntryViews.{slot_tree}
+use Rattle.ioa_entries.proofs.ParameterParts.{names_next, rest_sized, slots_next}
+use Rattle.ioa_typing.proofs.Items.{drop_at, push_step}
 use Rattle.ioa_entries.proofs.slots.declare_each.Goals as goal
 
 pub declare_parameter-requires : goal.declare_parameter-requires

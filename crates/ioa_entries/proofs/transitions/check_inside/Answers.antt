@@ -4,8 +4,8 @@ use Rattle.ioa_rules.specs.EffectRules.{statements_faults}
 use Rattle.ioa_rules.specs.EntryRules.{pre_faults, with_parameters}
 use Rattle.ioa_rules.specs.Faults.{keep}
 use Rattle.ioa_rules.specs.Sizes.{entry_size, pre_size}
-use Rattle.ioa_names.specs.Views.{names_tree}
-use Rattle.ioa_typing.specs.Views.{least_tree}
+use Rattle.ioa_typing.specs.NameViews.{names_tree}
+use Rattle.ioa_typing.specs.TermViews.{least_tree}
 use Rattle.ioa_entries.proofs.Rows.{inside_noted}
 use Rattle.ioa_entries.proofs.transitions.check_inside.Goals as goal
 

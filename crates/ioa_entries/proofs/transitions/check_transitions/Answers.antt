@@ -4,10 +4,10 @@ use Rattle.ioa_trees.specs.Views.{view_entry, view_transition}
 use Rattle.ioa_rules.specs.EntryRules.{meant_by, transition_faults, transitions_faults, with_parameters}
 use Rattle.ioa_rules.specs.Faults.{keep}
 use Rattle.ioa_rules.specs.Sizes.{row_size, transition_size}
-use Rattle.ioa_names.specs.Views.{names_tree}
-use Rattle.ioa_typing.specs.Views.{least_tree}
-use Rattle.ioa_entries.specs.Views.{meant_tree}
-use Rattle.ioa_entries.proofs.Parts.{drop_at, push_step}
+use Rattle.ioa_typing.specs.NameViews.{names_tree}
+use Rattle.ioa_typing.specs.TermViews.{least_tree}
+use Rattle.ioa_entries.specs.EntryViews.{meant_tree}
+use Rattle.ioa_typing.proofs.Items.{drop_at, push_step}
 use Rattle.ioa_entries.proofs.Rows.{reverse_next, transition_kept, turned}
 use Rattle.ioa_entries.proofs.transitions.check_transitions.Goals as goal
 

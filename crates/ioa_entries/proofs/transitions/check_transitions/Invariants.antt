@@ -4,9 +4,9 @@ use Rattle.ioa_trees.specs.Views.{view_entry, view_transition}
 use Rattle.ioa_rules.specs.EntryRules.{meant_by, transitions_faults}
 use Rattle.ioa_rules.specs.Faults.{keep}
 use Rattle.ioa_rules.specs.Sizes.{row_size, transition_size}
-use Rattle.ioa_names.specs.Views.{names_tree}
-use Rattle.ioa_typing.specs.Views.{least_tree}
-use Rattle.ioa_entries.specs.Views.{meant_tree}
+use Rattle.ioa_typing.specs.NameViews.{names_tree}
+use Rattle.ioa_typing.specs.TermViews.{least_tree}
+use Rattle.ioa_entries.specs.EntryViews.{meant_tree}
 use Rattle.ioa_entries.proofs.transitions.check_transitions.Given as goal
 
 abbrev pub invariant-loop-place : goal.invariant-loop-place

@@ -7,9 +7,10 @@ use Rattle.ioa_rules.specs.Faults.{Fault, keep}
 use Rattle.ioa_rules.specs.Sizes.{size}
 use Rattle.ioa_rules.specs.Kinds.{is_seq, is_truth, is_whole}
 use Rattle.ioa_rules.specs.TermRules.{Judged, faults, judge, wants, append_faults, compare_faults, index_faults, indexes_faults, factors_faults, addends_faults, truths_faults, indexed, multiplied, added, combined, joined, element_of, operator_of, truth_of, whole_of}
-use Rattle.ioa_names.specs.Views.{names_tree}
-use Rattle.ioa_typing.specs.Views.{core_tree, judged_tree, least_tree}
-use Rattle.ioa_typing.proofs.Keeps.{drop_item, keep_both, keep_three, keep_parts}
+use Rattle.ioa_typing.specs.NameViews.{names_tree}
+use Rattle.ioa_typing.specs.TermViews.{core_tree, judged_tree, least_tree}
+use Rattle.ioa_typing.proofs.Keeps.{keep_both, keep_three, keep_parts}
+use Rattle.ioa_typing.proofs.Items.{drop_at}
 use Rattle.ioa_typing.proofs.Factors.{factors_step, multiplied_more}
 use Rattle.ioa_typing.proofs.term.+checking_terms.Goals as goal
 
@@ -180,7 +181,7 @@ pub check_truths-loop-other-preserved : goal.check_truths-loop-other-preserved
 check_truths-loop-other-preserved t c =
     let xs = c.args.others.now in
     let i = c.loop-other.other-index in
-    let more : drop i xs ≡ c.other-item.result ∷ drop (i + 1) xs = drop_item xs i c.other-item.result c.other-item.is c.loop-other-test.true in
+    let more : drop i xs ≡ c.other-item.result ∷ drop (i + 1) xs = drop_at xs i c.other-item.result c.other-item.is c.loop-other-test.true in
     let u = view c.other-item.result in
     let us = pack_terms (map view (drop (i + 1) xs)) in
     let s = names_tree c.args.names.now in
@@ -200,7 +201,7 @@ pub check_indexes-loop-index-preserved : goal.check_indexes-loop-index-preserved
 check_indexes-loop-index-preserved t c =
     let xs = c.args.indexes.now in
     let i = c.loop-index.index-index in
-    let more : drop i xs ≡ c.index-item.result ∷ drop (i + 1) xs = drop_item xs i c.index-item.result c.index-item.is c.loop-index-test.true in
+    let more : drop i xs ≡ c.index-item.result ∷ drop (i + 1) xs = drop_at xs i c.index-item.result c.index-item.is c.loop-index-test.true in
     let u = view c.index-item.result in
     let us = pack_terms (map view (drop (i + 1) xs)) in
     let s = names_tree c.args.names.now in
@@ -227,7 +228,7 @@ check_addends-loop-addend-preserved t c =
     let u = view x.term in
     let seen : view_addend x ≡ (x.sign, u) = search (rules, addend.the_lemmas) in
     let more : map view_addend (drop i xs) ≡ (x.sign, u) ∷ map view_addend (drop (i + 1) xs) =
-    ap (map view_addend) (drop_item xs i x c.addend-item.is c.loop-addend-test.true) ∙ ap (λ a. a ∷ map view_addend (drop (i + 1) xs)) seen in
+    ap (map view_addend) (drop_at xs i x c.addend-item.is c.loop-addend-test.true) ∙ ap (λ a. a ∷ map view_addend (drop (i + 1) xs)) seen in
     let us = pack_addends (map view_addend (drop (i + 1) xs)) in
     let s = names_tree c.args.names.now in
     let old = c.loop-addend.walk in
@@ -247,7 +248,7 @@ check_factors-loop-factor-preserved t c =
     let xs = c.args.factors.now in
     let i = c.loop-factor.factor-index in
     let x = c.factor-item.result in
-    let more : drop i xs ≡ x ∷ drop (i + 1) xs = drop_item xs i x c.factor-item.is c.loop-factor-test.true in
+    let more : drop i xs ≡ x ∷ drop (i + 1) xs = drop_at xs i x c.factor-item.is c.loop-factor-test.true in
     let f = view_factor x in
     let fs = pack_factors (map view_factor (drop (i + 1) xs)) in
     let s = names_tree c.args.names.now in

@@ -4,8 +4,8 @@ use Rattle.ioa_trees.specs.Views.{view, view_factor, view_addend}
 use Rattle.ioa_rules.specs.Faults.{keep}
 use Rattle.ioa_rules.specs.Sizes.{joined_size, indexes_size, factors_size, addends_size}
 use Rattle.ioa_rules.specs.TermRules as rule
-use Rattle.ioa_names.specs.Views.{names_tree}
-use Rattle.ioa_typing.specs.Views.{core_tree, judged_tree, least_tree}
+use Rattle.ioa_typing.specs.NameViews.{names_tree}
+use Rattle.ioa_typing.specs.TermViews.{core_tree, judged_tree, least_tree}
 use Rattle.ioa_typing.proofs.term.+checking_terms.Given as goal
 
 abbrev pub invariant-check_truths-loop-other : goal.invariant-check_truths-loop-other

@@ -5,8 +5,8 @@ use Rattle.ioa_trees.specs.Views.{view_type}
 use Rattle.ioa_rules.specs.Sizes.{type_size}
 use Rattle.ioa_rules.specs.TypeRules.{type_faults, kind_of, is_bad_bound, overweight}
 use Rattle.ioa_rules.specs.Faults.{Fault, where_wrong}
-use Rattle.ioa_names.specs.Views.{names_tree}
-use Rattle.ioa_typing.specs.Views.{least_tree}
+use Rattle.ioa_typing.specs.NameViews.{names_tree}
+use Rattle.ioa_typing.specs.TermViews.{least_tree}
 use Rattle.ioa_typing.proofs.Keeps.{keep_both, keep_three}
 use Rattle.ioa_typing.proofs.types.+check_type.Goals as goal
 

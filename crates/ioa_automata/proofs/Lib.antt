@@ -1,9 +1,0 @@
-pub mod Bodies
-pub mod Cells
-pub mod Declaring
-pub mod Keeps
-pub mod Lists
-pub mod Seen
-pub mod Sets
-pub mod Turns
-pub mod Whole

@@ -1,5 +1,0 @@
-pub mod Bodies
-pub mod Meant
-pub mod Parts
-pub mod Sets
-pub mod Views

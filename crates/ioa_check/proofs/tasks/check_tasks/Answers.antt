@@ -1,0 +1,32 @@
+use Rattle.std.proofs.Common.{rules, arith, ◌≡◌, ◌+◌, ◌∷◌, drop, map, string_bytes, ap, sym, ◌∙◌}
+use Rattle.ioa_trees.specs.Views.{view_entry}
+use Rattle.ioa_rules.specs.AutomatonRules.{task_faults, tasks_faults}
+use Rattle.ioa_rules.specs.Faults.{keep}
+use Rattle.ioa_rules.specs.Sizes.{row_size, task_size}
+use Rattle.ioa_typing.specs.TermViews.{least_tree}
+use Rattle.ioa_check.specs.Sets.{Adds}
+use Rattle.ioa_check.specs.AutomatonViews.{used_names}
+use Rattle.ioa_entries.specs.TaskNames.{task_names}
+use Rattle.ioa_typing.proofs.Items.{drop_at}
+use Rattle.ioa_check.proofs.Turns.{task_kept}
+use Rattle.ioa_check.proofs.tasks.check_tasks.Goals as goal
+
+pub loop-task-preserved : goal.loop-task-preserved
+loop-task-preserved c =
+    let l = c.loop-task in
+    let es = map view_entry c.args.entries.now in
+    let before = used_names l.used in
+    let after = used_names c.check_task.new.used in
+    let walk = c.check_task.new.walk in
+    let t = map string_bytes c.task-item.result.items in
+    let left = task_names (drop (l.task-index + 1) c.args.tasks.now) in
+    let split : task_names (drop l.task-index c.args.tasks.now) ≡ t ∷ left = ap task_names (drop_at c.args.tasks.now l.task-index c.task-item.result c.task-item.is c.loop-task-test.true) in
+    let at : l.walk.at + row_size task_size (t ∷ left) ≡ c.args.walk.now.at + row_size task_size (task_names c.args.tasks.now) = ap (λ r. l.walk.at + row_size task_size r) (sym split) ∙ l.invariant.at in
+    let place : walk.at ≡ l.walk.at + task_size t = search rules in
+    let noted : least_tree walk.least ≡ keep (least_tree l.walk.least) (task_faults es before (l.walk.at + 1) t) = search rules in
+    let names : Adds after t before = search rules in
+    record {
+      at = omega (arith, at, place);
+      faults = task_kept es before after l.walk.at walk.at t left (least_tree l.walk.least) (least_tree walk.least) noted names place
+          ∙ ap (λ r. keep (least_tree l.walk.least) (tasks_faults es before l.walk.at r)) (sym split) ∙ l.invariant.faults;
+    }

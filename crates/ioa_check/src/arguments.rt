@@ -1,0 +1,190 @@
+//! The checks of a component's arguments.
+ghost use Rattle.std.specs.Prelude.{◌≡◌, ◌+◌, ◌<◌, ◌^◌, ◌++◌, [], Some, None, get_or, map, option_map, OnOk, IfOk};
+ghost use Rattle.ioa_trees.specs.Views.{view};
+ghost use Rattle.ioa_rules.specs.Faults.{keep};
+ghost use Rattle.ioa_rules.specs.Sizes.{bracketed_size, listed_size, size};
+ghost use Rattle.ioa_rules.specs.SourceRules as source;
+ghost use Rattle.ioa_typing.specs.KindViews.{option_tree};
+ghost use Rattle.ioa_typing.specs.NameViews.{names_tree};
+ghost use Rattle.ioa_typing.specs.TermViews.{core_tree, least_tree};
+ghost use Rattle.ioa_entries.specs.EffectViews.{place_kind};
+ghost use Rattle.ioa_check.specs.Meant.{automaton_tree};
+ghost use Rattle.ioa_check.specs.ComponentParts as part;
+
+use crate::between::{between, bracket};
+use crate::meant::MeantAutomaton;
+use ioa_trees::tree::Term as TermTree;
+use ioa_typing::shape::shape_of;
+use ioa_typing::typed::{note_unfit, value_in};
+use ioa_typing::{Kind, Names, Shape, Walk, check_term};
+use std::alloc::{AllocError, Global};
+use terms::Term;
+
+// The kind of the formal of this number, to put a value in its place.
+fn place_of(formals: &[Option<Kind>], number: usize) -> Option<Shape<'_>>
+    ensures { place_kind result ≡ get_or (map option_tree formals.now) number None }
+{
+    match formals.get(number) {
+        Some(Some(kind)) => Some(shape_of(kind)),
+        _ => None,
+    }
+}
+
+// Checks one argument: the answer is the value in the place of its formal, if it fits there.
+#[tactic(auto, using(ioa_typing::proofs::Keeps::keep_append))]
+fn check_argument(
+    alloc: Global,
+    names: &Names,
+    kind: Option<Shape<'_>>,
+    argument: &TermTree,
+    walk: &mut Walk,
+) -> Result<Option<Term>, AllocError>
+    requires room { walk.old.at + size (view argument.now) < 2 ^ 32 }
+    ensures at { OnOk result (walk.new.at ≡ walk.old.at + size (view argument.now)) }
+    ensures faults { OnOk result (least_tree walk.new.least ≡ keep (least_tree walk.old.least) (part.argument_faults (names_tree names.now) (place_kind kind.entry) walk.old.at (view argument.now))) }
+    ensures value { IfOk result (λ t. core_tree t ≡ source.placed_argument (names_tree names.now) (place_kind kind.entry) (view argument.now)) }
+{
+    let at = walk.at;
+    let typed = check_term(alloc, names, argument, walk)?;
+    match kind {
+        None => Ok(None),
+        Some(kind) => {
+            note_unfit(walk, kind, at, &typed);
+            let value = value_in(alloc, kind, typed)?;
+            Ok(value)
+        }
+    }
+}
+
+// Keeps a value, if it is wanted.
+fn keep_value(
+    values: &mut Vec<Option<Term>>,
+    wanted: bool,
+    value: Option<Term>,
+) -> Result<(), AllocError>
+    ensures { OnOk result (values.new.items ≡ values.old.items ++ part.where_wanted wanted value) }
+{
+    if wanted {
+        values.push(value)?;
+    }
+    Ok(())
+}
+
+// Checks arguments, each with the formal of its number, and goes behind them: the answer is what is put in each formal.
+fn check_arguments(
+    alloc: Global,
+    names: &Names,
+    formals: &[Option<Kind>],
+    arguments: &[TermTree],
+    walk: &mut Walk,
+) -> Result<Vec<Option<Term>>, AllocError>
+    requires room { walk.old.at + listed_size size (map view arguments.now) < 2 ^ 32 }
+    ensures at { OnOk result (walk.new.at ≡ walk.old.at + listed_size size (map view arguments.now)) }
+    ensures faults { OnOk result (least_tree walk.new.least ≡ keep (least_tree walk.old.least) (part.fitted_faults (names_tree names.now) (map option_tree formals.now) walk.old.at (map view arguments.now))) }
+    ensures values { IfOk result (λ vs. map core_tree vs.items ≡ source.placed_arguments (names_tree names.now) (map option_tree formals.now) (map view arguments.now)) }
+{
+    let mut values = Vec::new(alloc);
+    let mut is_first = true;
+    for (number, argument) in arguments.iter().enumerate() {
+        walk.at += between(is_first);
+        is_first = false;
+        let kind = place_of(formals, number);
+        let value = check_argument(alloc, names, kind, argument, walk)?;
+        keep_value(&mut values, number < formals.len(), value)?;
+    }
+    Ok(values)
+}
+
+// Checks arguments with their parentheses.
+#[tactic(auto, using(crate::proofs::Fitting::bracketed_is))]
+fn check_bracketed(
+    alloc: Global,
+    names: &Names,
+    formals: &[Option<Kind>],
+    arguments: &[TermTree],
+    walk: &mut Walk,
+) -> Result<Vec<Option<Term>>, AllocError>
+    requires room { walk.old.at + bracketed_size size (map view arguments.now) < 2 ^ 32 }
+    ensures at { OnOk result (walk.new.at ≡ walk.old.at + bracketed_size size (map view arguments.now)) }
+    ensures faults { OnOk result (least_tree walk.new.least ≡ keep (least_tree walk.old.least) (source.arguments_faults (names_tree names.now) (walk.old.at + 1) (map view arguments.now) ++ source.misfit_arguments (names_tree names.now) (map option_tree formals.now) (walk.old.at + 1) (map view arguments.now))) }
+    ensures values { IfOk result (λ vs. map core_tree vs.items ≡ source.placed_arguments (names_tree names.now) (map option_tree formals.now) (map view arguments.now)) }
+{
+    walk.at += bracket(arguments);
+    let values = check_arguments(alloc, names, formals, arguments, walk)?;
+    walk.at += bracket(arguments);
+    Ok(values)
+}
+
+// The formals of the automaton of this number, where it is known.
+fn formals_at<'a>(
+    table: &'a [MeantAutomaton],
+    automaton: Option<usize>,
+) -> Option<&'a [Option<Kind>]>
+    ensures { option_map (λ ks. map option_tree ks.now) result ≡ source.formals_at (map automaton_tree table.now) automaton }
+{
+    let automaton = table.get(automaton?)?;
+    Some(automaton.formals.as_slice())
+}
+
+// Checks the arguments for these formals, from the automaton's name on.
+fn check_counted(
+    alloc: Global,
+    names: &Names,
+    formals: &[Option<Kind>],
+    arguments: &[TermTree],
+    walk: &mut Walk,
+) -> Result<Vec<Option<Term>>, AllocError>
+    requires room { walk.old.at + 1 + bracketed_size size (map view arguments.now) < 2 ^ 32 }
+    ensures at { OnOk result (walk.new.at ≡ walk.old.at + 1 + bracketed_size size (map view arguments.now)) }
+    ensures faults { OnOk result (least_tree walk.new.least ≡ keep (least_tree walk.old.least) (part.placing_faults (names_tree names.now) (Some (map option_tree formals.now)) walk.old.at (map view arguments.now))) }
+    ensures values { IfOk result (λ vs. map core_tree vs.items ≡ source.placed_arguments (names_tree names.now) (map option_tree formals.now) (map view arguments.now)) }
+{
+    walk.note_if(formals.len() != arguments.len(), walk.at, 12);
+    walk.at += 1;
+    let values = check_bracketed(alloc, names, formals, arguments, walk)?;
+    Ok(values)
+}
+
+// Checks the arguments of a component whose automaton isn't known, from the automaton's name on.
+fn check_alone(
+    alloc: Global,
+    names: &Names,
+    arguments: &[TermTree],
+    walk: &mut Walk,
+) -> Result<Vec<Option<Term>>, AllocError>
+    requires room { walk.old.at + 1 + bracketed_size size (map view arguments.now) < 2 ^ 32 }
+    ensures at { OnOk result (walk.new.at ≡ walk.old.at + 1 + bracketed_size size (map view arguments.now)) }
+    ensures faults { OnOk result (least_tree walk.new.least ≡ keep (least_tree walk.old.least) (part.placing_faults (names_tree names.now) None walk.old.at (map view arguments.now))) }
+    ensures values { IfOk result (λ vs. map core_tree vs.items ≡ []) }
+{
+    walk.at += 1;
+    let values = check_bracketed(alloc, names, &[], arguments, walk)?;
+    Ok(values)
+}
+
+/// Checks the arguments for the automaton of this number, if one is known, from its name on: notes their faults, goes behind them, and
+/// says what is put in each formal.
+pub(crate) fn check_placing(
+    alloc: Global,
+    names: &Names,
+    table: &[MeantAutomaton],
+    automaton: Option<usize>,
+    arguments: &[TermTree],
+    walk: &mut Walk,
+) -> Result<Vec<Option<Term>>, AllocError>
+    requires room { walk.old.at + 1 + bracketed_size size (map view arguments.now) < 2 ^ 32 }
+    ensures at { OnOk result (walk.new.at ≡ walk.old.at + 1 + bracketed_size size (map view arguments.now)) }
+    ensures faults { OnOk result (least_tree walk.new.least ≡ keep (least_tree walk.old.least) (part.placing_faults (names_tree names.now) (source.formals_at (map automaton_tree table.now) automaton) walk.old.at (map view arguments.now))) }
+    ensures values { IfOk result (λ vs. map core_tree vs.items ≡ source.arguments_of (names_tree names.now) (source.formals_at (map automaton_tree table.now) automaton) (map view arguments.now)) }
+{
+    match formals_at(table, automaton) {
+        None => {
+            let values = check_alone(alloc, names, arguments, walk)?;
+            Ok(values)
+        }
+        Some(formals) => {
+            let values = check_counted(alloc, names, formals, arguments, walk)?;
+            Ok(values)
+        }
+    }
+}

@@ -1,4 +1,0 @@
-pub mod Fitting
-pub mod Keeps
-pub mod Naming
-pub mod Rows

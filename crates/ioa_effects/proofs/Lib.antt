@@ -1,4 +1,0 @@
-pub mod Chained
-pub mod Keeps
-pub mod Misfits
-pub mod Parts

@@ -1,0 +1,34 @@
+use Rattle.std.proofs.Common.{◌≡◌, ◌++◌, ◌+◌, ◌≤◌, drop, map}
+use Rattle.ioa_trees.specs.Trees.{pack_branches}
+use Rattle.ioa_trees.specs.Views.{view_branch, view_statements}
+use Rattle.ioa_rules.specs.EffectRules.{branches_faults, statements_faults}
+use Rattle.ioa_rules.specs.Faults.{keep}
+use Rattle.ioa_rules.specs.Sizes.{branches_size, statements_size}
+use Rattle.ioa_typing.specs.NameViews.{names_tree}
+use Rattle.ioa_typing.specs.TermViews.{least_tree}
+use Rattle.ioa_entries.specs.EffectLists.{arm_list, effect_list}
+use Rattle.ioa_entries.specs.StatementParts.{between, rest_size}
+use Rattle.ioa_entries.specs.EffectViews.{arm_tree, done_tree}
+use Rattle.ioa_entries.proofs.statements.+checking_statements.Given as goal
+
+abbrev pub invariant-check_each-loop-statement : goal.invariant-check_each-loop-statement
+invariant-check_each-loop-statement l = record {
+  at : l.walk.at + rest_size l.is_first (view_statements (drop l.statement-index l.statements)) ≡ l.initial.walk.at + statements_size (view_statements l.statements);
+  low : l.loops ≤ l.walk.at;
+  names : names_tree l.names ≡ names_tree l.initial.names;
+  faults : keep (least_tree l.walk.least) (statements_faults (names_tree l.initial.names) l.loops (l.walk.at + between l.is_first) (view_statements (drop l.statement-index l.statements)))
+      ≡ keep (least_tree l.initial.walk.least) (statements_faults (names_tree l.initial.names) l.loops l.initial.walk.at (view_statements l.statements));
+  effects : map done_tree l.effects.items ++ effect_list (names_tree l.initial.names) l.loops (view_statements (drop l.statement-index l.statements))
+      ≡ effect_list (names_tree l.initial.names) l.loops (view_statements l.statements);
+}
+
+abbrev pub invariant-check_branches-loop-branch : goal.invariant-check_branches-loop-branch
+invariant-check_branches-loop-branch l = record {
+  at : l.walk.at + branches_size (pack_branches (map view_branch (drop l.branch-index l.branches))) ≡ l.initial.walk.at + branches_size (pack_branches (map view_branch l.branches));
+  low : l.loops ≤ l.walk.at;
+  names : names_tree l.names ≡ names_tree l.initial.names;
+  faults : keep (least_tree l.walk.least) (branches_faults (names_tree l.initial.names) l.loops l.walk.at (pack_branches (map view_branch (drop l.branch-index l.branches))))
+      ≡ keep (least_tree l.initial.walk.least) (branches_faults (names_tree l.initial.names) l.loops l.initial.walk.at (pack_branches (map view_branch l.branches)));
+  arms : map arm_tree l.arms.items ++ arm_list (names_tree l.initial.names) l.loops (pack_branches (map view_branch (drop l.branch-index l.branches)))
+      ≡ arm_list (names_tree l.initial.names) l.loops (pack_branches (map view_branch l.branches));
+}

@@ -1,0 +1,181 @@
+//! The checks of assignments.
+ghost use Rattle.std.specs.Prelude.{◌≡◌, ◌+◌, ◌<◌, ◌^◌, Option, OnOk, IfOk, option_map};
+ghost use Rattle.std.specs.Option.{is_some};
+ghost use Rattle.terms.specs.TermTree.{term_tree};
+ghost use Rattle.ioa_trees.specs.Trees.{PlainTerm, PlainInit};
+ghost use Rattle.ioa_trees.specs.Views.{option_view, view_init};
+ghost use Rattle.ioa_rules.specs.Faults.{keep};
+ghost use Rattle.ioa_rules.specs.Scopes as scopes;
+ghost use Rattle.ioa_rules.specs.Scopes.{Scope, named, is_variable};
+ghost use Rattle.ioa_rules.specs.Sizes.{at_size, init_size};
+ghost use Rattle.ioa_rules.specs.TermRules.{judge};
+ghost use Rattle.ioa_rules.specs.EffectRules as rule;
+ghost use Rattle.ioa_rules.specs.ValueRules.{put_in};
+ghost use Rattle.ioa_typing.specs.KindViews.{shape_tree};
+ghost use Rattle.ioa_typing.specs.NameViews.{names_tree};
+ghost use Rattle.ioa_typing.specs.TermViews.{core_tree, judged_tree, typed_tree, least_tree};
+ghost use Rattle.ioa_entries.specs.EffectViews.{place_kind, done_tree, judged_at};
+
+use crate::values::{check_init, item_of};
+use ioa_trees::tree::{Init, Term as TermTree};
+use ioa_typing::listing::listed_of;
+use ioa_typing::shape::{fits, shape_of};
+use ioa_typing::typed::note_unfit;
+use ioa_typing::{Meaning, Names, Shape, Typed, Walk, check_term};
+use std::alloc::{AllocError, Global};
+use terms::{Effect, Term};
+
+// The number of the state variable of this name.
+fn cell_named(names: &Names, name: &str) -> Option<usize>
+    ensures slot { result ≡ rule.cell_of (named name.now (names_tree names.now)) }
+    ensures variable { is_some result ≡ is_variable (named name.now (names_tree names.now)) }
+{
+    match names.get(name) {
+        Some(Meaning::Variable(slot, _)) => Some(*slot),
+        _ => None,
+    }
+}
+
+// The kind of the state variable of this name.
+fn cell_kind<'a>(names: &'a Names, name: &str) -> Option<Shape<'a>>
+    ensures { place_kind result ≡ rule.cell_kind (named name.now (names_tree names.now)) }
+{
+    match names.get(name) {
+        Some(Meaning::Variable(_, Some(kind))) => Some(shape_of(kind)),
+        _ => None,
+    }
+}
+
+// Checks the index of an assignment, where there is one.
+fn check_at<'a>(
+    alloc: Global,
+    names: &'a Names,
+    index: &Option<TermTree>,
+    walk: &mut Walk,
+) -> Result<Option<Option<Typed<'a>>>, AllocError>
+    requires room { walk.old.at + at_size (option_view index.now) < 2 ^ 32 }
+    ensures at { OnOk result (walk.new.at ≡ walk.old.at + at_size (option_view index.now)) }
+    ensures faults { OnOk result (least_tree walk.new.least ≡ keep (least_tree walk.old.least) (rule.at_faults (names_tree names.now) walk.old.at (option_view index.now))) }
+    ensures judged { IfOk result (λ j. judged_at j ≡ option_map (judge (names_tree names.now)) (option_view index.now)) }
+{
+    match index {
+        None => Ok(None),
+        Some(index) => {
+            walk.at += 1;
+            let typed = check_term(alloc, names, index, walk)?;
+            walk.at += 1;
+            Ok(Some(typed))
+        }
+    }
+}
+
+// The kind of the place on the left.
+fn left_kind<'a>(kind: Option<Shape<'a>>, index: &Option<Option<Typed<'_>>>) -> Option<Shape<'a>>
+    ensures { (s : Scope) (i : Option PlainTerm) → judged_at index.now ≡ option_map (judge s) i → place_kind result ≡ rule.left_kind (place_kind kind.entry) i }
+{
+    match index {
+        None => kind,
+        Some(_) => item_of(kind),
+    }
+}
+
+// Notes an index on what is no array, and one that the array's index type doesn't take.
+#[tactic(auto, using(ioa_typing::proofs::Keeps::keep_append))]
+fn note_left(walk: &mut Walk, at: u32, kind: Option<Shape<'_>>, index: &Option<Option<Typed<'_>>>)
+    requires room { at + 2 < 2 ^ 32 }
+    ensures at { walk.new.at ≡ walk.old.at }
+    ensures least { (s : Scope) (i : Option PlainTerm) → judged_at index.now ≡ option_map (judge s) i → least_tree walk.new.least ≡ keep (least_tree walk.old.least) (rule.left_faults s at (place_kind kind.entry) i) }
+{
+    let Some(index) = index else {
+        return;
+    };
+    let Some(kind) = kind else {
+        return;
+    };
+    match kind {
+        Shape::Array(by, _) => note_unfit(walk, shape_of(by), at + 2, index),
+        Shape::Truth => walk.note_if(true, at, 12),
+        Shape::Whole => walk.note_if(true, at, 12),
+        Shape::Range(_, _) => walk.note_if(true, at, 12),
+        Shape::Enumeration(_, _) => walk.note_if(true, at, 12),
+        Shape::Seq(_, _) => walk.note_if(true, at, 12),
+    }
+}
+
+// The assignment to an item of an array.
+fn item_assigned(slot: usize, kind: Shape<'_>, index: Typed<'_>, value: Term) -> Option<Effect>
+    ensures { done_tree result ≡ rule.item_assigned slot (shape_tree kind.entry) (typed_tree index.entry) (term_tree value) }
+{
+    match kind {
+        Shape::Array(by, _) => {
+            if fits(shape_of(by), index.shape) {
+                Some(Effect::AssignItem(slot, index.core, listed_of(by), value))
+            } else {
+                None
+            }
+        }
+        Shape::Truth => None,
+        Shape::Whole => None,
+        Shape::Range(_, _) => None,
+        Shape::Enumeration(_, _) => None,
+        Shape::Seq(_, _) => None,
+    }
+}
+
+fn assigned_at(
+    slot: Option<usize>,
+    kind: Option<Shape<'_>>,
+    index: Option<Typed<'_>>,
+    value: Option<Term>,
+) -> Option<Effect>
+    ensures { done_tree result ≡ rule.at_item slot (place_kind kind.entry) (judged_tree index.entry) (core_tree value) }
+{
+    item_assigned(slot?, kind?, index?, value?)
+}
+
+fn assigned(slot: Option<usize>, value: Option<Term>) -> Option<Effect>
+    ensures { done_tree result ≡ rule.assigned slot (core_tree value) }
+{
+    Some(Effect::Assign(slot?, value?))
+}
+
+fn assignment_of(
+    slot: Option<usize>,
+    kind: Option<Shape<'_>>,
+    index: Option<Option<Typed<'_>>>,
+    value: Option<Term>,
+) -> Option<Effect>
+    ensures { (s : Scope) (m : Option scopes.Meaning) (i : Option PlainTerm) (v : PlainInit) → slot ≡ rule.cell_of m → place_kind kind.entry ≡ rule.cell_kind m → judged_at index.entry ≡ option_map (judge s) i → core_tree value ≡ put_in s (rule.left_kind (rule.cell_kind m) i) v → done_tree result ≡ rule.assignment_of s m i v }
+{
+    match index {
+        None => assigned(slot, value),
+        Some(index) => assigned_at(slot, kind, index, value),
+    }
+}
+
+/// Checks an assignment: notes its faults, goes behind it, and says what it does, if no fault is inside.
+pub(crate) fn check_assignment(
+    alloc: Global,
+    names: &Names,
+    name: &str,
+    index: &Option<TermTree>,
+    init: &Init,
+    walk: &mut Walk,
+) -> Result<Option<Effect>, AllocError>
+    requires room { walk.old.at + (at_size (option_view index.now) + init_size (view_init init.now) + 2) < 2 ^ 32 }
+    ensures at { OnOk result (walk.new.at ≡ walk.old.at + (at_size (option_view index.now) + init_size (view_init init.now) + 2)) }
+    ensures faults { OnOk result (least_tree walk.new.least ≡ keep (least_tree walk.old.least) (rule.assignment_faults (names_tree names.now) walk.old.at name.now (option_view index.now) (view_init init.now))) }
+    ensures effect { IfOk result (λ e. done_tree e ≡ rule.assignment_of (names_tree names.now) (named name.now (names_tree names.now)) (option_view index.now) (view_init init.now)) }
+{
+    let at = walk.at;
+    let cell = cell_named(names, name);
+    let kind = cell_kind(names, name);
+    walk.note_if(cell.is_none(), at, 10);
+    walk.at += 1;
+    let index = check_at(alloc, names, index, walk)?;
+    walk.at += 1;
+    let put = check_init(alloc, names, left_kind(kind, &index), init, walk)?;
+    note_left(walk, at, kind, &index);
+    walk.note_if(put.misfit.is_some(), at, 12);
+    Ok(assignment_of(cell, kind, index, put.value))
+}
