@@ -6,7 +6,7 @@ ghost use Rattle.ioa_check.specs.AutomatonViews.{cell_kind, cell_start};
 ghost use Rattle.ioa_check.specs.ComponentViews.{component_tree};
 ghost use Rattle.ioa_entries.specs.EntryViews.{meant_tree};
 ghost use Rattle.ioa_typing.specs.KindViews.{option_tree};
-ghost use Rattle.ioa_rules.specs.Meant.{AllSome, IsWhole, IsWholeAutomaton, IsWholeComponent, IsWholeEntry};
+ghost use Rattle.ioa_rules.specs.Meant.{AllSome, IsWholeSource, IsWholeAutomaton, IsWholeComponent, IsWholeEntry};
 ghost use Rattle.ioa_typing.specs.TermViews.{core_tree};
 ghost use Rattle.ioa_check.specs.Resolutions.{automaton_meaning, component_meaning, meaning, transition_meaning};
 ghost use Rattle.ioa_check.specs.SourceViews.{source_tree};
@@ -143,7 +143,7 @@ fn components(alloc: Global, meant: Vec<MeantComponent>) -> Result<Vec<Component
 
 /// A meaning of which no part is missing, without what says that parts may be missing.
 pub(crate) fn resolve(alloc: Global, meant: MeantSource) -> Result<Resolved, AllocError>
-    requires { IsWhole (source_tree meant) }
+    requires { IsWholeSource (source_tree meant) }
     ensures { IfOk result (λ x. meaning x ≡ source_tree meant) }
 {
     let automata = automata(alloc, meant.automata)?;

@@ -11,7 +11,7 @@ use Rattle.ioa_rules.specs.TypeRules.{kind_of}
 use Rattle.ioa_rules.specs.EntryRules.{Meant, Slot, is_controlled, slots, entries_faults, transitions_faults, meant_by}
 use Rattle.ioa_rules.specs.AutomatonRules.{formals_faults, with_variables, variables_faults, tasks_faults, signature_at, states_at, transitions_at, tasks_at, inside, around, entry_names, body_faults, locals, meaning_of}
 use Rattle.ioa_rules.specs.SourceRules.{definitions_faults, definitions_size, with_automaton, automata_faults, all_locals, all_members, meanings_of, components_faults, types_scope, whole_scope, table_of, composed_at, source_faults, source_meaning}
-use Rattle.ioa_rules.specs.Meant.{IsWholeEntry, IsWholeAutomaton, IsWhole}
+use Rattle.ioa_rules.specs.Meant.{IsWholeEntry, IsWholeAutomaton, IsWholeSource}
 use Rattle.ioa_facts.specs.Sound.{collide, IsSoundAutomaton}
 use Rattle.ioa_facts.proofs.NoFaults.{nil_left, nil_right}
 use Rattle.ioa_rules.proofs.ScopesMeant.{Alike, alike_self, alike_with}
@@ -98,7 +98,7 @@ automata_sound members s w used n at (x ∷ xs) h whole =
     (automata_sound members r v (used ++ locals x) (n + 1) p xs (nil_right b c u) (All-tail IsWholeAutomaton m ms whole))
 
 -- the automata that a source without faults means are sound
-pub source_sound : (x : PlainSource) → source_faults x ≡ [] → IsWhole (source_meaning x) → All (IsSoundAutomaton (length (source_meaning x).members)) (source_meaning x).automata
+pub source_sound : (x : PlainSource) → source_faults x ≡ [] → IsWholeSource (source_meaning x) → All (IsSoundAutomaton (length (source_meaning x).members)) (source_meaning x).automata
 source_sound x h whole =
     let a = definitions_faults [] 0 0 x.types in
     let b = automata_faults (types_scope x) [] 0 (definitions_size x.types) x.automata in

@@ -13,7 +13,7 @@ use Rattle.ioa_rules.specs.TermRules.{judge, faults}
 use Rattle.ioa_rules.specs.TypeRules.{kind_of, type_faults}
 use Rattle.ioa_rules.specs.AutomatonRules.{MeantAutomaton, body_faults, locals, meaning_of}
 use Rattle.ioa_rules.specs.SourceRules.{with_members, with_definition, members_in, with_definitions, definition_faults, definitions_faults, definitions_size, with_automaton, with_automata, automata_faults, all_locals, meanings_of, arguments_faults, unfit_in, misfit_arguments, compared_with, formals_at, component_faults, components_faults, placed_argument, placed_arguments, arguments_of, component_of, components_of, types_scope, whole_scope, table_of, composed_at, source_faults, source_meaning}
-use Rattle.ioa_rules.specs.Meant.{AllMeant, AllSome, IsWholeAutomaton, IsWholeComponent, IsWhole}
+use Rattle.ioa_rules.specs.Meant.{AllMeant, AllSome, IsWholeAutomaton, IsWholeComponent, IsWholeSource}
 use Rattle.ioa_rules.proofs.NoFaults.{nil_left, nil_right}
 use Rattle.ioa_rules.proofs.TypesMeant.{kind_if}
 use Rattle.ioa_rules.proofs.TermsMeant.{judged_if}
@@ -110,7 +110,7 @@ components_if s m table i before at (c ∷ cs) h =
 -- ---- the whole
 
 -- a source without faults has a whole meaning
-pub source_if : (x : PlainSource) → source_faults x ≡ [] → IsWhole (source_meaning x)
+pub source_if : (x : PlainSource) → source_faults x ≡ [] → IsWholeSource (source_meaning x)
 source_if x h =
     let a = definitions_faults [] 0 0 x.types in
     let b = automata_faults (types_scope x) [] 0 (definitions_size x.types) x.automata in

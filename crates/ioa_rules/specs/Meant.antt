@@ -32,6 +32,6 @@ pub record IsWholeAutomaton (a : MeantAutomaton) : Type 0 where
 abbrev pub IsWholeComponent : MeantComponent → Type 0
 IsWholeComponent c = AllSome c.arguments
 
-pub record IsWhole (x : MeantSource) : Type 0 where
+pub record IsWholeSource (x : MeantSource) : Type 0 where
   pub automata : All IsWholeAutomaton x.automata
   pub components : All IsWholeComponent x.components

@@ -10,7 +10,7 @@ ghost use Rattle.ioa_rules.specs.EffectRules.{in_loop, effects_of, statements_fa
 ghost use Rattle.ioa_rules.specs.EntryRules.{parameters_faults, with_parameters, slots, transition_faults, pre_of};
 ghost use Rattle.ioa_rules.specs.AutomatonRules.{body_faults, meaning_of};
 ghost use Rattle.ioa_rules.specs.SourceRules.{source_faults, source_meaning};
-ghost use Rattle.ioa_rules.specs.Meant.{AllMeant, AllSome, IsWholeAutomaton, IsWhole};
+ghost use Rattle.ioa_rules.specs.Meant.{AllMeant, AllSome, IsWholeAutomaton, IsWholeSource};
 
 /// A type without faults has a kind.
 pub fn types_meant_law()
@@ -48,5 +48,5 @@ pub fn automata_meant_law()
 
 /// Of the meaning of a source without faults no part is missing, but for the automata of components that aren't known.
 pub fn sources_meant_law()
-    ensures meant { (x : PlainSource) → source_faults x ≡ [] → IsWhole (source_meaning x) }
+    ensures meant { (x : PlainSource) → source_faults x ≡ [] → IsWholeSource (source_meaning x) }
 {}

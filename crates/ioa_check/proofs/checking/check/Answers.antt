@@ -1,7 +1,7 @@
 use Rattle.std.proofs.Common.{◌≡◌, ◌+◌, ◌≤◌, Some, None, sym, ap, subst, ◌∙◌}
 use Rattle.ioa_trees.specs.Views.{view_source}
 use Rattle.ioa_rules.specs.Faults.{IsLeast, keep}
-use Rattle.ioa_rules.specs.Meant.{IsWhole}
+use Rattle.ioa_rules.specs.Meant.{IsWholeSource}
 use Rattle.ioa_rules.specs.Sizes.{component_size, listed_size}
 use Rattle.ioa_rules.specs.SourceRules.{composed_at, source_faults, source_meaning}
 use Rattle.ioa_typing.specs.TermViews.{fault_tree, least_tree}
@@ -30,7 +30,7 @@ resolve-requires c =
     let kept : keep None (source_faults x) ≡ None =
     sym (c.in_ok-meant.ensures.least ∙ ap (λ t. keep None (source_faults (view_source t))) c.tree.ensures.same) ∙ ap least_tree c.in-None.is in
     let same : source_tree c.in_ok-meant.meant ≡ source_meaning x = c.in_ok-meant.ensures.meant ∙ ap (λ t. source_meaning (view_source t)) c.tree.ensures.same in
-    subst IsWhole (sym same) (c.sources_meant_law.ensures.meant x (c.least_law.ensures.none (source_faults x) kept))
+    subst IsWholeSource (sym same) (c.sources_meant_law.ensures.meant x (c.least_law.ensures.none (source_faults x) kept))
 
 pub invariant_of-result : goal.invariant_of-result
 invariant_of-result c =
