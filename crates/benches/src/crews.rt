@@ -13,7 +13,7 @@ use std::sync::{Arc, Wait};
 use std::thread::Threads;
 use std::time::{Clock, Instant};
 use std::{fs, rt};
-use task_seed::{SeedTurns, Setup};
+use task_seed::{AnyTurns, SeedTurns, Setup};
 use trace::{Counted, Lines};
 use workers::{Unheld, run};
 
@@ -35,9 +35,10 @@ impl Write for Nowhere {
 }
 
 // A composition with the turns of a seed.
-fn setup(alloc: Global, text: &str, ticks: u64) -> Result<Setup<SeedTurns>> {
+fn setup(alloc: Global, text: &str, ticks: u64) -> Result<Setup<AnyTurns>> {
     let plan: Plan = compose_source(alloc, text.as_bytes())?;
-    Ok(Setup::new(plan, SeedTurns::new(1, 0, 8)?, ticks)?)
+    let turns = AnyTurns::Seed(SeedTurns::new(1, 0, 8)?);
+    Ok(Setup::new(plan, turns, ticks)?)
 }
 
 fn out() -> Counted<Nowhere> {

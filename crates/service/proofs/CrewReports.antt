@@ -1,6 +1,6 @@
 -- Reports on runs by workers, put together.
 use Rattle.std.proofs.Common.{◌≡◌, ◌⊎◌, inl, inr, ℕ, List, refl}
-use Rattle.std.specs.Prelude.{Option, None, Some}
+use Rattle.std.specs.Prelude.{Option, None}
 use Rattle.plans.specs.declared.plan.Plan.{Plan}
 use Rattle.plans.specs.Plans.{composition}
 use Rattle.task_seed.specs.Turning.{System}
@@ -16,15 +16,11 @@ use Rattle.workers.specs.Refusals.{run_number}
 use Rattle.workers.specs.Runs.{IsUnfinished}
 use Rattle.service.specs.declared.report.Report.{Report}
 use Rattle.service.specs.declared.report.Report.TheVariants.{Misused}
-use Rattle.service.specs.Compositions.{HasPlan}
 use Rattle.service.specs.Crews.{IsCrewReport, IsRunFileReport}
 use Rattle.service.specs.Drives.{IsTurnsReport}
 use Rattle.service.specs.Parts.{IsMemory}
 use Rattle.service.specs.Reports.{report_of}
-use Rattle.service.specs.Simulations.{HasBadTable, HasTurns, IsTabled, LacksTable, lines_for, seeded, table_of}
-use Rattle.service.specs.Tables.{IsRefused}
-use Rattle.service.specs.Unread.{HasSmall, IsFileFault}
-use Rattle.service.proofs.DriveReports.{named_meant, seed_meant}
+use Rattle.service.specs.Simulations.{HasBadTable, HasTurns, LacksTable, lines_for, table_of}
 
 module _ (has : List ℕ → List ℕ → Type 0) (lacks : List ℕ → Type 0) (source : List ℕ) (options : Options) (kept : Type 0) (wrote : List ℕ → Type 0) (cut : List ℕ → ℕ → Type 0) where
   abbrev ends : Plan → System → Report → Type 0
@@ -37,17 +33,6 @@ module _ (has : List ℕ → List ℕ → Type 0) (lacks : List ℕ → Type 0) 
     go : IsTurnsReport (HasTurns has (composition h.plan) options (table_of options)) (HasBadTable has (composition h.plan) options) (λ n. IsMemory n ⊎ LacksTable has lacks options n) options kept (ends h.plan) Misused → ⊥
     go (inl given) = absurd given.holds
     go (inr none) = absurd none.0
-
-  module _ (plan : Plan) (meant : HasPlan (has source) plan) (report : Report) where
-    -- a plan with the turns of a seed
-    pub seed_run : options.table ≡ None → IsTurnsReport (λ s. s ≡ seeded (composition plan) options) (λ n p. ⊥) IsMemory options kept (ends plan) report → IsRunFileReport has lacks source options kept wrote cut report
-    seed_run none r = inr (seed_meant has lacks source options kept ends report plan meant none r)
-
-    -- a plan with the turns of a table
-    pub named_run : (name : List ℕ) → table_of options ≡ Some name
-        → IsTurnsReport (λ s. HasSmall (has name) (IsTabled (composition plan) options.ticks s)) (λ n p. HasSmall (has name) (λ table. IsRefused (composition plan) table n p)) (IsFileFault (has name) (lacks name)) options kept (ends plan) report
-        → IsRunFileReport has lacks source options kept wrote cut report
-    named_run name asked r = inr (named_meant has lacks source options kept ends report plan meant name asked r)
 
 module _ {W : Type 0} (known : W → Option (List ℕ)) (old new : Counted W) (plan : Plan) (system : System) (lines : Lines) (kept : Type 0) where
   -- a run that ended early

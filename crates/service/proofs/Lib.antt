@@ -4,5 +4,6 @@ pub mod DriveReports
 pub mod Pieces
 pub mod Printings
 pub mod Reporting
+pub mod SetupReports
 pub mod Simulated
 pub mod Told

@@ -7,6 +7,7 @@ pub mod PrintRefusals
 pub mod Printing
 pub mod Reading
 pub mod Reports
+pub mod Setups
 pub mod Simulations
 pub mod Tables
 pub mod Told

@@ -1,34 +1,30 @@
--- Reports on parts of a simulation: a plan, and turns for it.
-use Rattle.std.specs.Prelude.{◌≡◌, ◌⊎◌, ℕ, Option, List}
+-- The report on one thread that simulates a plan with turns.
+use Rattle.std.specs.Prelude.{◌≡◌, ◌⊎◌, ℕ, List}
 use Rattle.plans.specs.declared.plan.Plan.{Plan}
 use Rattle.task_seed.specs.Turning.{System}
-use Rattle.command_line.specs.declared.Options.{Options}
+use Rattle.trace.specs.declared.lines.Lines.{Lines}
 use Rattle.commands.specs.Simulated.{IsSimulated}
 use Rattle.service.specs.declared.report.Report.{Report}
 use Rattle.service.specs.declared.report.Report.TheVariants.{Done, No, Driven, Refused, Fault, Misused}
-use Rattle.service.specs.Simulations.{IsBadOption, lines_for}
-
--- what the plan does with turns of which this holds became this
-pub record Runs (Given : System → Type 0) (plan : Plan) (options : Options) (Became : List ℕ → Type 0) : Type 0 where
-  pub system : System
-  pub turns : Given system
-  pub simulated : IsSimulated plan system (lines_for options.trace) Became
-
--- a write failed (60), and the text is cut after so many bytes
-pub record IsRunCut (Given : System → Type 0) (plan : Plan) (options : Options) (cut : List ℕ → ℕ → Type 0) (number : ℕ) : Type 0 where
-  pub number_is : number ≡ 60
-  pub written : ℕ
-  pub stopped : Runs Given plan options (λ text. cut text written)
-
--- the report on a plan with turns that are given, refused or lacking
-abbrev pub IsRunReport : (System → Type 0) → (ℕ → Option ℕ → Type 0) → (ℕ → Type 0) → Plan → Options → Type 0 → (List ℕ → Type 0) → (List ℕ → ℕ → Type 0) → Report → Type 0
-IsRunReport Given Bad Lacks plan options kept wrote cut Done = Runs Given plan options wrote
-IsRunReport Given Bad Lacks plan options kept wrote cut No = ⊥
-IsRunReport Given Bad Lacks plan options kept wrote cut (Driven refused) = ⊥
-IsRunReport Given Bad Lacks plan options kept wrote cut (Refused number place) = (Bad number place ⊎ IsBadOption options number place) × kept
-IsRunReport Given Bad Lacks plan options kept wrote cut (Fault number) = (Lacks number × kept) ⊎ IsRunCut Given plan options cut number
-IsRunReport Given Bad Lacks plan options kept wrote cut Misused = ⊥
 
 -- want of memory alone
 abbrev pub IsMemory : ℕ → Type 0
 IsMemory number = number ≡ 1
+
+-- a write failed (60), and the text is cut after so many bytes
+pub record IsSimulationCut (plan : Plan) (system : System) (lines : Lines)
+    (cut : List ℕ → ℕ → Type 0) (number : ℕ) : Type 0 where
+  pub number_is : number ≡ 60
+  pub written : ℕ
+  pub stopped : IsSimulated plan system lines (λ text. cut text written)
+
+-- the report on a plan with turns
+abbrev pub IsSimulationReport : Plan → System → Lines → Type 0 → (List ℕ → Type 0)
+    → (List ℕ → ℕ → Type 0) → Report → Type 0
+IsSimulationReport plan system lines kept wrote cut Done = IsSimulated plan system lines wrote
+IsSimulationReport plan system lines kept wrote cut No = ⊥
+IsSimulationReport plan system lines kept wrote cut (Driven refused) = ⊥
+IsSimulationReport plan system lines kept wrote cut (Refused number place) = ⊥
+IsSimulationReport plan system lines kept wrote cut (Fault number) =
+    (IsMemory number × kept) ⊎ IsSimulationCut plan system lines cut number
+IsSimulationReport plan system lines kept wrote cut Misused = ⊥

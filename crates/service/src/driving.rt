@@ -1,24 +1,19 @@
 //! Compositions driven by steps, from files.
 ghost use Rattle.std.specs.Prelude.{◌≡◌};
-ghost use Rattle.plans.specs.Plans.{composition};
 ghost use Rattle.task_seed.specs.Setups.{plan_of, system};
 ghost use Rattle.trace.specs.Went.{IsStopped, IsWritten};
-ghost use Rattle.service.specs.Drives.{IsDriveReport, IsStepsReport, IsTurnsReport};
-ghost use Rattle.service.specs.Parts.{IsMemory};
-ghost use Rattle.service.specs.Simulations.{IsTabled, lines_for, seeded, system_with};
-ghost use Rattle.service.specs.Tables.{IsRefused};
-ghost use Rattle.service.specs.Unread.{HasSmall, IsFileFault};
+ghost use Rattle.service.specs.Drives.{IsDriveReport, IsStepsReport};
 
 use crate::files::Files;
 use crate::report::{Report, report_of};
 use crate::serve::read_whole;
-use crate::simulation::{gap_of, lines_for, plan_of};
+use crate::setups::setup_of;
+use crate::simulation::{lines_for, plan_of};
 use command_line::Options;
 use commands::drive;
-use plans::Plan;
 use std::alloc::Global;
 use std::io::Write;
-use task_seed::{SeedTurns, Setup, TableTurns, Turns, read_table};
+use task_seed::{Setup, Turns};
 use trace::{Counted, Lines, read_steps};
 
 /// Drives the composition of the source in a file by the steps in another, with the turns of a seed, or of a table where `options` name one,
@@ -38,85 +33,9 @@ pub fn drive_file<F: Files, W: Write>(
         Ok(plan) => plan,
         Err(report) => return report,
     };
-    match options.table {
-        Some(table) => drive_table(alloc, plan, table, steps, options, files, out),
-        None => drive_seed(alloc, plan, steps, options, files, out),
-    }
-}
-
-// Drives a plan with the turns of a seed.
-fn drive_seed<F: Files, W: Write>(
-    alloc: Global,
-    plan: Plan,
-    steps: &str,
-    options: Options,
-    files: &F,
-    out: &mut Counted<W>,
-) -> Report
-    ensures { IsTurnsReport (λ s. s ≡ seeded (composition plan) options.entry) (λ _ _. ⊥) IsMemory options.entry (out.new ≡ out.old) (λ s. IsStepsReport (F.has files.now steps.now) (F.lacks files.now steps.now) plan s (lines_for options.entry.trace) (out.new ≡ out.old) (IsWritten W.contents out.old out.new) (IsStopped W.contents out.old out.new)) result }
-{
-    match SeedTurns::new(options.seed, options.stream, gap_of(options.gap)) {
-        Ok(turns) => drive_turns(alloc, plan, turns, steps, options, files, out),
-        Err(refused) => report_of(&refused),
-    }
-}
-
-// Drives a plan with the turns of the table in a file.
-fn drive_table<F: Files, W: Write>(
-    alloc: Global,
-    plan: Plan,
-    name: &str,
-    steps: &str,
-    options: Options,
-    files: &F,
-    out: &mut Counted<W>,
-) -> Report
-    ensures { IsTurnsReport (λ s. HasSmall (F.has files.now name.now) (IsTabled (composition plan) options.entry.ticks s)) (λ number place. HasSmall (F.has files.now name.now) (λ table. IsRefused (composition plan) table number place)) (IsFileFault (F.has files.now name.now) (F.lacks files.now name.now)) options.entry (out.new ≡ out.old) (λ s. IsStepsReport (F.has files.now steps.now) (F.lacks files.now steps.now) plan s (lines_for options.entry.trace) (out.new ≡ out.old) (IsWritten W.contents out.old out.new) (IsStopped W.contents out.old out.new)) result }
-{
-    let table = match read_whole(alloc, name, files) {
-        Ok(table) => table,
-        Err(number) => return Report::Fault(number),
-    };
-    drive_rows(alloc, plan, table.as_slice(), steps, options, files, out)
-}
-
-// Drives a plan with the turns of a table.
-fn drive_rows<F: Files, W: Write>(
-    alloc: Global,
-    plan: Plan,
-    table: &[u8],
-    steps: &str,
-    options: Options,
-    files: &F,
-    out: &mut Counted<W>,
-) -> Report
-    ensures { IsTurnsReport (λ s. IsTabled (composition plan) options.entry.ticks s table.now) (λ number place. IsRefused (composition plan) table.now number place) IsMemory options.entry (out.new ≡ out.old) (λ s. IsStepsReport (F.has files.now steps.now) (F.lacks files.now steps.now) plan s (lines_for options.entry.trace) (out.new ≡ out.old) (IsWritten W.contents out.old out.new) (IsStopped W.contents out.old out.new)) result }
-{
-    let rows = match read_table(alloc, table) {
-        Ok(rows) => rows,
-        Err(refused) => return report_of(&refused),
-    };
-    match TableTurns::new(alloc, &plan, rows.as_slice()) {
-        Ok(turns) => drive_turns(alloc, plan, turns, steps, options, files, out),
-        Err(refused) => report_of(&refused),
-    }
-}
-
-// Drives a plan with turns.
-fn drive_turns<T: Turns, F: Files, W: Write>(
-    alloc: Global,
-    plan: Plan,
-    turns: T,
-    steps: &str,
-    options: Options,
-    files: &F,
-    out: &mut Counted<W>,
-) -> Report
-    ensures { IsTurnsReport (λ s. s ≡ system_with (composition plan) (T.turn_of turns) options.entry.ticks) (λ _ _. ⊥) IsMemory options.entry (out.new ≡ out.old) (λ s. IsStepsReport (F.has files.now steps.now) (F.lacks files.now steps.now) plan s (lines_for options.entry.trace) (out.new ≡ out.old) (IsWritten W.contents out.old out.new) (IsStopped W.contents out.old out.new)) result }
-{
-    match Setup::new(plan, turns, options.ticks) {
+    match setup_of(alloc, plan, options, files) {
         Ok(setup) => drive_setup(alloc, setup, steps, lines_for(options.trace), files, out),
-        Err(refused) => report_of(&refused),
+        Err(report) => report,
     }
 }
 

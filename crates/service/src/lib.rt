@@ -8,6 +8,7 @@ pub mod printing;
 pub mod report;
 pub mod running;
 pub mod serve;
+mod setups;
 pub mod simulation;
 mod writing;
 

@@ -1,17 +1,16 @@
 //! Compositions simulated and judged, from files.
-ghost use Rattle.std.specs.Prelude.{◌≡◌, ◌<◌, ◌≤◌, IfErr, IfOk};
-ghost use Rattle.plans.specs.Plans.{composition};
+ghost use Rattle.std.specs.Prelude.{◌≡◌, IfErr, IfOk};
+ghost use Rattle.task_seed.specs.Setups.{plan_of, system};
 ghost use Rattle.trace.specs.Went.{IsStopped, IsWritten};
 ghost use Rattle.service.specs.Checks.{IsCheckReport, verdict_report};
 ghost use Rattle.service.specs.Compositions.{HasNoPlan, HasPlan};
-ghost use Rattle.service.specs.Parts.{IsMemory, IsRunReport};
-ghost use Rattle.service.specs.Simulations.{IsSimulateReport, IsTabled, lines_for, seeded, system_with};
-ghost use Rattle.service.specs.Tables.{IsRefused};
-ghost use Rattle.service.specs.Unread.{HasSmall, IsFileFault};
+ghost use Rattle.service.specs.Parts.{IsSimulationReport};
+ghost use Rattle.service.specs.Simulations.{IsSimulateReport, lines_for};
 
 use crate::files::Files;
 use crate::report::{Report, report_of};
 use crate::serve::{SOURCE_BYTES, read_front, read_whole};
+use crate::setups::setup_of;
 use command_line::Options;
 use commands::{check_trace, simulate};
 use plans::Plan;
@@ -20,7 +19,7 @@ use compose::compose_source;
 use compose::source_laws::{front_law, number_law};
 use std::alloc::Global;
 use std::io::Write;
-use task_seed::{SeedTurns, Setup, TableTurns, Turns, read_table};
+use task_seed::{Setup, Turns};
 use trace::{Counted, Lines};
 
 // The composition of the source in a file, or the report on why there is none.
@@ -55,70 +54,9 @@ pub fn simulate_file<F: Files, W: Write>(
         Ok(plan) => plan,
         Err(report) => return report,
     };
-    match options.table {
-        Some(table) => simulate_table(alloc, plan, table, options, files, out),
-        None => simulate_seed(alloc, plan, options, out),
-    }
-}
-
-// Simulates a plan with the turns of a seed.
-fn simulate_seed<W: Write>(
-    alloc: Global,
-    plan: Plan,
-    options: Options,
-    out: &mut Counted<W>,
-) -> Report
-    ensures { IsRunReport (λ s. s ≡ seeded (composition plan) options.entry) (λ _ _. ⊥) IsMemory plan options.entry (out.new ≡ out.old) (IsWritten W.contents out.old out.new) (IsStopped W.contents out.old out.new) result }
-{
-    match SeedTurns::new(options.seed, options.stream, gap_of(options.gap)) {
-        Ok(turns) => simulate_turns(alloc, plan, turns, options, out),
-        Err(refused) => report_of(&refused),
-    }
-}
-
-// A gap as the turns of a seed take it; what is too large for them stays so.
-pub(crate) fn gap_of(gap: u64) -> u32
-    ensures same { gap ≤ 65535 → result ≡ gap }
-    ensures large { 65535 < gap → 65535 < result }
-{
-    u32::try_from(gap).unwrap_or(u32::MAX)
-}
-
-// Simulates a plan with the turns of the table in a file.
-fn simulate_table<F: Files, W: Write>(
-    alloc: Global,
-    plan: Plan,
-    name: &str,
-    options: Options,
-    files: &F,
-    out: &mut Counted<W>,
-) -> Report
-    ensures { IsRunReport (λ s. HasSmall (F.has files.now name.now) (IsTabled (composition plan) options.entry.ticks s)) (λ number place. HasSmall (F.has files.now name.now) (λ table. IsRefused (composition plan) table number place)) (IsFileFault (F.has files.now name.now) (F.lacks files.now name.now)) plan options.entry (out.new ≡ out.old) (IsWritten W.contents out.old out.new) (IsStopped W.contents out.old out.new) result }
-{
-    let table = match read_whole(alloc, name, files) {
-        Ok(table) => table,
-        Err(number) => return Report::Fault(number),
-    };
-    simulate_rows(alloc, plan, table.as_slice(), options, out)
-}
-
-// Simulates a plan with the turns of a table.
-fn simulate_rows<W: Write>(
-    alloc: Global,
-    plan: Plan,
-    table: &[u8],
-    options: Options,
-    out: &mut Counted<W>,
-) -> Report
-    ensures { IsRunReport (λ s. IsTabled (composition plan) options.entry.ticks s table.now) (λ number place. IsRefused (composition plan) table.now number place) IsMemory plan options.entry (out.new ≡ out.old) (IsWritten W.contents out.old out.new) (IsStopped W.contents out.old out.new) result }
-{
-    let rows = match read_table(alloc, table) {
-        Ok(rows) => rows,
-        Err(refused) => return report_of(&refused),
-    };
-    match TableTurns::new(alloc, &plan, rows.as_slice()) {
-        Ok(turns) => simulate_turns(alloc, plan, turns, options, out),
-        Err(refused) => report_of(&refused),
+    match setup_of(alloc, plan, options, files) {
+        Ok(setup) => simulate_setup(alloc, &setup, lines_for(options.trace), out),
+        Err(report) => report,
     }
 }
 
@@ -128,21 +66,16 @@ pub(crate) fn lines_for(is_trace: bool) -> Lines
     if is_trace { Lines::Trace } else { Lines::All }
 }
 
-// Simulates a plan with turns.
-fn simulate_turns<T: Turns, W: Write>(
+// Simulates a setup.
+fn simulate_setup<T: Turns, W: Write>(
     alloc: Global,
-    plan: Plan,
-    turns: T,
-    options: Options,
+    setup: &Setup<T>,
+    lines: Lines,
     out: &mut Counted<W>,
 ) -> Report
-    ensures { IsRunReport (λ s. s ≡ system_with (composition plan) (T.turn_of turns) options.entry.ticks) (λ _ _. ⊥) IsMemory plan options.entry (out.new ≡ out.old) (IsWritten W.contents out.old out.new) (IsStopped W.contents out.old out.new) result }
+    ensures { IsSimulationReport (plan_of setup.now) (system T.turn_of setup.now) lines (out.new ≡ out.old) (IsWritten W.contents out.old out.new) (IsStopped W.contents out.old out.new) result }
 {
-    let setup = match Setup::new(plan, turns, options.ticks) {
-        Ok(setup) => setup,
-        Err(refused) => return report_of(&refused),
-    };
-    match simulate(alloc, &setup, lines_for(options.trace), out) {
+    match simulate(alloc, setup, lines, out) {
         Ok(()) => Report::Done,
         Err(fault) => report_of(&fault),
     }

@@ -7,7 +7,7 @@ ghost use Rattle.rollback.specs.Stepped.{next_entry};
 
 use exchange::Lease;
 use std::alloc::Global;
-use task_seed::{SeedTurns, TableTurns, Turns};
+use task_seed::{AnyTurns, Turns};
 use terms::NoMemory;
 
 /// What a worker asks before it is started and each time that it runs a lease ahead. A gate may hold a lease up, run fewer entries or none,
@@ -35,22 +35,11 @@ pub trait Gate<T: Turns>: Sync {
 #[derive(Drop)]
 pub struct Unheld;
 
-impl Gate<SeedTurns> for Unheld {
+impl Gate<AnyTurns> for Unheld {
     fn ahead(
         &self,
         alloc: Global,
-        lease: &mut Lease<SeedTurns>,
-        budget: u32,
-    ) -> Result<u32, NoMemory> {
-        run_ahead(alloc, lease, budget)
-    }
-}
-
-impl Gate<TableTurns> for Unheld {
-    fn ahead(
-        &self,
-        alloc: Global,
-        lease: &mut Lease<TableTurns>,
+        lease: &mut Lease<AnyTurns>,
         budget: u32,
     ) -> Result<u32, NoMemory> {
         run_ahead(alloc, lease, budget)

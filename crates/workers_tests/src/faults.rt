@@ -7,7 +7,7 @@ use std::alloc::Global;
 use std::io::{self, Write};
 use std::sync::atomic::{AtomicBool, Ordering};
 use std::thread;
-use task_seed::TableTurns;
+use task_seed::AnyTurns;
 use terms::{NoMemory, Refusal};
 use trace::{Counted, WriteFault};
 use workers::{Gate, RunFault, Summary, Unheld};
@@ -40,11 +40,11 @@ struct Few {
     workers: u16,
 }
 
-impl Gate<TableTurns> for Few {
+impl Gate<AnyTurns> for Few {
     fn ahead(
         &self,
         alloc: Global,
-        lease: &mut Lease<TableTurns>,
+        lease: &mut Lease<AnyTurns>,
         budget: u32,
     ) -> Result<u32, NoMemory> {
         lease.run_ahead(alloc, budget)
@@ -81,11 +81,11 @@ struct Waiting<'a> {
     held: AtomicBool,
 }
 
-impl<'a> Gate<TableTurns> for Waiting<'a> {
+impl<'a> Gate<AnyTurns> for Waiting<'a> {
     fn ahead(
         &self,
         alloc: Global,
-        lease: &mut Lease<TableTurns>,
+        lease: &mut Lease<AnyTurns>,
         budget: u32,
     ) -> Result<u32, NoMemory> {
         if !self.held.swap(true, Ordering::SeqCst) {

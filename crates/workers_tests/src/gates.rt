@@ -6,7 +6,7 @@ use std::alloc::Global;
 use std::io::{self, Write};
 use std::sync::atomic::{AtomicBool, AtomicU64, Ordering};
 use std::thread;
-use task_seed::TableTurns;
+use task_seed::AnyTurns;
 use terms::NoMemory;
 use trace::Counted;
 use workers::{Gate, Summary};
@@ -35,11 +35,11 @@ impl Together {
     }
 }
 
-impl Gate<TableTurns> for Together {
+impl Gate<AnyTurns> for Together {
     fn ahead(
         &self,
         alloc: Global,
-        lease: &mut Lease<TableTurns>,
+        lease: &mut Lease<AnyTurns>,
         budget: u32,
     ) -> Result<u32, NoMemory> {
         let number = u64::from(lease.number());
@@ -118,11 +118,11 @@ impl<'a> Holding<'a> {
     }
 }
 
-impl<'a> Gate<TableTurns> for Holding<'a> {
+impl<'a> Gate<AnyTurns> for Holding<'a> {
     fn ahead(
         &self,
         alloc: Global,
-        lease: &mut Lease<TableTurns>,
+        lease: &mut Lease<AnyTurns>,
         budget: u32,
     ) -> Result<u32, NoMemory> {
         if lease.number() == 0 && self.holds() {

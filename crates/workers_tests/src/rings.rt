@@ -7,7 +7,7 @@ use std::io::{self, Write};
 use std::process::Abort;
 use std::sync::{Arc, Wait};
 use std::thread::Threads;
-use task_seed::{Row, Setup, TableTurns};
+use task_seed::{AnyTurns, Row, Setup, TableTurns};
 use terms::NoMemory;
 use trace::{Counted, Lines};
 use workers::{Gate, RunFault, Summary, Unheld, run};
@@ -52,7 +52,7 @@ pub(crate) fn ring_setup(
     alloc: Global,
     turns: &[(u64, u32)],
     horizon: u64,
-) -> Result<Setup<TableTurns>, NoMemory> {
+) -> Result<Setup<AnyTurns>, NoMemory> {
     let mut rows = Vec::new(alloc);
     for (component, gap) in turns {
         rows.push(Row {
@@ -66,7 +66,7 @@ pub(crate) fn ring_setup(
     let Ok(turns) = TableTurns::new(alloc, &plan, rows.as_slice()) else {
         return Err(NoMemory);
     };
-    match Setup::new(plan, turns, horizon) {
+    match Setup::new(plan, AnyTurns::Table(turns), horizon) {
         Ok(setup) => Ok(setup),
         Err(_) => Err(NoMemory),
     }
@@ -75,7 +75,7 @@ pub(crate) fn ring_setup(
 // Runs the ring with these turns.
 pub(crate) fn run_with<
     W: Write + Drop,
-    G: Gate<TableTurns>,
+    G: Gate<AnyTurns>,
     R: Threads + Wait + Sync + AllocGlobal,
 >(
     rt: &R,
@@ -97,7 +97,7 @@ pub(crate) fn run_with<
 // Runs the ring with its turns.
 pub(crate) fn run_ring<
     W: Write + Drop,
-    G: Gate<TableTurns>,
+    G: Gate<AnyTurns>,
     R: Threads + Wait + Sync + AllocGlobal,
 >(rt: &R, workers: u16, gate: &G, out: &mut Counted<W>) -> Result<Summary, RunFault>
     requires workers { (1 ≤ workers) × (workers ≤ 64) }

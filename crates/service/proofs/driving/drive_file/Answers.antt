@@ -1,18 +1,32 @@
-use Rattle.std.proofs.Common.{◌≡◌, ℕ, List, ap}
-use Rattle.std.specs.Prelude.{option_map}
+use Rattle.std.proofs.Common.{◌≡◌, ℕ, List, inr, refl}
+use Rattle.plans.specs.declared.plan.Plan.{Plan}
+use Rattle.task_seed.specs.Turning.{System}
+use Rattle.trace.specs.declared.lines.Lines.{Lines}
 use Rattle.trace.specs.Went.{IsStopped, IsWritten}
-use Rattle.service.proofs.DriveReports.{named_driven, seed_driven}
+use Rattle.service.specs.declared.report.Report.{Report}
+use Rattle.service.specs.Drives.{IsStepsReport}
+use Rattle.service.proofs.DriveReports.{no_setup_meant, setup_meant}
 use Rattle.service.proofs.driving.drive_file.Goals as goal
 
-pub returns-in-Some : goal.returns-in-Some
-returns-in-Some g c =
-    let wrote : List ℕ → Type 0 = IsWritten g.W.Write.contents c.args.out.now c.drive_table.new.out in
-    let cut : List ℕ → ℕ → Type 0 = IsStopped g.W.Write.contents c.args.out.now c.drive_table.new.out in
-    let asked = ap (option_map (λ s. s.now)) c.in-Some.is in
-    named_driven (g.F.Files.has c.args.files.now) (g.F.Files.lacks c.args.files.now) c.args.source.now c.args.steps.now c.args.options (c.drive_table.new.out ≡ c.args.out.now) wrote cut c.in-Ok.plan c.in-Ok.ensures.ok c.drive_table.result c.in-Some.table.now asked c.drive_table.ensures
+pub returns-in-Ok-setup_of : goal.returns-in-Ok-setup_of
+returns-in-Ok-setup_of g c =
+    let has = g.F.Files.has c.args.files.now in
+    let lacks = g.F.Files.lacks c.args.files.now in
+    let steps = c.args.steps.now in
+    let kept : Type 0 = c.drive_setup.new.out ≡ c.args.out.now in
+    let wrote : List ℕ → Type 0 = IsWritten g.W.Write.contents c.args.out.now c.drive_setup.new.out in
+    let cut : List ℕ → ℕ → Type 0 = IsStopped g.W.Write.contents c.args.out.now c.drive_setup.new.out in
+    let ends : Plan → System → Lines → Report → Type 0 = λ p s l. IsStepsReport (has steps) (lacks steps) p s l kept wrote cut in
+    inr (setup_meant has lacks c.args.source.now c.args.options kept ends c.in-Ok.plan c.in-Ok.ensures.ok c.drive_setup.result
+    c.in-Ok-setup_of.setup c.in-Ok-setup_of.ensures.ok c.lines_for.result c.lines_for.ensures c.drive_setup.ensures)
 
-pub returns-in-None : goal.returns-in-None
-returns-in-None g c =
-    let wrote : List ℕ → Type 0 = IsWritten g.W.Write.contents c.args.out.now c.drive_seed.new.out in
-    let cut : List ℕ → ℕ → Type 0 = IsStopped g.W.Write.contents c.args.out.now c.drive_seed.new.out in
-    seed_driven (g.F.Files.has c.args.files.now) (g.F.Files.lacks c.args.files.now) c.args.source.now c.args.steps.now c.args.options (c.drive_seed.new.out ≡ c.args.out.now) wrote cut c.in-Ok.plan c.in-Ok.ensures.ok c.drive_seed.result c.in-None.is c.drive_seed.ensures
+pub returns-in-Err-setup_of : goal.returns-in-Err-setup_of
+returns-in-Err-setup_of g c =
+    let has = g.F.Files.has c.args.files.now in
+    let lacks = g.F.Files.lacks c.args.files.now in
+    let steps = c.args.steps.now in
+    let kept : Type 0 = c.args.out.now ≡ c.args.out.now in
+    let wrote : List ℕ → Type 0 = IsWritten g.W.Write.contents c.args.out.now c.args.out.now in
+    let cut : List ℕ → ℕ → Type 0 = IsStopped g.W.Write.contents c.args.out.now c.args.out.now in
+    let ends : Plan → System → Lines → Report → Type 0 = λ p s l. IsStepsReport (has steps) (lacks steps) p s l kept wrote cut in
+    inr (no_setup_meant has lacks c.args.source.now c.args.options kept ends c.in-Ok.plan c.in-Ok.ensures.ok c.in-Err-setup_of.report refl c.in-Err-setup_of.ensures.err)
