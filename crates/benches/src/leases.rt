@@ -7,7 +7,7 @@ use rand_core::Rng;
 use rand_pcg::Lcg64Xsh32;
 use std::alloc::Global;
 use std::sync::Arc;
-use task_seed::SeedTurns;
+use task_seed::AnyTurns;
 use trace::{Counted, Lines, write_turns};
 
 // Enough for all turns of a subject, a few entries a round.
@@ -34,8 +34,8 @@ pub fn gives_all(alloc: Global, subject: &Subject, random: &mut Lcg64Xsh32) -> R
 // One call, of a lease that may have been away for long.
 fn call(
     alloc: Global,
-    exchange: &mut Exchange<SeedTurns>,
-    leases: &mut [Lease<SeedTurns>],
+    exchange: &mut Exchange<AnyTurns>,
+    leases: &mut [Lease<AnyTurns>],
     out: &mut Counted<Vec<u8>>,
     random: &mut Lcg64Xsh32,
 ) -> Result<()> {
@@ -62,8 +62,8 @@ fn call(
 // Each lease delivers its tray, runs ahead and meets, until all is committed and given.
 fn finish(
     alloc: Global,
-    exchange: &mut Exchange<SeedTurns>,
-    leases: &mut [Lease<SeedTurns>],
+    exchange: &mut Exchange<AnyTurns>,
+    leases: &mut [Lease<AnyTurns>],
     out: &mut Counted<Vec<u8>>,
 ) -> Result<()> {
     for _ in 0..ROUNDS {
@@ -81,7 +81,7 @@ fn finish(
     write_chunk(exchange, out)
 }
 
-fn write_chunk(exchange: &mut Exchange<SeedTurns>, out: &mut Counted<Vec<u8>>) -> Result<()> {
+fn write_chunk(exchange: &mut Exchange<AnyTurns>, out: &mut Counted<Vec<u8>>) -> Result<()> {
     let chunk = exchange.take_chunk();
     write_turns(exchange.setup().plan(), chunk.turns.iter(), Lines::All, out)?;
     Ok(())
@@ -104,7 +104,7 @@ pub fn replaces_its_lease(alloc: Global, subject: &Subject) -> Result<bool> {
 fn with_stranger(
     alloc: Global,
     subject: &Subject,
-) -> Result<(Exchange<SeedTurns>, Vec<Lease<SeedTurns>>)> {
+) -> Result<(Exchange<AnyTurns>, Vec<Lease<AnyTurns>>)> {
     let (mut exchange, leases) = Exchange::new(alloc, Arc::try_clone(&subject.setup)?)?;
     let (_, mut others) = Exchange::new(alloc, Arc::try_clone(&subject.setup)?)?;
     if let Some(other) = others.first_mut() {

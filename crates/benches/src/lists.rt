@@ -11,7 +11,7 @@ use rand_pcg::Lcg64Xsh32;
 use std::alloc::{AllocGlobal, Global};
 use std::process::ExitCode;
 use std::sync::Arc;
-use task_seed::SeedTurns;
+use task_seed::AnyTurns;
 use trace::{Counted, Lines, write_turns};
 use world::{Reply, Step, StepRefused, World};
 
@@ -127,7 +127,7 @@ fn add_committed(replies: &[Result<Reply, StepRefused>], tally: &mut Tally) {
     }
 }
 
-fn committed_text(alloc: Global, world: &World<SeedTurns>) -> Result<Vec<u8>> {
+fn committed_text(alloc: Global, world: &World<AnyTurns>) -> Result<Vec<u8>> {
     let mut out = Counted::new(Vec::new(alloc));
     write_turns(
         world.setup().plan(),

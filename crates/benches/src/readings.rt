@@ -1,7 +1,7 @@
 //! What reading and composing a source cost.
+use crate::texts::ring;
 use anyhow::Result;
 use compose::compose;
-use crate::texts::ring;
 use ioa_check::check;
 use ioa_front::{MOST_BYTES, Source, print, read};
 use std::alloc::{AllocGlobal, Global};

@@ -5,7 +5,7 @@ use anyhow::Result;
 use compose::compose_source;
 use std::alloc::Global;
 use std::sync::Arc;
-use task_seed::{Setup, TableTurns, read_table};
+use task_seed::{AnyTurns, Setup, TableTurns, read_table};
 use terms::Refusal;
 use trace::read_steps;
 use world::{Reply, StepRefused, World};
@@ -161,7 +161,7 @@ fn is_right(alloc: Global, row: &Row) -> Result<bool> {
     let plan = compose_source(alloc, row.given.source().as_bytes())?;
     let rows = read_table(alloc, row.given.table().as_bytes())?;
     let turns = TableTurns::new(alloc, &plan, rows.as_slice())?;
-    let setup = Arc::new(alloc, Setup::new(plan, turns, 1_000)?)?;
+    let setup = Arc::new(alloc, Setup::new(plan, AnyTurns::Table(turns), 1_000)?)?;
     let start = World::new(alloc, Arc::try_clone(&setup)?)?;
     let (world, replies) = driven(alloc, &setup, row.steps)?;
     let (other, _) = driven(alloc, &setup, row.equal)?;
@@ -172,9 +172,9 @@ fn is_right(alloc: Global, row: &Row) -> Result<bool> {
 // The world after the steps of a text, and the lines of their replies.
 fn driven(
     alloc: Global,
-    setup: &Arc<Setup<TableTurns>>,
+    setup: &Arc<Setup<AnyTurns>>,
     steps: &str,
-) -> Result<(World<TableTurns>, String)> {
+) -> Result<(World<AnyTurns>, String)> {
     let steps = read_steps(alloc, setup.plan(), steps.as_bytes())?;
     let mut world = World::new(alloc, Arc::try_clone(setup)?)?;
     let replies = world.run(alloc, steps.as_slice())?;

@@ -5,13 +5,14 @@ use compose::compose_source;
 use reference::schedule;
 use std::alloc::{AllocGlobal, Global};
 use std::time::{Clock, Instant};
-use task_seed::{SeedTurns, Setup};
+use task_seed::{AnyTurns, SeedTurns, Setup};
 
 // The number of the turns up to the last tick, and the nanoseconds that they took.
 fn simulate(clock: &impl Clock, alloc: Global, size: u64, ticks: u64) -> Result<(u64, u64)> {
     let text = ring(alloc, size)?;
     let plan = compose_source(alloc, text.as_bytes())?;
-    let setup = Setup::new(plan, SeedTurns::new(1, 0, 8)?, ticks)?;
+    let turns = AnyTurns::Seed(SeedTurns::new(1, 0, 8)?);
+    let setup = Setup::new(plan, turns, ticks)?;
     let started = Instant::now(clock)?;
     let turns = schedule(alloc, &setup)?;
     let spent = u64::try_from(started.elapsed(clock)?.as_nanos())?;

@@ -6,7 +6,7 @@ use event_keys::{Message, Outcome, Turned};
 use reference::schedule;
 use std::alloc::Global;
 use std::sync::Arc;
-use task_seed::{SeedTurns, Setup};
+use task_seed::{AnyTurns, SeedTurns, Setup};
 use trace::{Counted, Lines, write_turns};
 
 /// A ring of two: one token goes round.
@@ -24,7 +24,7 @@ pub const CROWD: &str =
 /// A setup with the turns that the one-thread simulator takes, and their text.
 #[derive(Drop)]
 pub struct Subject {
-    pub setup: Arc<Setup<SeedTurns>>,
+    pub setup: Arc<Setup<AnyTurns>>,
     pub turns: Vec<Turned>,
     pub text: Vec<u8>,
 }
@@ -33,7 +33,8 @@ impl Subject {
     /// The composition of a source, with the turns of a seed up to the last tick.
     pub fn new(alloc: Global, source: &str, seed: u64, ticks: u64) -> Result<Subject> {
         let plan = compose_source(alloc, source.as_bytes())?;
-        let setup = Setup::new(plan, SeedTurns::new(seed, 0, 8)?, ticks)?;
+        let turns = AnyTurns::Seed(SeedTurns::new(seed, 0, 8)?);
+        let setup = Setup::new(plan, turns, ticks)?;
         let turns = schedule(alloc, &setup)?;
         let mut out = Counted::new(Vec::new(alloc));
         write_turns(setup.plan(), turns.iter(), Lines::All, &mut out)?;

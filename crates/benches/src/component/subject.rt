@@ -13,17 +13,17 @@ use ring_source::ring;
 use rollback::{Component, ProcessRefused};
 use std::alloc::Global;
 use std::sync::Arc;
-use task_seed::{Row, Setup, TableTurns};
+use task_seed::{AnyTurns, Row, Setup, TableTurns};
 
 /// The component, and the bag into which it posts.
 #[derive(Drop)]
 pub struct Subject {
-    node: Component<TableTurns>,
+    node: Component<AnyTurns>,
     out: Bag,
     ghost second: { node.number ≡ 1 },
 }
 
-fn setup(alloc: Global, turns: u32) -> Result<Setup<TableTurns>>
+fn setup(alloc: Global, turns: u32) -> Result<Setup<AnyTurns>>
     ensures { IfOk result (λ setup. composition (plan_of setup) ≡ ring_of_two) }
 {
     let mut rows = Vec::new(alloc);
@@ -36,7 +36,7 @@ fn setup(alloc: Global, turns: u32) -> Result<Setup<TableTurns>>
         })?;
     }
     let plan = ring(alloc)?;
-    let turns = TableTurns::new(alloc, &plan, &rows)?;
+    let turns = AnyTurns::Table(TableTurns::new(alloc, &plan, &rows)?);
     Ok(Setup::new(plan, turns, LATE)?)
 }
 
