@@ -4,11 +4,11 @@ ghost use Rattle.ioa_check.specs.Resolutions.{meaning};
 ghost use Rattle.plans.specs.Plans.{action_texts};
 ghost use Rattle.compose.specs.Faults.{Fault as AnyFault, HasFault, IsPlan, IsRefused, least_error, unknown_at};
 
+use crate::fault::ComposeError;
+use crate::laws::formed_law;
 use action_types::first_difference;
 use compatibility::laws::compatible_law;
 use compatibility::{Rule, first_break};
-use crate::fault::ComposeError;
-use crate::laws::formed_law;
 use instances::parts_of;
 use ioa_check::{Checked, Component};
 use ioa_facts::laws::{sizes_law, sources_law};

@@ -22,12 +22,7 @@ use workers::{Gate, run};
 /// writes the lines of the turns as they are committed. The source is judged before the table is read.
 ///
 /// It may wait. What went out is a beginning of the text of the simulator by one thread, and all of it where the report is `Done`.
-pub fn run_file<
-    F: Files,
-    W: Write + Drop,
-    G: Gate<AnyTurns>,
-    R: Threads + Wait + Sync,
->(
+pub fn run_file<F: Files, W: Write + Drop, G: Gate<AnyTurns>, R: Threads + Wait + Sync>(
     rt: &R,
     alloc: Global,
     source: &str,

@@ -73,11 +73,7 @@ pub(crate) fn ring_setup(
 }
 
 // Runs the ring with these turns.
-pub(crate) fn run_with<
-    W: Write + Drop,
-    G: Gate<AnyTurns>,
-    R: Threads + Wait + Sync + AllocGlobal,
->(
+pub(crate) fn run_with<W: Write + Drop, G: Gate<AnyTurns>, R: Threads + Wait + Sync + AllocGlobal>(
     rt: &R,
     turns: &[(u64, u32)],
     horizon: u64,
@@ -95,11 +91,12 @@ pub(crate) fn run_with<
 }
 
 // Runs the ring with its turns.
-pub(crate) fn run_ring<
-    W: Write + Drop,
-    G: Gate<AnyTurns>,
-    R: Threads + Wait + Sync + AllocGlobal,
->(rt: &R, workers: u16, gate: &G, out: &mut Counted<W>) -> Result<Summary, RunFault>
+pub(crate) fn run_ring<W: Write + Drop, G: Gate<AnyTurns>, R: Threads + Wait + Sync + AllocGlobal>(
+    rt: &R,
+    workers: u16,
+    gate: &G,
+    out: &mut Counted<W>,
+) -> Result<Summary, RunFault>
     requires workers { (1 ≤ workers) × (workers ≤ 64) }
 {
     run_with(rt, &TURNS, 1000, (workers, 64), gate, Lines::All, out)
