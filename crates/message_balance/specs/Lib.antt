@@ -1,2 +1,4 @@
 pub mod Balance
+pub mod Same
+pub mod SameLaws
 pub mod Walks

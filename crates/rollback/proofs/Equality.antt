@@ -35,7 +35,8 @@ use Rattle.message_balance.specs.declared.done.Done.{Done}
 use Rattle.message_balance.specs.declared.done.Done.TheVariants.{Turn, Input}
 use Rattle.rollback.specs.Flight.{items_of, AllGo}
 use Rattle.rollback.specs.Kept.{entry_of, entries_of, IsSmall, IsReady, AllReady, base_state, record_of, IsQueue, IsKept}
-use Rattle.rollback.specs.Same.{same_item, same_entry, same_events, same_held, same_done}
+use Rattle.message_balance.specs.Same.{same_done}
+use Rattle.rollback.specs.Same.{same_item, same_entry, same_events, same_held}
 use Rattle.rollback.specs.SameLaws.{entry_decides}
 use Rattle.rollback.proofs.Flight.{item_same}
 

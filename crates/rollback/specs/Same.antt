@@ -4,14 +4,10 @@ use Rattle.std.specs.Cmp.Lexicographic.{pointwise}
 use Rattle.terms.specs.Datum.{Datum}
 use Rattle.terms.specs.Named.{Named}
 use Rattle.event_keys.specs.contracts.key.BoundPartialEq.TheImpl as bound_eq
-use Rattle.event_keys.specs.contracts.message.SignedPartialEq.TheImpl as signed_eq
-use Rattle.event_keys.specs.contracts.outcome.TurnedPartialEq.TheImpl as turned_eq
 use Rattle.undo_records.specs.First.{same_state}
 use Rattle.virtual_time.specs.Entries.{Entry, Own, Input as Received, Item}
 use Rattle.virtual_time.specs.Records.{Record}
 use Rattle.task_seed.specs.Machines.{same_action}
-use Rattle.message_balance.specs.declared.done.Done.{Done}
-use Rattle.message_balance.specs.declared.done.Done.TheVariants.{Turn, Input}
 use Rattle.rollback.specs.Held.{Held}
 
 -- both idle, or the same action
@@ -43,10 +39,3 @@ same_events r q = pointwise same_entry r.done q.done && (pointwise same_item r.p
 -- components are equal where both hold
 abbrev pub same_held : {P : Type 0} → (P → P → Bool) → Held P → Held P → Bool
 same_held eq a b = same_base eq a b && same_events a.history b.history
-
--- a done entry is the same turn, or the same input; what lies ready with a turn isn't looked at
-abbrev pub same_done : Done → Done → Bool
-same_done (Turn turned minuses) (Turn other others) = turned_eq.ghosts.eq turned other
-same_done (Turn turned minuses) (Input y) = false
-same_done (Input x) (Turn other others) = false
-same_done (Input x) (Input y) = signed_eq.ghosts.eq x y

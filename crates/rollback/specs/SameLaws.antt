@@ -1,8 +1,8 @@
--- Comparing numbers, bounds, records and done entries tells exactly whether they are the same.
+-- Comparing numbers, bounds and records tells exactly whether they are the same.
 use Rattle.std.specs.Prelude.{◌≡◌, ◌==◌, ◌&&◌, Bool as Truth, true, nat_eq, Option, None, Some, List, refl}
 use Rattle.std.specs.Bool.{Decides}
 use Rattle.std.specs.Ordering.{is_eq, eq_of_both, on}
-use Rattle.std.specs.Cmp.{IsEquivalence, IsPartialEquivalence, Equal-is, tied_itself, and_equiv, on_equiv}
+use Rattle.std.specs.Cmp.{IsEquivalence, Equal-is, tied_itself, and_equiv, on_equiv}
 use Rattle.std.specs.Cmp.Lexicographic.{pointwise, pointwise_decides, lists_equiv}
 use Rattle.std.proofs.Common.{ap, sym, ◌∙◌, rules}
 use Rattle.terms.specs.Datum.{Datum}
@@ -15,8 +15,6 @@ use Rattle.event_keys.specs.contracts.key.BoundPartialEq.TheImpl as bound_eq
 use Rattle.event_keys.specs.contracts.key.BoundEq.TheImpl.Laws.{laws-law as bound_laws}
 use Rattle.event_keys.specs.contracts.key.BoundOrd.TheImpl as bound_ord
 use Rattle.event_keys.specs.contracts.key.BoundOrd.TheImpl.Laws.{matches_eq-law as bound_agrees, total-law as bound_total}
-use Rattle.event_keys.specs.contracts.message.SignedPartialEq.TheImpl.Laws.{laws-law as signed_laws}
-use Rattle.event_keys.specs.contracts.outcome.TurnedPartialEq.TheImpl.Laws.{laws-law as turned_laws}
 use Rattle.event_keys.specs.Apart.{action_apart, bound_apart}
 use Rattle.event_keys.specs.Orders.{action_order, bound_order}
 use Rattle.plans.specs.SameCompositions.{same_plan}
@@ -26,10 +24,8 @@ use Rattle.virtual_time.specs.Entries.{Entry, Own, Input as Received, Item}
 use Rattle.virtual_time.specs.Records.{Record}
 use Rattle.task_seed.specs.Setups.{plan_of, source_of, horizon_of}
 use Rattle.task_seed.specs.Machines.{same_action}
-use Rattle.message_balance.specs.declared.done.Done.{Done}
-use Rattle.message_balance.specs.declared.done.Done.TheVariants.{Turn, Input}
 use Rattle.rollback.specs.Held.{Held}
-use Rattle.rollback.specs.Same.{same_outcome, same_item, same_entry, same_base, same_events, same_held, same_done}
+use Rattle.rollback.specs.Same.{same_outcome, same_item, same_entry, same_base, same_events, same_held}
 
 action_is : (a b : Named) → same_action a b ≡ true → a ≡ b
 action_is a b h = action_apart a b ((Equal-is (action_order a b)).0 h)
@@ -154,20 +150,3 @@ held_from eq a b h =
 -- components of an equal base have the same number
 pub number_of_base : {P : Type 0} (eq : P → P → Truth) (a b : Held P) → same_base eq a b ≡ true → a.number ≡ b.number
 number_of_base eq a b h = (base_is eq a b h).1
-
-done_symm : (d e : Done) → same_done d e ≡ same_done e d
-done_symm (Turn t minuses) (Turn u others) = turned_laws.symm t u
-done_symm (Turn t minuses) (Input y) = refl
-done_symm (Input x) (Turn u others) = refl
-done_symm (Input x) (Input y) = signed_laws.symm x y
-
-done_trans : (d e f : Done) → same_done d e ≡ true → same_done e f ≡ true → same_done d f ≡ true
-done_trans (Turn t minuses) (Turn u others) (Turn v rest) h k = turned_laws.trans t u v h k
-done_trans (Turn t minuses) (Turn u others) (Input z) h k = k
-done_trans (Turn t minuses) (Input y) f h k = cc
-done_trans (Input x) (Turn u others) f h k = cc
-done_trans (Input x) (Input y) (Turn v rest) h k = k
-done_trans (Input x) (Input y) (Input z) h k = signed_laws.trans x y z h k
-
-pub same_done_per : IsPartialEquivalence same_done
-same_done_per = record { symm = done_symm; trans = done_trans }

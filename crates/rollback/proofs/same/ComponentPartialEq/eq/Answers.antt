@@ -7,7 +7,8 @@ use Rattle.undo_records.specs.First.{same_state}
 use Rattle.task_seed.specs.Setups.{system}
 use Rattle.task_seed.specs.contracts.setup.SetupPartialEq.TheImpl as setup_eq
 use Rattle.rollback.specs.Kept.{base_state}
-use Rattle.rollback.specs.Same.{same_held, same_done}
+use Rattle.message_balance.specs.Same.{same_done}
+use Rattle.rollback.specs.Same.{same_held}
 use Rattle.rollback.proofs.Equality.{and_then, and_else, held_same}
 use Rattle.rollback.proofs.same.ComponentPartialEq.eq.Goals as goal
 use Rattle.rollback.proofs.same.ComponentPartialEq.eq.Goals.{then-eq, else-eq, then-self-other, else-self-other, then-eq-2, else-eq-2, then-self-other-2, else-self-other-2, then-has_same_first, else-has_same_first, then-eq-3, else-eq-3}
