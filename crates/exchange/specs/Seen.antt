@@ -1,31 +1,24 @@
 -- What a call of an exchange or of a lease is in the theory.
-use Rattle.std.specs.Prelude.{◌≡◌, ℕ, Option, List, length}
+use Rattle.std.specs.Prelude.{ℕ, Option, List}
 use Rattle.terms.specs.Datum.{Datum}
 use Rattle.terms.specs.Named.{Named}
-use Rattle.plans.specs.Plans.{composition}
 use Rattle.virtual_time.specs.Machine.{Machine}
-use Rattle.virtual_time.specs.Reference.{Turn as Taken}
 use Rattle.virtual_time.specs.Worlds.{Step}
 use Rattle.virtual_time.specs.Exchange.Leases.{Lease, Matches}
-use Rattle.virtual_time.specs.Exchange.Meetings.{IsChunk, IsCommit, Met}
+use Rattle.virtual_time.specs.Exchange.Meetings.{IsCommit, Met}
 use Rattle.virtual_time.specs.Exchange.Stubs.{Exchange}
 use Rattle.task_seed.specs.declared.setup.Setup.{Setup}
 use Rattle.task_seed.specs.declared.turns.Turn.{Turn}
-use Rattle.task_seed.specs.Setups.{plan_of}
 use Rattle.rollback.specs.Held.{machine_of}
-use Rattle.exchange.specs.Chunks.{IsGiven}
 use Rattle.exchange.specs.Core.{Moves, SimulatesSteps}
 use Rattle.exchange.specs.Holding.{Holding, lease_of}
 use Rattle.exchange.specs.Shared.{Shared, exchange_of}
 
 -- from an exchange whose turns are read by turn_of
 module _ {T : Type 0} (turn_of : T → ℕ → ℕ → Option Turn) (old : Shared (Setup T)) where
-  -- the machine of its setup, and the number of its components
+  -- the machine of its setup
   abbrev pub theory : Machine (List Datum) Named
   theory = machine_of turn_of old.setup
-
-  abbrev pub count : ℕ
-  count = length (composition (plan_of old.setup))
 
   -- an exchange of the same setup, as the theory sees it
   abbrev pub seen : Shared (Setup T) → Exchange Named
@@ -46,10 +39,6 @@ module _ {T : Type 0} (turn_of : T → ℕ → ℕ → Option Turn) (old : Share
   -- the bound has moved as far as all clear it
   abbrev pub HasCommitted : Shared (Setup T) → Type 0
   HasCommitted new = IsCommit theory (seen old) (seen new)
-
-  -- these turns below b, of which so many were given before, are given
-  abbrev pub HasGiven : ℕ → ℕ → Shared (Setup T) → List (Taken Named) → Type 0
-  HasGiven first b new turns = IsChunk theory count (seen old) b (seen new) turns × IsGiven theory first b turns
 
 -- from a lease
 module _ {T : Type 0} (turn_of : T → ℕ → ℕ → Option Turn) (old : Holding (Setup T)) where

@@ -7,8 +7,13 @@ ghost use Rattle.terms.specs.Named.{Named};
 ghost use Rattle.task_seed.specs.Taken.{turns_of};
 ghost use Rattle.raw_events.specs.Onto.{onto};
 ghost use Rattle.gvt.specs.Least.{IsLeast};
-ghost use Rattle.exchange.specs.Chunks.{base_of, is_first_below, first_below, first_from};
-ghost use Rattle.exchange.specs.Seen.{HasGiven, Simulates};
+ghost use Rattle.exchange.specs.Chunks.{base_of, is_first_below, first_below, first_from, IsGiven};
+ghost use Rattle.exchange.specs.Shared.{exchange_of};
+ghost use Rattle.exchange.specs.Seen.{Simulates};
+ghost use Rattle.virtual_time.specs.Exchange.Meetings.{IsChunk};
+ghost use Rattle.plans.specs.Plans.{composition};
+ghost use Rattle.task_seed.specs.Setups.{plan_of};
+ghost use Rattle.rollback.specs.Held.{machine_of};
 
 use crate::exchange::{Exchange, is_bounded};
 use crate::stub::Stub;
@@ -91,7 +96,7 @@ impl<T: Turns> Exchange<T> {
     ///
     /// Nothing in the whole world that the exchange and its leases stand for changes.
     pub fn take_chunk(&mut self) -> Chunk
-        ensures chunk { (b : ℕ) × HasGiven T.turn_of self.old result.first b self.new (turns_of result.turns.after) }
+        ensures chunk { (b : ℕ) × IsChunk (machine_of T.turn_of self.old.setup) (length (composition (plan_of self.old.setup))) (exchange_of (machine_of T.turn_of self.old.setup) self.old) b (exchange_of (machine_of T.turn_of self.old.setup) self.new) (turns_of result.turns.after) × IsGiven (machine_of T.turn_of self.old.setup) result.first b (turns_of result.turns.after) }
         ensures front { result.turns.before ≡ [] }
         ensures first { result.first ≡ self.old.given }
         ensures rest { self.new ≡ record self.old { held = self.new.held; given = self.new.given } }
@@ -102,7 +107,7 @@ impl<T: Turns> Exchange<T> {
     }
 
     fn give(&mut self) -> Chunk
-        ensures chunk { (b : ℕ) × HasGiven T.turn_of self.old result.first b self.new (turns_of result.turns.after) }
+        ensures chunk { (b : ℕ) × IsChunk (machine_of T.turn_of self.old.setup) (length (composition (plan_of self.old.setup))) (exchange_of (machine_of T.turn_of self.old.setup) self.old) b (exchange_of (machine_of T.turn_of self.old.setup) self.new) (turns_of result.turns.after) × IsGiven (machine_of T.turn_of self.old.setup) result.first b (turns_of result.turns.after) }
         ensures front { result.turns.before ≡ [] }
         ensures first { result.first ≡ self.old.given }
         ensures rest { self.new ≡ record self.old { held = self.new.held; given = self.new.given } }
