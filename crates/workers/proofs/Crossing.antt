@@ -32,7 +32,7 @@ use Rattle.plans.proofs.automaton.Param.TheSendSync as param
 use Rattle.plans.proofs.index.Index.TheSendSync as index
 use Rattle.raw_events.proofs.list.EventList.TheSendSync as event_list
 use Rattle.rollback.proofs.copied.Copies.TheSendSync as copies
-use Rattle.rollback.proofs.done.Done.TheSendSync as done
+use Rattle.message_balance.proofs.done.Done.TheSendSync as done
 use Rattle.std.proofs.Crossing as crossing
 use Rattle.std.proofs.boxed.Box.TheSendSync as box
 use Rattle.std.proofs.collections.VecDeque.TheSendSync as vec_deque
