@@ -1,8 +1,6 @@
 #!/usr/bin/env bash
 # Proves and builds the measuring program where that is needed, and prints what calls cost: bench/measure.sh WORD, where WORD is
 #   component  what a process, a roll-back and a delivery of one component cost
-#   reference  how many turns the one-thread simulator takes in a millisecond
-#   run        how many turns workers commit in a millisecond, beside the one-thread simulator
 #   sources    what reading a source of 65,536 bytes and composing 64 components cost
 #   worlds     how many steps a world does in a millisecond, and what meetings and commits of an exchange cost
 #   instructions   how many instructions the program takes a turn, by callgrind, on the loads in bench/loads
@@ -10,8 +8,7 @@
 set -eu
 top=$(cd "$(dirname "${BASH_SOURCE[0]}")/.." && pwd)
 case ${1:-} in
-component | reference | sources | worlds) words=("$1") ;;
-run) words=(run "$top/examples/lcr.ioa") ;;
+component | sources | worlds) ;;
 instructions | times)
     # builds the program if that in dist/ is none of this checkout
     "$top/warp" --version >&2
@@ -20,11 +17,11 @@ instructions | times)
     exec "$top/bench/$1.py" "$program"
     ;;
 *)
-    sed -n '2,9s/^# //p' "$0" >&2
+    sed -n '2,7s/^# //p' "$0" >&2
     exit 2
     ;;
 esac
 cd "$top/crates/benches"
 # rt runs what it has built: with the word of its file `args` it drives random lists.
 rt run >&2
-exec out/benches "${words[@]}"
+exec out/benches "$1"

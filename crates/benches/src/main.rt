@@ -1,18 +1,15 @@
 //! The program `benches`: what calls cost, and random lists of them with known results, by the word that follows. `component`: calls of one
-//! component; `reference`: turns of the one-thread simulator; `run`: turns of runs by workers, also on the source in the file that the next word
-//! names; `sources`: reading and composing; `worlds`: steps of a world, meetings and commits of an exchange. `check` measures nothing: it
+//! component; `sources`: reading and composing; `worlds`: steps of a world, meetings and commits of an exchange. `check` measures nothing: it
 //! drives worlds by twelve lists whose replies are known, and worlds and exchanges of three small compositions by a thousand random lists each,
 //! whose texts it compares with that of the one-thread simulator.
 #![tactic(auto)]
 
 mod component;
-mod crews;
 mod leases;
 mod lists;
 mod orderly;
 mod readings;
 mod rows;
-mod simulations;
 mod speed;
 mod subject;
 mod texts;
@@ -29,13 +26,8 @@ fn main(rt: HostRuntime) -> Result<ExitCode> {
     match word.as_str() {
         "check" => return lists::check(&rt),
         "component" => component::print_all(&rt)?,
-        "reference" => simulations::measure(&rt)?,
         "sources" => readings::measure(&rt)?,
         "worlds" => speed::measure(&rt)?,
-        "run" => match words.next() {
-            Some(file) => crews::measure_all(&rt, rt.alloc(), file.as_str())?,
-            None => return Ok(ExitCode::from(2)),
-        },
         _ => return Ok(ExitCode::from(2)),
     }
     Ok(ExitCode::from(0))

@@ -10,10 +10,6 @@ const NODE: &str =
 const MEMBER: &str =
     "type Id = 0..63 automaton N(me: Id, nx: Id) signature input say(const me, v: 0..7) output say(const nx, v: 0..7) states s: 0..7 := 1 transitions input say(const me, v: 0..7) eff s := (s + v) mod 8 output say(const nx, v: 0..7) pre v = s eff s := (s + 1) mod 8 tasks { say } automaton C components n0: N(0, 1)";
 
-// A component that adds 256 numbers at each turn, of up to 256 of them.
-const STEPS: &str =
-    "type Id = 0..255 automaton Steps(me: Id) signature internal step(const me) states sum: Int := 0 transitions internal step(const me) eff for i: Id do sum := sum + i od tasks { step } automaton All components c0: Steps(0)";
-
 /// The source of a ring of so many nodes, from 2 to 64.
 pub fn ring(alloc: Global, size: u64) -> Result<String> {
     with_others(alloc, NODE, "Node", ", false", size)
@@ -41,16 +37,6 @@ fn with_others(
         };
         let other = format!(in alloc; "; n{number}: {automaton}({number}, {next}{rest})")?;
         text.push_str(other.as_str())?;
-    }
-    Ok(text)
-}
-
-/// So many components, of which each adds 256 numbers at each turn.
-pub fn steps(alloc: Global, size: u64) -> Result<String> {
-    let mut text = String::from_str(alloc, STEPS)?;
-    for number in 1..size {
-        let component = format!(in alloc; "; c{number}: Steps({number})")?;
-        text.push_str(component.as_str())?;
     }
     Ok(text)
 }

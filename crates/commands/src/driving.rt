@@ -1,7 +1,7 @@
 //! The engine of `drive`.
 ghost use Rattle.std.specs.Prelude.{◌≡◌, IfErr, IfOk, OnOk, map, reverse};
 ghost use Rattle.task_seed.specs.Setups.{plan_of, system};
-ghost use Rattle.rollback.specs.Held.{machine_of};
+ghost use Rattle.rollback.specs.ComponentView.{machine_of};
 ghost use Rattle.virtual_time.specs.Worlds.{start_world};
 ghost use Rattle.trace.specs.Lines.{text_of};
 ghost use Rattle.trace.specs.Puts.{Stops};

@@ -29,9 +29,9 @@ use Rattle.task_seed.specs.Turning.{System, key_of}
 use Rattle.task_seed.specs.Machines.{machine}
 use Rattle.task_seed.specs.Taken.{turns_of}
 use Rattle.exchange.specs.declared.stub.Stub.{Stub}
-use Rattle.exchange.specs.Holding.{Holding, IsHolding, lease_of, part_of}
+use Rattle.exchange.specs.LeaseView.{LeaseView, IsValidLease, lease_of, part_of}
 use Rattle.exchange.specs.Moving.{among, HasCome, IsArrived, IsPassedOn}
-use Rattle.exchange.specs.Shared.{Shared, IsShared, IsStub, stub_of, stub_or_start, exchange_of}
+use Rattle.exchange.specs.ExchangeView.{ExchangeView, IsValidExchange, IsStub, stub_of, stub_or_start, exchange_of}
 use Rattle.exchange.proofs.Committing.{slice_get_none}
 use Rattle.exchange.proofs.Receiving.{none_else, to_alone, To}
 
@@ -184,7 +184,7 @@ module _ (s : System) (to : ToLaw) where
             omega (arith, c, m, f, p, o, d)
         go (inr none) = ap (λ (x : Stub). among s Plus i x.copies k a) none.2 ∙ was k a ∙ ap (λ (x : Stub). among s Plus i x.inbox k a) (sym none.2)
 
-module _ {P Q : Type 0} (s : System) (law : Lawful (machine s)) (e : Shared P) (is : IsShared s e) (h : Holding Q) (holds : IsHolding (machine s) (length s.composition) h) (floor : Bound) (tray : List Signed) (stubs : List Stub)
+module _ {P Q : Type 0} (s : System) (law : Lawful (machine s)) (e : ExchangeView P) (is : IsValidExchange s e) (h : LeaseView Q) (holds : IsValidLease (machine s) (length s.composition) h) (floor : Bound) (tray : List Signed) (stubs : List Stub)
     (passed : IsPassedOn h.component.number e.bound floor h.out h.copies.of_sender h.copies.of_receiver h.tray tray e.stubs stubs) (to : ToLaw) where
   abbrev m : Machine (List Datum) Named
   m = machine s
@@ -355,10 +355,10 @@ module _ {P Q : Type 0} (s : System) (law : Lawful (machine s)) (e : Shared P) (
   kept_base = ap (λ (x : Stub). rank_of_bound x.base) passed.is_kept.rest
 
   module _ (history : Record (List Datum) Named) (held turns : List Turned) (appended : AppendedLaw) where
-    abbrev pub after : Shared P
+    abbrev pub after : ExchangeView P
     after = record e { stubs = stubs; held = held }
 
-    abbrev pub settled : Holding Q
+    abbrev pub settled : LeaseView Q
     settled = record h { component = record h.component { base = e.bound; history = history }; tray = tray; out = []; copies = record { of_sender = []; of_receiver = [] }; floor = floor }
 
     pub moved : history ≡ cut_of m i g h.component.history → IsFloor m i (rank_of_bound floor) (part_of i history tray) → Falls (turns_of held)
@@ -406,7 +406,7 @@ module _ {P Q : Type 0} (s : System) (law : Lawful (machine s)) (e : Shared P) (
     quiet j past = let many = is.many in ap (λ o. (stub_or_start m j o).plus) (slice_get_past e.stubs j (omega (arith, past, many)))
 
     -- the exchange by its type
-    pub shared_kept : IsSound m (length s.composition) (exchange_of m after) → IsShared s after
+    pub shared_kept : IsSound m (length s.composition) (exchange_of m after) → IsValidExchange s after
     shared_kept sound = record { sound = sound; many = passed.many ∙ is.many; stubs = λ j stub q. each j stub q (cases_eq j i) }
       where
         own : IsStub s g i (record passed.kept { floor = floor })
@@ -452,15 +452,15 @@ module _ {P Q : Type 0} (s : System) (law : Lawful (machine s)) (e : Shared P) (
             }
 
     -- the lease by its type
-    pub holding_kept : IsLease m i (lease_of settled) → Matches m i (stub_or_start m i (slice_get stubs i)) (lease_of settled) → To i tray → IsHolding m (length s.composition) settled
+    pub holding_kept : IsLease m i (lease_of settled) → Matches m i (stub_or_start m i (slice_get stubs i)) (lease_of settled) → To i tray → IsValidLease m (length s.composition) settled
     holding_kept lease match arrived_all =
         record { lease = lease; stub = stub_or_start m i (slice_get stubs i); match = match; arrived = arrived_all; of_sender = λ j. refl; of_receiver = λ j. refl; inside = λ sign j past. refl }
 
     -- an accepted meeting
     pub record IsAccepted : Type 0 where
       pub met : Met m i (exchange_of m e) (lease_of h) (exchange_of m after) (lease_of settled)
-      pub shared : IsShared s after
-      pub holding : IsHolding m (length s.composition) settled
+      pub shared : IsValidExchange s after
+      pub holding : IsValidLease m (length s.composition) settled
 
     abbrev taken_in : List (Turn Named)
     taken_in = turns_among (below g h.component.history.done)

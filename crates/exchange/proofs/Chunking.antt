@@ -22,7 +22,7 @@ use Rattle.task_seed.specs.Turning.{System}
 use Rattle.task_seed.specs.Machines.{machine, end_rank, turn_rank}
 use Rattle.task_seed.specs.Taken.{turn_of, turns_of}
 use Rattle.exchange.specs.declared.stub.Stub.{Stub}
-use Rattle.exchange.specs.Shared.{Shared, IsShared, stub_or_start, exchange_of}
+use Rattle.exchange.specs.ExchangeView.{ExchangeView, IsValidExchange, stub_or_start, exchange_of}
 use Rattle.exchange.specs.Chunks.{base_of, first_below, first_from}
 use Rattle.exchange.proofs.Committing.{end_is}
 
@@ -109,14 +109,14 @@ taken_few : {S : Type 0} (p : Point S) (n : ℕ) → ((j : ℕ) → j < n → p.
 taken_few p zero h = omega arith
 taken_few p (suc n) h = let one = h n (omega arith) in let rest = taken_few p n (λ j l. h j (omega (arith, l))) in omega (arith, one, rest)
 
-module _ {P : Type 0} (s : System) (e : Shared P) (is : IsShared s e) (bound : Bound) (least : IsLeast (map base_of e.stubs) bound) (end : rank_of_bound bound ≤ end_rank) where
+module _ {P : Type 0} (s : System) (e : ExchangeView P) (is : IsValidExchange s e) (bound : Bound) (least : IsLeast (map base_of e.stubs) bound) (end : rank_of_bound bound ≤ end_rank) where
   abbrev m : Machine (List Datum) Named
   m = machine s
 
   abbrev b : ℕ
   b = rank_of_bound bound
 
-  abbrev pub after : Shared P
+  abbrev pub after : ExchangeView P
   after = record e { held = first_from b e.held; given = e.given + length (first_below b e.held) }
 
   low_stub : (j : ℕ) (stub : Stub) → slice_get e.stubs j ≡ Some stub → b ≤ rank_of_bound stub.base
@@ -159,7 +159,7 @@ module _ {P : Type 0} (s : System) (e : Shared P) (is : IsShared s e) (bound : B
         };
       }
 
-  pub kept : IsSound m (length s.composition) (exchange_of m after) → IsShared s after
+  pub kept : IsSound m (length s.composition) (exchange_of m after) → IsValidExchange s after
   kept sound = record { sound = sound; many = is.many; stubs = is.stubs }
 
   -- what was given, with the chunk, has a number that fits

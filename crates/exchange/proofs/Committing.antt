@@ -32,7 +32,7 @@ use Rattle.gvt.specs.Least.{IsLeast}
 use Rattle.task_seed.specs.Turning.{System}
 use Rattle.task_seed.specs.Machines.{machine, turn_rank, end_rank}
 use Rattle.exchange.specs.declared.stub.Stub.{Stub}
-use Rattle.exchange.specs.Shared.{Shared, IsShared, IsStub, IsPassing, stub_of, stub_or_start, exchange_of, earlier, clear_until, passing}
+use Rattle.exchange.specs.ExchangeView.{ExchangeView, IsValidExchange, IsStub, IsPassing, stub_of, stub_or_start, exchange_of, earlier, clear_until, passing}
 
 pub end_is : end_rank ≡ 2 ^ 144
 unfolding end_rank
@@ -132,7 +132,7 @@ mapped_from [] j d h = absurd (omega (arith, h))
 mapped_from (x ∷ xs) zero d h = (x, refl, refl)
 mapped_from (x ∷ xs) (suc j) d h = mapped_from xs j d (omega (arith, h))
 
-module _ {P : Type 0} (s : System) (e : Shared P) (is : IsShared s e) (counted : HasCount (machine s) (length s.composition)) (bound : Bound) (least : IsLeast (map clear_until e.stubs) bound) (end : rank_of_bound bound ≤ end_rank) where
+module _ {P : Type 0} (s : System) (e : ExchangeView P) (is : IsValidExchange s e) (counted : HasCount (machine s) (length s.composition)) (bound : Bound) (least : IsLeast (map clear_until e.stubs) bound) (end : rank_of_bound bound ≤ end_rank) where
   abbrev m : Machine (List Datum) Named
   m = machine s
 
@@ -187,7 +187,7 @@ module _ {P : Type 0} (s : System) (e : Shared P) (is : IsShared s e) (counted :
   not_lower = most (rank_of_bound e.bound) (record { end = is.sound.end; floor = is.sound.floor; plus = is.sound.plus; minus = is.sound.minus })
 
   module _ (stubs : List Stub) (passed : (j : ℕ) → slice_get stubs j ≡ option_map (passing s b j) (slice_get e.stubs j)) where
-    abbrev pub after : Shared P
+    abbrev pub after : ExchangeView P
     after = record e { bound = bound; stubs = stubs }
 
     same_stub : (j : ℕ) (o : Option Stub) → stub_or_start m j (option_map (passing s b j) o) ≡ stub_or_start m j o
@@ -200,7 +200,7 @@ module _ {P : Type 0} (s : System) (e : Shared P) (is : IsShared s e) (counted :
     pub committed : IsCommit m (exchange_of m e) (exchange_of m after)
     committed = record { clear = clear; most = most; rest = rest }
 
-    pub kept : IsSound m (length s.composition) (exchange_of m after) → length stubs ≡ length e.stubs → ((j : ℕ) (stub : Stub) → slice_get stubs j ≡ Some stub → IsPassing s b j stub) → IsShared s after
+    pub kept : IsSound m (length s.composition) (exchange_of m after) → length stubs ≡ length e.stubs → ((j : ℕ) (stub : Stub) → slice_get stubs j ≡ Some stub → IsPassing s b j stub) → IsValidExchange s after
     kept sound many passing_all = record { sound = sound; many = many ∙ is.many; stubs = λ j stub h. each j stub h (slice_get e.stubs j) refl }
       where
         each : (j : ℕ) (stub : Stub) → slice_get stubs j ≡ Some stub → (o : Option Stub) → slice_get e.stubs j ≡ o → IsStub s b j stub

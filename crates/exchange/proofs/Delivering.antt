@@ -17,9 +17,9 @@ use Rattle.antimessage.specs.Counts.{Each}
 use Rattle.antimessage.specs.Bags.{is_to}
 use Rattle.raw_events.specs.Around.{first_where, without_where}
 use Rattle.rollback.specs.Flight.{in_flight, item_of, goes, is_sign}
-use Rattle.rollback.specs.Held.{comes, back_by}
+use Rattle.rollback.specs.ComponentView.{comes, back_by}
 use Rattle.rollback.specs.Post.{IsPosted}
-use Rattle.exchange.specs.Holding.{Holding, IsHolding, IsDelivered, AllDelivered, IsCount, lease_of}
+use Rattle.exchange.specs.LeaseView.{LeaseView, IsValidLease, IsDelivered, AllDelivered, IsCount, lease_of}
 use Rattle.exchange.specs.Core.{delivery}
 use Rattle.exchange.proofs.Leasing.{AloneLaw, PutLaw, kept, not_to_self}
 
@@ -75,7 +75,7 @@ module _ (m : Machine (List Datum) Named) (law : Lawful m) where
       one (Own k (Some a)) = rw (counted.deaf i a j past) refl
       one (Input x) = refl
 
-  module _ {P : Type 0} (count : ℕ) (counted : HasCount m count) (h : Holding P) (is : IsHolding m count h) where
+  module _ {P : Type 0} (count : ℕ) (counted : HasCount m count) (h : LeaseView P) (is : IsValidLease m count h) where
     abbrev i : ℕ
     i = h.component.number
 
@@ -85,7 +85,7 @@ module _ (m : Machine (List Datum) Named) (law : Lawful m) where
     abbrev l : Lease (List Datum) Named
     l = lease_of h
 
-    abbrev pub after : Record (List Datum) Named → List Signed → List Signed → Holding P
+    abbrev pub after : Record (List Datum) Named → List Signed → List Signed → LeaseView P
     after q tray out = record h { component = record h.component { history = q }; tray = tray; out = out }
 
     here : (alone m i l).part i ≡ l.part
@@ -169,7 +169,7 @@ module _ (m : Machine (List Datum) Named) (law : Lawful m) where
       minus_goes : s.sign ≡ Minus → (goes Plus i s ≡ false) × (goes Minus i s ≡ true)
       minus_goes e = (rw e refl, rw (e, eq-eqb s.message.to i arrived.0) refl)
 
-      made : (out : List Signed) (q : Record (List Datum) Named) (back : List (Entry Named)) → IsPosted Minus (unsent m i back) h.out out → IsLease m i (lease_of (after q rest out)) × Matches m i is.stub (lease_of (after q rest out)) → IsHolding m count (after q rest out)
+      made : (out : List Signed) (q : Record (List Datum) Named) (back : List (Entry Named)) → IsPosted Minus (unsent m i back) h.out out → IsLease m i (lease_of (after q rest out)) × Matches m i is.stub (lease_of (after q rest out)) → IsValidLease m count (after q rest out)
       made out q back sent both =
           record {
             lease = both.0;
@@ -196,7 +196,7 @@ module _ (m : Machine (List Datum) Named) (law : Lawful m) where
           let goes_on = minus_goes e in
           subst (λ c. 0 < times m c.minus x.key x.action) (sym here) (subst (λ ys. 0 < times m (in_flight Minus i ys) x.key x.action) (sym tray) (rw (goes_on.1) (one_more x (in_flight Minus i rest))))
 
-      pub deliver_kept : (sign : Sign) → s.sign ≡ sign → (out : List Signed) → IsPosted Minus (unsent m i (back_by m sign (item_of s) r)) h.out out → IsHolding m count (after (comes m sign (item_of s) r) rest out)
+      pub deliver_kept : (sign : Sign) → s.sign ≡ sign → (out : List Signed) → IsPosted Minus (unsent m i (back_by m sign (item_of s) r)) h.out out → IsValidLease m count (after (comes m sign (item_of s) r) rest out)
       deliver_kept Plus e out sent =
           let x = item_of s in
           let goes_on = plus_goes e in
@@ -235,8 +235,8 @@ module _ (m : Machine (List Datum) Named) (law : Lawful m) where
           )
 
 -- one more was delivered, of a list of deliveries that is not yet done
-module _ {P : Type 0} (m : Machine (List Datum) Named) (initial old mid : Holding P) (s : Signed) (is : IsDelivered m old mid s) where
-  pub rest_after : ((end : Holding P) → AllDelivered m old old.tray end → AllDelivered m initial initial.tray end) → (end : Holding P) → AllDelivered m mid mid.tray end → AllDelivered m initial initial.tray end
+module _ {P : Type 0} (m : Machine (List Datum) Named) (initial old mid : LeaseView P) (s : Signed) (is : IsDelivered m old mid s) where
+  pub rest_after : ((end : LeaseView P) → AllDelivered m old old.tray end → AllDelivered m initial initial.tray end) → (end : LeaseView P) → AllDelivered m mid mid.tray end → AllDelivered m initial initial.tray end
   rest_after rest end all = rest end (subst (λ ys. AllDelivered m old ys end) (sym is.tray) (mid, is, all))
 
   pub count_after : (count : ℕ) → IsCount initial.tray old.tray count → IsCount initial.tray mid.tray (min (count + 1) (2 ^ 64 - 1))

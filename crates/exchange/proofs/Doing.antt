@@ -13,9 +13,9 @@ use Rattle.virtual_time.specs.Records.{Processes, Record, after_entry, next_of, 
 use Rattle.virtual_time.specs.Worlds.{Commit, DeliverAntimessage, DeliverMessage, Meet, Process, RollBack, Step, World, process, process_entry, put_back, record_of, same}
 use Rattle.virtual_time.specs.Exchange.Leases.{Does, Lease, alone, lease_after}
 use Rattle.rollback.specs.Flight.{in_flight, item_of}
-use Rattle.rollback.specs.Held.{comes}
+use Rattle.rollback.specs.ComponentView.{comes}
 use Rattle.exchange.specs.Core.{Moves, StaysKnown, deliveries, delivery}
-use Rattle.exchange.specs.Holding.{AllDelivered, Holding, IsAhead, IsDelivered, IsHolding, lease_of}
+use Rattle.exchange.specs.LeaseView.{AllDelivered, LeaseView, IsAhead, IsDelivered, IsValidLease, lease_of}
 use Rattle.exchange.proofs.Core.{MovesLaw, WorldLaw, own_known, own_moves}
 use Rattle.exchange.proofs.Leasing.{AloneLaw, PutLaw, not_to_self}
 use Rattle.exchange.proofs.Delivering.{AntimessageLaw, MessageLaw, after, deliver_does, deliver_kept}
@@ -92,7 +92,7 @@ module _ (m : Machine (List Datum) Named) (law : Lawful m) where
   none_to_self i [] xs = refl
   none_to_self i (e ∷ es) xs = not_to_self m law i e (sent_all m i es i xs) ∙ none_to_self i es xs
 
-  module _ {P : Type 0} (count : ℕ) (put_law : PutLaw m law) (old new : Holding P) (is : IsHolding m count old) (n : ℕ) (ahead : IsAhead m old new n) where
+  module _ {P : Type 0} (count : ℕ) (put_law : PutLaw m law) (old new : LeaseView P) (is : IsValidLease m count old) (n : ℕ) (ahead : IsAhead m old new n) where
     abbrev i : ℕ
     i = old.component.number
 
@@ -119,7 +119,7 @@ module _ (m : Machine (List Datum) Named) (law : Lawful m) where
 
     then_is : then ≡ lease_of new
     then_is =
-        subst (λ (x : Holding P). then ≡ lease_of x) (sym ahead.rest)
+        subst (λ (x : LeaseView P). then ≡ lease_of x) (sym ahead.rest)
         (λ v. record {
           base = l.base;
           floor = l.floor;
@@ -137,10 +137,10 @@ module _ (m : Machine (List Datum) Named) (law : Lawful m) where
     -- what it is of the whole world
     module _ (alone_law : AloneLaw m law) (self_plus : in_flight Plus new.component.number new.out ≡ []) (self_minus : in_flight Minus new.component.number new.out ≡ []) where
       one_number : new.component.number ≡ i
-      one_number = ap (λ (h : Holding P). h.component.number) ahead.rest
+      one_number = ap (λ (h : LeaseView P). h.component.number) ahead.rest
 
       one_floor : rank_of_bound new.floor ≡ rank_of_bound old.floor
-      one_floor = ap (λ (h : Holding P). rank_of_bound h.floor) ahead.rest
+      one_floor = ap (λ (h : LeaseView P). rank_of_bound h.floor) ahead.rest
 
       no_plus : in_flight Plus i new.out ≡ []
       no_plus = subst (λ k. in_flight Plus k new.out ≡ []) one_number self_plus
@@ -156,44 +156,44 @@ module _ (m : Machine (List Datum) Named) (law : Lawful m) where
 
   module _ {P : Type 0} (count : ℕ) (counted : HasCount m count) (alone_law : AloneLaw m law) (put_law : PutLaw m law) (message_law : MessageLaw m law) (antimessage_law : AntimessageLaw m law) where
     -- one that came from the tray
-    module _ (old mid : Holding P) (is : IsHolding m count old) (s : Signed) (came : IsDelivered m old mid s) where
+    module _ (old mid : LeaseView P) (is : IsValidLease m count old) (s : Signed) (came : IsDelivered m old mid s) where
       abbrev own : ℕ
       own = old.component.number
 
-      abbrev seen : Holding P
+      abbrev seen : LeaseView P
       seen = after m law count counted old is (comes m s.sign (item_of s) old.component.history) mid.tray mid.out
 
       mid_seen : mid ≡ seen
       mid_seen = came.rest ∙ ap (λ q. after m law count counted old is q mid.tray mid.out) came.history
 
-      mid_is : IsHolding m count mid
-      mid_is = subst (λ (h : Holding P). IsHolding m count h) (sym mid_seen) (deliver_kept m law count counted old is alone_law message_law antimessage_law s mid.tray came.tray s.sign refl mid.out came.sent)
+      mid_is : IsValidLease m count mid
+      mid_is = subst (λ (h : LeaseView P). IsValidLease m count h) (sym mid_seen) (deliver_kept m law count counted old is alone_law message_law antimessage_law s mid.tray came.tray s.sign refl mid.out came.sent)
 
       does_one : Does m own (alone m own (lease_of old)) (delivery own s.sign (item_of s) ∷ []) (alone m own (lease_of mid))
       does_one =
-          subst (λ (h : Holding P). Does m own (alone m own (lease_of old)) (delivery own s.sign (item_of s) ∷ []) (alone m own (lease_of h))) (sym mid_seen)
+          subst (λ (h : LeaseView P). Does m own (alone m own (lease_of old)) (delivery own s.sign (item_of s) ∷ []) (alone m own (lease_of h))) (sym mid_seen)
           (deliver_does m law count counted old is alone_law message_law antimessage_law s mid.tray came.tray put_law s.sign refl mid.out came.sent)
 
     -- all that came from it
-    does_all : (ss : List Signed) (old new : Holding P) → IsHolding m count old → AllDelivered m old ss new
+    does_all : (ss : List Signed) (old new : LeaseView P) → IsValidLease m count old → AllDelivered m old ss new
         → Does m old.component.number (alone m old.component.number (lease_of old)) (deliveries old.component.number ss) (alone m old.component.number (lease_of new))
-    does_all [] old new is all = ap (λ (h : Holding P). alone m old.component.number (lease_of h)) all
+    does_all [] old new is all = ap (λ (h : LeaseView P). alone m old.component.number (lease_of h)) all
     does_all (s ∷ ss) old new is all =
         let i = old.component.number in
         let mid = all.0 in
         does_both m i (delivery i s.sign (item_of s) ∷ []) (deliveries i ss) (alone m i (lease_of old)) (alone m i (lease_of mid)) (alone m i (lease_of new)) (does_one old mid is s all.1)
-        (subst (λ k. Does m k (alone m k (lease_of mid)) (deliveries k ss) (alone m k (lease_of new))) (ap (λ (h : Holding P). h.component.number) all.1.rest) (does_all ss mid new (mid_is old mid is s all.1) all.2))
+        (subst (λ k. Does m k (alone m k (lease_of mid)) (deliveries k ss) (alone m k (lease_of new))) (ap (λ (h : LeaseView P). h.component.number) all.1.rest) (does_all ss mid new (mid_is old mid is s all.1) all.2))
 
-    all_number : (ss : List Signed) (old new : Holding P) → AllDelivered m old ss new → new.component.number ≡ old.component.number
-    all_number [] old new all = ap (λ (h : Holding P). h.component.number) all
-    all_number (s ∷ ss) old new all = all_number ss all.0 new all.2 ∙ ap (λ (h : Holding P). h.component.number) all.1.rest
+    all_number : (ss : List Signed) (old new : LeaseView P) → AllDelivered m old ss new → new.component.number ≡ old.component.number
+    all_number [] old new all = ap (λ (h : LeaseView P). h.component.number) all
+    all_number (s ∷ ss) old new all = all_number ss all.0 new all.2 ∙ ap (λ (h : LeaseView P). h.component.number) all.1.rest
 
-    all_floor : (ss : List Signed) (old new : Holding P) → AllDelivered m old ss new → rank_of_bound new.floor ≡ rank_of_bound old.floor
-    all_floor [] old new all = ap (λ (h : Holding P). rank_of_bound h.floor) all
-    all_floor (s ∷ ss) old new all = all_floor ss all.0 new all.2 ∙ ap (λ (h : Holding P). rank_of_bound h.floor) all.1.rest
+    all_floor : (ss : List Signed) (old new : LeaseView P) → AllDelivered m old ss new → rank_of_bound new.floor ≡ rank_of_bound old.floor
+    all_floor [] old new all = ap (λ (h : LeaseView P). rank_of_bound h.floor) all
+    all_floor (s ∷ ss) old new all = all_floor ss all.0 new all.2 ∙ ap (λ (h : LeaseView P). rank_of_bound h.floor) all.1.rest
 
     -- what it is of the whole world
-    module _ (ss : List Signed) (old new : Holding P) (is : IsHolding m count old) (self_plus : in_flight Plus new.component.number new.out ≡ []) (self_minus : in_flight Minus new.component.number new.out ≡ []) (all : AllDelivered m old ss new) where
+    module _ (ss : List Signed) (old new : LeaseView P) (is : IsValidLease m count old) (self_plus : in_flight Plus new.component.number new.out ≡ []) (self_minus : in_flight Minus new.component.number new.out ≡ []) (all : AllDelivered m old ss new) where
       none_out_plus : in_flight Plus old.component.number new.out ≡ []
       none_out_plus = subst (λ k. in_flight Plus k new.out ≡ []) (all_number ss old new all) self_plus
 

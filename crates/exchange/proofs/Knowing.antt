@@ -11,11 +11,11 @@ use Rattle.task_seed.specs.declared.setup.Setup.{Setup}
 use Rattle.task_seed.specs.Turning.{System}
 use Rattle.task_seed.specs.Machines.{machine}
 use Rattle.exchange.specs.declared.stub.Stub.{Stub}
-use Rattle.exchange.specs.Holding.{Holding, lease_of}
-use Rattle.exchange.specs.Shared.{stub_of, stub_or_start}
+use Rattle.exchange.specs.LeaseView.{LeaseView, lease_of}
+use Rattle.exchange.specs.ExchangeView.{stub_of, stub_or_start}
 use Rattle.exchange.specs.Known.{IsKnown}
 
-module _ {P : Type 0} (m : Machine (List Datum) Named) (stub : Stub) (h : Holding P) where
+module _ {P : Type 0} (m : Machine (List Datum) Named) (stub : Stub) (h : LeaseView P) where
   -- a lease that is known matches its stub, and the other way round
   pub known_matches : IsKnown m stub h → Matches m h.component.number (stub_of m h.component.number stub) (lease_of h)
   known_matches k = record { base = k.base; floor = k.floor; taken = k.taken; standing = λ key a j own. k.standing key a j own }
@@ -34,7 +34,7 @@ pub untrue : (b : Bool) → not b ≡ false → b ≡ true
 untrue true e = refl
 untrue false e = cc
 
-module _ {P : Type 0} (s t : System) (same : s ≡ t) (stubs : List Stub) (stub : Stub) (h : Holding P) (found : slice_get stubs h.component.number ≡ Some stub) where
+module _ {P : Type 0} (s t : System) (same : s ≡ t) (stubs : List Stub) (stub : Stub) (h : LeaseView P) (found : slice_get stubs h.component.number ≡ Some stub) where
   abbrev i : ℕ
   i = h.component.number
 

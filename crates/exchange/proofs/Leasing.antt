@@ -15,9 +15,9 @@ use Rattle.virtual_time.specs.Exchange.Stubs.{Stub, Exchange}
 use Rattle.virtual_time.specs.Exchange.Leases.{Lease, IsLease, Matches, Does, alone, lease_after, lease_of as lease_in}
 use Rattle.rollback.specs.declared.copied.Copies.{Copies}
 use Rattle.rollback.specs.Flight.{in_flight}
-use Rattle.rollback.specs.Held.{processed, sent_next}
+use Rattle.rollback.specs.ComponentView.{processed, sent_next}
 use Rattle.rollback.specs.Post.{IsPosted}
-use Rattle.exchange.specs.Holding.{Holding, IsHolding, lease_of}
+use Rattle.exchange.specs.LeaseView.{LeaseView, IsValidLease, lease_of}
 
 module _ (m : Machine (List Datum) Named) (law : Lawful m) where
   -- a lease's own steps keep what it has and its match
@@ -49,7 +49,7 @@ module _ (m : Machine (List Datum) Named) (law : Lawful m) where
   not_to_self i (Own k (Some a)) xs = rw (law.others i a) refl
   not_to_self i (Input x) xs = refl
 
-  module _ {P : Type 0} (count : ℕ) (counted : HasCount m count) (h : Holding P) where
+  module _ {P : Type 0} (count : ℕ) (counted : HasCount m count) (h : LeaseView P) where
     -- beyond the components nobody is sent anything
     not_beyond : (i j : ℕ) (e : Entry Named) → count ≤ j → sent_by m i e j [] ≡ []
     not_beyond i j (Own k None) past = refl
@@ -63,10 +63,10 @@ module _ (m : Machine (List Datum) Named) (law : Lawful m) where
     r = h.component.history
 
     -- the holding with this record and these outgoing messages
-    abbrev pub with : Record (List Datum) Named → List Signed → Copies → Holding P
+    abbrev pub with : Record (List Datum) Named → List Signed → Copies → LeaseView P
     with q out copies = record h { component = record h.component { history = q }; out = out; copies = copies }
 
-    module _ (is : IsHolding m count h) (entry : Entry Named) (out : List Signed) (copies : Copies) (sent : IsPosted Plus (sent_by m i entry) h.out out)
+    module _ (is : IsValidLease m count h) (entry : Entry Named) (out : List Signed) (copies : Copies) (sent : IsPosted Plus (sent_by m i entry) h.out out)
         (sender : IsPosted Plus (sent_by m i entry) h.copies.of_sender copies.of_sender) (receiver : IsPosted Plus (sent_by m i entry) h.copies.of_receiver copies.of_receiver) where
       plus_to : (j : ℕ) → (j ≡ i) ⊎ (j ≡ i → ⊥) → cond (j == i) [] (sent_by m i entry j (in_flight Plus j h.out)) ≡ in_flight Plus j out
       plus_to j (inl e) =
@@ -91,7 +91,7 @@ module _ (m : Machine (List Datum) Named) (law : Lawful m) where
           }
 
       -- an entry processed
-      pub process_kept : AloneLaw → ProcessLaw → next_of m i r ≡ Some entry → IsHolding m count (with (after_entry entry r) out copies)
+      pub process_kept : AloneLaw → ProcessLaw → next_of m i r ≡ Some entry → IsValidLease m count (with (after_entry entry r) out copies)
       process_kept alone_law process_law next =
           let both = kept alone_law i is.stub (lease_of h) (lease_of (with (after_entry entry r) out copies)) (Process i ∷ []) (process m i (alone m i (lease_of h))) is.lease is.match (refl, refl) (process_law i (lease_of h) entry next ∙ processed_is) in
           record {
@@ -109,7 +109,7 @@ module _ (m : Machine (List Datum) Named) (law : Lawful m) where
           inside Minus j past = sent.other j ∙ is.inside Minus j past
 
     -- the next entry processed
-    pub next_kept : IsHolding m count h → AloneLaw → ProcessLaw → (P : Entry Named → Type 0) (o : Option (Entry Named)) → next_of m i r ≡ o → IsSomeAnd o P → (out : List Signed) (copies : Copies) → IsPosted Plus (sent_next m i o) h.out out
-        → IsPosted Plus (sent_next m i o) h.copies.of_sender copies.of_sender → IsPosted Plus (sent_next m i o) h.copies.of_receiver copies.of_receiver → IsHolding m count (with (processed o r) out copies)
+    pub next_kept : IsValidLease m count h → AloneLaw → ProcessLaw → (P : Entry Named → Type 0) (o : Option (Entry Named)) → next_of m i r ≡ o → IsSomeAnd o P → (out : List Signed) (copies : Copies) → IsPosted Plus (sent_next m i o) h.out out
+        → IsPosted Plus (sent_next m i o) h.copies.of_sender copies.of_sender → IsPosted Plus (sent_next m i o) h.copies.of_receiver copies.of_receiver → IsValidLease m count (with (processed o r) out copies)
     next_kept is alone_law process_law P None e none out copies sent sender receiver = absurd none
     next_kept is alone_law process_law P (Some entry) e some out copies sent sender receiver = process_kept is entry out copies sent sender receiver alone_law process_law e

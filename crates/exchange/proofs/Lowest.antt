@@ -16,11 +16,11 @@ use Rattle.virtual_time.specs.Entries.{Item, Own, Input, number, replay}
 use Rattle.virtual_time.specs.Machine.{Machine, Lawful}
 use Rattle.virtual_time.specs.Records.{Record, next_of, own_next, least_of}
 use Rattle.virtual_time.specs.Exchange.Leases.{IsFloor}
-use Rattle.rollback.specs.Held.{next_key}
+use Rattle.rollback.specs.ComponentView.{next_key}
 use Rattle.task_seed.specs.Turning.{System}
 use Rattle.task_seed.specs.Machines.{machine}
-use Rattle.exchange.specs.Holding.{part_of}
-use Rattle.exchange.specs.Shared.{earlier}
+use Rattle.exchange.specs.LeaseView.{part_of}
+use Rattle.exchange.specs.ExchangeView.{earlier}
 use Rattle.exchange.proofs.Committing.{each_low, earlier_both, earlier_first, earlier_second, flight_from, flight_to, least_low, low_least}
 
 module _ (m : Machine (List Datum) Named) (law : Lawful m) (i : ℕ) where

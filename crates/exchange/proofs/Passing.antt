@@ -11,7 +11,7 @@ use Rattle.virtual_time.specs.Reference.{point, turns_of}
 use Rattle.exchange.specs.declared.stub.Stub.{Stub}
 use Rattle.task_seed.specs.Turning.{System, key_of, key_at, ticks, has_turns}
 use Rattle.task_seed.specs.Machines.{machine, turn_rank, end_rank}
-use Rattle.exchange.specs.Shared.{passing, IsPassing}
+use Rattle.exchange.specs.ExchangeView.{passing, IsPassing}
 
 module _ (s : System) (i n : ℕ) where
   -- the key of a turn has its number

@@ -18,7 +18,7 @@ use Rattle.virtual_time.specs.Exchange.Wholes.{IsWholeWorld}
 use Rattle.terms.specs.Datum.{Datum}
 use Rattle.terms.specs.Named.{Named}
 use Rattle.plans.specs.Plans.{composition}
-use Rattle.rollback.specs.Held.{machine_of}
+use Rattle.rollback.specs.ComponentView.{lowest_bound, machine_of}
 use Rattle.task_seed.specs.declared.setup.Setup.{Setup}
 use Rattle.task_seed.specs.declared.turns.Turn.{Turn}
 use Rattle.task_seed.specs.Setups.{plan_of, system}
@@ -26,10 +26,10 @@ use Rattle.task_seed.specs.Turning.{System, key_of}
 use Rattle.task_seed.specs.Machines.{machine, turn_rank}
 use Rattle.task_seed.specs.Taken.{turns_of}
 use Rattle.exchange.specs.declared.stub.Stub.{Stub}
-use Rattle.exchange.specs.Holding.{Holding, IsHolding, lease_of}
-use Rattle.exchange.specs.Shared.{Shared, IsShared, IsStub, stub_of, stub_or_start, exchange_of}
+use Rattle.exchange.specs.LeaseView.{LeaseView, IsValidLease, lease_of}
+use Rattle.exchange.specs.ExchangeView.{ExchangeView, IsValidExchange, IsStub, stub_of, stub_or_start, exchange_of}
 use Rattle.exchange.specs.Core.{StandFor}
-use Rattle.exchange.specs.Start.{first, bound_at, first_bound, lease_or_start, leases_of, start_holding, start_shared, start_stub}
+use Rattle.exchange.specs.Start.{bound_at, first_bound, lease_or_start, leases_of, start_holding, start_shared, start_stub}
 use Rattle.exchange.proofs.Committing.{end_is}
 use Rattle.exchange.proofs.Passing.{number_is, rank_some, rank_none}
 
@@ -64,7 +64,7 @@ module _ (s : System) where
   stub_kept : (i : ℕ) → IsStub s 0 i (start_stub s i)
   stub_kept i = record { inbox = tt; order = record { sorted = tt; fits = tt }; apart = λ k a. inl refl; copied = λ k a. refl; passed = refl; ahead = refl; small = small i; few = omega arith }
 
-  module _ {P : Type 0} (e : Shared P) (stubs : e.stubs ≡ map (start_stub s) (range_with_len 0 (length s.composition))) (bound : e.bound ≡ first) (held : e.held ≡ []) (given : e.given ≡ 0) where
+  module _ {P : Type 0} (e : ExchangeView P) (stubs : e.stubs ≡ map (start_stub s) (range_with_len 0 (length s.composition))) (bound : e.bound ≡ lowest_bound) (held : e.held ≡ []) (given : e.given ≡ 0) where
     stub_at : (j : ℕ) → stub_or_start (machine s) j (slice_get e.stubs j) ≡ start_seen (machine s) j
     stub_at j = go (slice_get e.stubs j) (made_at (start_stub s) 0 (length s.composition) j (slice_get e.stubs j) (ap (λ l. slice_get l j) (sym stubs)))
       where
@@ -75,7 +75,7 @@ module _ (s : System) where
     pub seen : exchange_of (machine s) e ≡ start_exchange (machine s)
     seen = λ v. record { stub = λ j. stub_at j v; bound = (ap rank_of_bound bound) v; held = (ap turns_of held) v; given = given v }
 
-    pub shared_kept : IsSound (machine s) (length s.composition) (start_exchange (machine s)) → IsShared s e
+    pub shared_kept : IsSound (machine s) (length s.composition) (start_exchange (machine s)) → IsValidExchange s e
     shared_kept sound =
         record {
           sound = subst (IsSound (machine s) (length s.composition)) (sym seen) sound;
@@ -92,7 +92,7 @@ module _ (s : System) where
         each j stub h (inr none) = let both : Some stub ≡ None = sym h ∙ none.0 in cc
 
   -- a lease at the start
-  pub lease_seen : {P : Type 0} (h : Holding P) → h.component.number < length s.composition → h.component.base ≡ first
+  pub lease_seen : {P : Type 0} (h : LeaseView P) → h.component.number < length s.composition → h.component.base ≡ lowest_bound
       → h.component.history ≡ record { base = (machine s).start h.component.number; first = 0; done = []; pending = []; owed = [] } → h.tray ≡ [] → h.out ≡ [] → h.floor ≡ first_bound s h.component.number
       → lease_of h ≡ start_lease (machine s) h.component.number
   lease_seen h there base history tray out floor =
@@ -113,10 +113,10 @@ module _ (s : System) where
         out_minus = λ j. (ap (in_flight Minus j) out) v;
       }
 
-  pub holding_kept : {P : Type 0} (h : Holding P) → h.component.number < length s.composition → h.component.base ≡ first
+  pub holding_kept : {P : Type 0} (h : LeaseView P) → h.component.number < length s.composition → h.component.base ≡ lowest_bound
       → h.component.history ≡ record { base = (machine s).start h.component.number; first = 0; done = []; pending = []; owed = [] } → h.tray ≡ [] → h.out ≡ [] → h.copies ≡ record { of_sender = []; of_receiver = [] } → h.floor ≡ first_bound s h.component.number
       → IsLease (machine s) h.component.number (start_lease (machine s) h.component.number) × Matches (machine s) h.component.number (start_seen (machine s) h.component.number) (start_lease (machine s) h.component.number)
-      → IsHolding (machine s) (length s.composition) h
+      → IsValidLease (machine s) (length s.composition) h
   holding_kept h there base history tray out copies floor both =
       let i = h.component.number in
       let seen_lease = lease_seen h there base history tray out floor in
@@ -135,19 +135,19 @@ module _ {T : Type 0} (turn_of : T → ℕ → ℕ → Option Turn) (setup : Set
   abbrev m : Machine (List Datum) Named
   m = machine_of turn_of setup
 
-  lease_at : (j : ℕ) (o : Option (Holding (Setup T))) → ((h : Holding (Setup T)) × (o ≡ Some h) × (j < length (composition (plan_of setup))) × (h ≡ start_holding turn_of setup (0 + j))) ⊎ ((o ≡ None) × (length (composition (plan_of setup)) ≤ j)) → lease_or_start m j o ≡ start_lease m j
+  lease_at : (j : ℕ) (o : Option (LeaseView (Setup T))) → ((h : LeaseView (Setup T)) × (o ≡ Some h) × (j < length (composition (plan_of setup))) × (h ≡ start_holding turn_of setup (0 + j))) ⊎ ((o ≡ None) × (length (composition (plan_of setup)) ≤ j)) → lease_or_start m j o ≡ start_lease m j
   lease_at j o (inl h) =
       ap (lease_or_start m j) (h.1 ∙ ap (λ x. Some x) (h.3 ∙ ap (start_holding turn_of setup) (omega arith))) ∙ lease_seen (system turn_of setup) (start_holding turn_of setup j) h.2 refl refl refl refl refl
   lease_at j o (inr h) = ap (lease_or_start m j) h.0
 
-  leases_are : (hs : List (Holding (Setup T))) → hs ≡ map (start_holding turn_of setup) (range_with_len 0 (length (composition (plan_of setup)))) → leases_of m hs ≡ start_lease m
+  leases_are : (hs : List (LeaseView (Setup T))) → hs ≡ map (start_holding turn_of setup) (range_with_len 0 (length (composition (plan_of setup)))) → leases_of m hs ≡ start_lease m
   leases_are hs e =
       λ v j. lease_at j (slice_get hs j) (made_at (start_holding turn_of setup) 0 (length (composition (plan_of setup))) j (slice_get hs j) (ap (λ l. slice_get l j) (sym e))) v
 
   pub stand_first : IsWorld m (start_world m) → ((i : ℕ) → IsLease m i (start_lease m i) × Matches m i (start_seen m i) (start_lease m i)) → IsWholeWorld m (start_exchange m) (start_lease m) (start_world m)
-      → (e : Shared (Setup T)) → e ≡ start_shared turn_of setup → (hs : List (Holding (Setup T))) → hs ≡ map (start_holding turn_of setup) (range_with_len 0 (length (composition (plan_of setup))))
+      → (e : ExchangeView (Setup T)) → e ≡ start_shared turn_of setup → (hs : List (LeaseView (Setup T))) → hs ≡ map (start_holding turn_of setup) (range_with_len 0 (length (composition (plan_of setup))))
       → StandFor m (exchange_of m e) (leases_of m hs) (start_world m)
   stand_first world each whole e e_is hs hs_is =
-      let there : exchange_of m e ≡ start_exchange m = seen (system turn_of setup) e (ap (λ (x : Shared _). x.stubs) e_is) (ap (λ (x : Shared _). x.bound) e_is) (ap (λ (x : Shared _). x.held) e_is) (ap (λ (x : Shared _). x.given) e_is) in
+      let there : exchange_of m e ≡ start_exchange m = seen (system turn_of setup) e (ap (λ (x : ExchangeView _). x.stubs) e_is) (ap (λ (x : ExchangeView _). x.bound) e_is) (ap (λ (x : ExchangeView _). x.held) e_is) (ap (λ (x : ExchangeView _). x.given) e_is) in
       subst (λ x. StandFor m x (leases_of m hs) (start_world m)) (sym there)
       (subst (λ ls. StandFor m (start_exchange m) ls (start_world m)) (sym (leases_are hs hs_is)) (record { proper = λ j. (each j).0; match = λ j. (each j).1; whole = whole; world = world }))

@@ -1,5 +1,5 @@
-pub mod Holding
-pub mod Shared
+pub mod LeaseView
+pub mod ExchangeView
 pub mod Start
 pub mod Chunks
 pub mod Known

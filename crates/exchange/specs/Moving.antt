@@ -7,8 +7,10 @@ use Rattle.event_keys.specs.declared.message.Sign.TheVariants.{Plus, Minus}
 use Rattle.event_keys.specs.declared.message.Signed.{Signed}
 use Rattle.event_keys.specs.Ranks.{rank_of_bound}
 use Rattle.antimessage.specs.Bags.{insert_all, is_to}
+use Rattle.antimessage.specs.Counts.{Each}
 use Rattle.antimessage.specs.Order.{IsInOrder}
 use Rattle.virtual_time.specs.Bags.{times}
+use Rattle.rollback.specs.declared.copied.Copies.{Copies}
 use Rattle.rollback.specs.Flight.{in_flight}
 use Rattle.task_seed.specs.Turning.{System}
 use Rattle.task_seed.specs.Machines.{machine}
@@ -80,3 +82,11 @@ pub record IsPassedOn (i : ℕ) (bound floor : Bound) (out of_sender of_receiver
   pub is_kept : IsForgotten bound handed kept
   pub here : slice_get new i ≡ Some (record kept { floor = floor })
   pub in_tray : new_tray ≡ insert_all arrived.inbox tray
+
+-- the same, with both copies of what is outgoing
+abbrev pub HasPassedOn : ℕ → Bound → Bound → List Signed → Copies → List Signed → List Signed → List Stub → List Stub → Type 0
+HasPassedOn i bound floor out copies = IsPassedOn i bound floor out copies.of_sender copies.of_receiver
+
+-- what is in the inbox of component i came to it
+abbrev pub HasOwnInbox : ℕ → List Stub → Type 0
+HasOwnInbox i stubs = (stub : Stub) → slice_get stubs i ≡ Some stub → Each (λ x. x.message.to ≡ i) stub.inbox

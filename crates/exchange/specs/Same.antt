@@ -1,21 +1,21 @@
 -- When two leases are equal, and when two exchanges are.
-use Rattle.std.specs.Prelude.{◌==◌, ◌&&◌, Bool, None, List, []}
+use Rattle.std.specs.Prelude.{◌≡◌, ◌==◌, ◌&&◌, Bool, true, None, List, [], map}
 use Rattle.std.specs.Cmp.Lexicographic.{pointwise}
 use Rattle.event_keys.specs.contracts.key.BoundPartialEq.TheImpl as bound_eq
 use Rattle.event_keys.specs.contracts.outcome.TurnedPartialEq.TheImpl as turned_eq
 use Rattle.event_keys.specs.declared.message.Signed.{Signed}
 use Rattle.antimessage.specs.Counts.{is_same}
-use Rattle.rollback.specs.Held.{Held}
+use Rattle.rollback.specs.ComponentView.{ComponentView}
 use Rattle.exchange.specs.declared.stub.Stub.{Stub}
-use Rattle.exchange.specs.Holding.{Holding}
-use Rattle.exchange.specs.Shared.{Shared}
+use Rattle.exchange.specs.LeaseView.{LeaseView}
+use Rattle.exchange.specs.ExchangeView.{ExchangeView}
 
 -- the same signed messages, each as often
 abbrev pub same_bag : List Signed → List Signed → Bool
 same_bag = pointwise is_same
 
 -- leases are equal where their components are, with the same tray, outgoing messages and floor
-abbrev pub same_lease : {P : Type 0} → (Held P → Held P → Bool) → Holding P → Holding P → Bool
+abbrev pub same_lease : {P : Type 0} → (ComponentView P → ComponentView P → Bool) → LeaseView P → LeaseView P → Bool
 same_lease eq a b = eq a.component b.component && (same_bag a.tray b.tray && (same_bag a.out b.out && bound_eq.ghosts.eq a.floor b.floor))
 
 -- stubs are equal with the same base and floor, and the same taken messages, standing sends and inbox
@@ -33,9 +33,17 @@ abbrev pub compared : Stub → Stub
 compared stub = record stub { copies = []; passed = 0; ahead = None }
 
 -- equal setups, the same bound, and as many turns given
-abbrev pub same_progress : {P : Type 0} → (P → P → Bool) → Shared P → Shared P → Bool
+abbrev pub same_progress : {P : Type 0} → (P → P → Bool) → ExchangeView P → ExchangeView P → Bool
 same_progress eq a b = eq a.setup b.setup && (bound_eq.ghosts.eq a.bound b.bound && (a.given == b.given))
 
 -- exchanges are equal where these are so, with the same turns held, and stubs that are equal one by one
-abbrev pub same_exchange : {P : Type 0} → (P → P → Bool) → Shared P → Shared P → Bool
+abbrev pub same_exchange : {P : Type 0} → (P → P → Bool) → ExchangeView P → ExchangeView P → Bool
 same_exchange eq a b = same_progress eq a b && (pointwise turned_eq.ghosts.eq a.held b.held && pointwise same_stub a.stubs b.stubs)
+
+-- what equality tells of leases: equal components, and the same tray, outgoing messages and floor
+abbrev pub AreEqualLeases : {P : Type 0} → (ComponentView P → ComponentView P → Bool) → LeaseView P → LeaseView P → Type 0
+AreEqualLeases eq a b = (eq a.component b.component ≡ true) × (a.tray ≡ b.tray) × (a.out ≡ b.out) × (a.floor ≡ b.floor)
+
+-- and of exchanges: equal setups, and the same bound, turns held, number given, and what is compared of the stubs
+abbrev pub AreEqualExchanges : {P : Type 0} → (P → P → Bool) → ExchangeView P → ExchangeView P → Type 0
+AreEqualExchanges eq a b = (eq a.setup b.setup ≡ true) × (a.bound ≡ b.bound) × (a.held ≡ b.held) × (a.given ≡ b.given) × (map compared a.stubs ≡ map compared b.stubs)

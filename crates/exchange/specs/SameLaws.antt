@@ -17,11 +17,11 @@ use Rattle.event_keys.specs.contracts.outcome.TurnedOrd.TheImpl as turned_ord
 use Rattle.event_keys.specs.contracts.outcome.TurnedOrd.TheImpl.Laws.{matches_eq-law as turned_agrees, total-law as turned_total}
 use Rattle.event_keys.specs.Apart.{signed_apart, turned_apart}
 use Rattle.event_keys.specs.Orders.{signed_order, turned_order}
-use Rattle.rollback.specs.Held.{Held}
+use Rattle.rollback.specs.ComponentView.{ComponentView}
 use Rattle.rollback.specs.SameLaws.{bound_decides}
 use Rattle.exchange.specs.declared.stub.Stub.{Stub}
-use Rattle.exchange.specs.Holding.{Holding}
-use Rattle.exchange.specs.Shared.{Shared}
+use Rattle.exchange.specs.LeaseView.{LeaseView}
+use Rattle.exchange.specs.ExchangeView.{ExchangeView}
 use Rattle.exchange.specs.Same.{same_bag, same_lease, same_place, same_messages, same_stub, compared, same_progress, same_exchange}
 
 signed_decides : (a b : Signed) → Decides (signed_eq.ghosts.eq a b) (a ≡ b)
@@ -90,7 +90,7 @@ bounds_equiv : IsEquivalence bound_eq.ghosts.eq
 bounds_equiv = decided bound_eq.ghosts.eq bound_decides
 
 -- the equality of leases is an equivalence where that of their components is
-pub same_lease_equiv : {P : Type 0} {eq : Held P → Held P → Truth} → IsEquivalence eq → IsEquivalence (same_lease eq)
+pub same_lease_equiv : {P : Type 0} {eq : ComponentView P → ComponentView P → Truth} → IsEquivalence eq → IsEquivalence (same_lease eq)
 same_lease_equiv laws =
     and_equiv (on_equiv (λ h. h.component) laws)
     (and_equiv (on_equiv (λ h. h.tray) bags_equiv)
@@ -111,7 +111,7 @@ same_exchange_equiv laws =
     (and_equiv (on_equiv (λ e. e.held) (decided (pointwise turned_eq.ghosts.eq) held_decide)) (on_equiv (λ e. e.stubs) (lists_equiv same_stub_equiv)))
 
 -- equal leases have equal components, and all else but the copies is the same
-pub lease_decides : {P : Type 0} (eq : Held P → Held P → Truth) (a b : Holding P)
+pub lease_decides : {P : Type 0} (eq : ComponentView P → ComponentView P → Truth) (a b : LeaseView P)
     → (same_lease eq a b ≡ true) ↔ ((eq a.component b.component ≡ true) × (a.tray ≡ b.tray) × (a.out ≡ b.out) × (a.floor ≡ b.floor))
 lease_decides {P} eq a b = (there, back)
   where
@@ -126,7 +126,7 @@ lease_decides {P} eq a b = (there, back)
     back h = both_by _ _ h.0 (both_by _ _ ((bags_decide a.tray b.tray).1 h.1) (both_by _ _ ((bags_decide a.out b.out).1 h.2) ((bound_decides a.floor b.floor).1 h.3)))
 
 -- equal exchanges have equal setups, and all else that is compared is the same
-pub exchange_decides : {P : Type 0} (eq : P → P → Truth) (a b : Shared P)
+pub exchange_decides : {P : Type 0} (eq : P → P → Truth) (a b : ExchangeView P)
     → (same_exchange eq a b ≡ true) ↔ ((eq a.setup b.setup ≡ true) × (a.bound ≡ b.bound) × (a.held ≡ b.held) × (a.given ≡ b.given) × (map compared a.stubs ≡ map compared b.stubs))
 exchange_decides {P} eq a b = (there, back)
   where

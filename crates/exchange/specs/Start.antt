@@ -4,6 +4,7 @@ use Rattle.std.specs.List.{range_with_len}
 use Rattle.terms.specs.Datum.{Datum}
 use Rattle.terms.specs.Named.{Named}
 use Rattle.virtual_time.specs.Machine.{Machine}
+use Rattle.virtual_time.specs.Worlds.{start_world}
 use Rattle.virtual_time.specs.Exchange.Leases.{Lease, start_lease}
 use Rattle.event_keys.specs.declared.key.Key.{Key}
 use Rattle.event_keys.specs.declared.key.Bound.{Bound}
@@ -13,23 +14,20 @@ use Rattle.task_seed.specs.declared.setup.Setup.{Setup}
 use Rattle.task_seed.specs.declared.turns.Turn.{Turn}
 use Rattle.task_seed.specs.Setups.{system, plan_of}
 use Rattle.task_seed.specs.Turning.{System, key_of}
-use Rattle.rollback.specs.Held.{machine_of, start_record}
+use Rattle.rollback.specs.ComponentView.{lowest_bound, machine_of, start_held}
 use Rattle.exchange.specs.declared.stub.Stub.{Stub}
-use Rattle.exchange.specs.Holding.{Holding, lease_of}
-use Rattle.exchange.specs.Shared.{Shared}
+use Rattle.exchange.specs.LeaseView.{LeaseView, lease_of}
+use Rattle.exchange.specs.Core.{StandFor}
+use Rattle.exchange.specs.ExchangeView.{ExchangeView, exchange_of}
 
 -- the lease of component j as the theory sees it; where there is none it is as at the start
-abbrev pub lease_or_start : {P : Type 0} → Machine (List Datum) Named → ℕ → Option (Holding P) → Lease (List Datum) Named
+abbrev pub lease_or_start : {P : Type 0} → Machine (List Datum) Named → ℕ → Option (LeaseView P) → Lease (List Datum) Named
 lease_or_start m j None = start_lease m j
 lease_or_start m j (Some h) = lease_of h
 
 -- a list of leases, one a component
-abbrev pub leases_of : {P : Type 0} → Machine (List Datum) Named → List (Holding P) → ℕ → Lease (List Datum) Named
+abbrev pub leases_of : {P : Type 0} → Machine (List Datum) Named → List (LeaseView P) → ℕ → Lease (List Datum) Named
 leases_of m hs j = lease_or_start m j (slice_get hs j)
-
--- below it there is no key
-abbrev pub first : Bound
-first = At (record { tick = 0; component = 0; number = 0 })
 
 -- the bound at a key, or the end where there is none
 abbrev pub bound_at : Option Key → Bound
@@ -41,11 +39,19 @@ abbrev pub first_bound : System → ℕ → Bound
 first_bound s i = bound_at (key_of s i 0)
 
 abbrev pub start_stub : System → ℕ → Stub
-start_stub s i = record { base = first; floor = first_bound s i; taken = []; standing = []; inbox = []; copies = []; passed = 0; ahead = key_of s i 0 }
+start_stub s i = record { base = lowest_bound; floor = first_bound s i; taken = []; standing = []; inbox = []; copies = []; passed = 0; ahead = key_of s i 0 }
 
 module _ {T : Type 0} (turn_of : T → ℕ → ℕ → Option Turn) (setup : Setup T) where
-  abbrev pub start_holding : ℕ → Holding (Setup T)
-  start_holding i = record { component = record { setup = setup; number = i; base = first; history = start_record (machine_of turn_of setup) i }; tray = []; out = []; copies = record { of_sender = []; of_receiver = [] }; floor = first_bound (system turn_of setup) i }
+  abbrev pub start_holding : ℕ → LeaseView (Setup T)
+  start_holding i = record { component = start_held turn_of setup i; tray = []; out = []; copies = record { of_sender = []; of_receiver = [] }; floor = first_bound (system turn_of setup) i }
 
-  abbrev pub start_shared : Shared (Setup T)
-  start_shared = record { setup = setup; stubs = map (start_stub (system turn_of setup)) (range_with_len 0 (length (composition (plan_of setup)))); bound = first; held = []; given = 0 }
+  abbrev pub start_shared : ExchangeView (Setup T)
+  start_shared = record { setup = setup; stubs = map (start_stub (system turn_of setup)) (range_with_len 0 (length (composition (plan_of setup)))); bound = lowest_bound; held = []; given = 0 }
+
+  -- a lease for each component, in order
+  abbrev pub start_leases : List (LeaseView (Setup T))
+  start_leases = map start_holding (range_with_len 0 (length (composition (plan_of setup))))
+
+  -- an exchange and leases stand for the world at its start
+  abbrev pub StandForStart : ExchangeView (Setup T) → List (LeaseView (Setup T)) → Type 0
+  StandForStart e hs = StandFor (machine_of turn_of setup) (exchange_of (machine_of turn_of setup) e) (leases_of (machine_of turn_of setup) hs) (start_world (machine_of turn_of setup))

@@ -1,19 +1,11 @@
 //! Turns that are committed for good, on their way out.
 ghost use Rattle.std.specs.Prelude.{◌≡◌, ◌<◌, ◌+◌, ◌++◌, ◌^◌, ℕ, List, [], length, map};
 ghost use Rattle.event_keys.specs.Ranks.{rank_of_bound};
-ghost use Rattle.virtual_time.specs.Exchange.Leases.{Lease as LeaseSeen};
-ghost use Rattle.terms.specs.Datum.{Datum};
-ghost use Rattle.terms.specs.Named.{Named};
 ghost use Rattle.task_seed.specs.Taken.{turns_of};
 ghost use Rattle.raw_events.specs.Onto.{onto};
 ghost use Rattle.gvt.specs.Least.{IsLeast};
-ghost use Rattle.exchange.specs.Chunks.{base_of, is_first_below, first_below, first_from, IsGiven};
-ghost use Rattle.exchange.specs.Shared.{exchange_of};
-ghost use Rattle.exchange.specs.Seen.{Simulates};
-ghost use Rattle.virtual_time.specs.Exchange.Meetings.{IsChunk};
-ghost use Rattle.plans.specs.Plans.{composition};
-ghost use Rattle.task_seed.specs.Setups.{plan_of};
-ghost use Rattle.rollback.specs.Held.{machine_of};
+ghost use Rattle.exchange.specs.Chunks.{base_of, is_first_below, first_below, first_from};
+ghost use Rattle.exchange.specs.Seen.{HasGiven, LeavesTheWorld};
 
 use crate::exchange::{Exchange, is_bounded};
 use crate::stub::Stub;
@@ -96,18 +88,18 @@ impl<T: Turns> Exchange<T> {
     ///
     /// Nothing in the whole world that the exchange and its leases stand for changes.
     pub fn take_chunk(&mut self) -> Chunk
-        ensures chunk { (b : ℕ) × IsChunk (machine_of T.turn_of self.old.setup) (length (composition (plan_of self.old.setup))) (exchange_of (machine_of T.turn_of self.old.setup) self.old) b (exchange_of (machine_of T.turn_of self.old.setup) self.new) (turns_of result.turns.after) × IsGiven (machine_of T.turn_of self.old.setup) result.first b (turns_of result.turns.after) }
+        ensures chunk { HasGiven T.turn_of self.old result.first (turns_of result.turns.after) self.new }
         ensures front { result.turns.before ≡ [] }
         ensures first { result.first ≡ self.old.given }
         ensures rest { self.new ≡ record self.old { held = self.new.held; given = self.new.given } }
-        ensures core { (leases : ℕ → LeaseSeen (List Datum) Named) → Simulates T.turn_of self.old (λ steps. steps ≡ []) leases self.new leases }
+        ensures core { LeavesTheWorld T.turn_of self.old self.new }
     {
         machine_is_lawful(self.setup());
         self.give()
     }
 
     fn give(&mut self) -> Chunk
-        ensures chunk { (b : ℕ) × IsChunk (machine_of T.turn_of self.old.setup) (length (composition (plan_of self.old.setup))) (exchange_of (machine_of T.turn_of self.old.setup) self.old) b (exchange_of (machine_of T.turn_of self.old.setup) self.new) (turns_of result.turns.after) × IsGiven (machine_of T.turn_of self.old.setup) result.first b (turns_of result.turns.after) }
+        ensures chunk { HasGiven T.turn_of self.old result.first (turns_of result.turns.after) self.new }
         ensures front { result.turns.before ≡ [] }
         ensures first { result.first ≡ self.old.given }
         ensures rest { self.new ≡ record self.old { held = self.new.held; given = self.new.given } }

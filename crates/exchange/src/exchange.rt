@@ -12,13 +12,13 @@ ghost use Rattle.terms.specs.Named.{Named};
 ghost use Rattle.plans.specs.Plans.{composition};
 ghost use Rattle.task_seed.specs.Setups.{system, plan_of};
 ghost use Rattle.task_seed.specs.Machines.{end_rank};
-ghost use Rattle.rollback.specs.Held.{machine_of};
+ghost use Rattle.rollback.specs.ComponentView.{machine_of};
 ghost use Rattle.gvt.specs.Least.{IsLeast};
 ghost use Rattle.exchange.specs.declared.stub.Stub.{Stub as StubValue};
-ghost use Rattle.exchange.specs.Shared.{exchange_of, clear_until, has_mail, is_end, is_ended, passing, IsPassing, IsShared};
+ghost use Rattle.exchange.specs.ExchangeView.{ArePassing, HavePassed, clear_until, has_mail, is_end, is_ended, IsValidExchange};
 ghost use Rattle.exchange.specs.Walks.{AreWalks};
 ghost use Rattle.std.specs.List.{list_all};
-ghost use Rattle.exchange.specs.Seen.{HasCommitted, Simulates};
+ghost use Rattle.exchange.specs.Seen.{HasCommitted, IsOneCommit, IsSoundExchange};
 
 use crate::stub::Stub;
 use event_keys::laws::rank_law;
@@ -51,7 +51,7 @@ impl<T: Turns> Model for Exchange<T> {
     ghost use Rattle.std.specs.Arc.{arc_value};
     ghost use Rattle.task_seed.specs.declared.setup.Setup.{Setup};
     ghost use Rattle.task_seed.specs.Setups.{system};
-    ghost use Rattle.exchange.specs.Shared.{Shared, IsShared};
+    ghost use Rattle.exchange.specs.ExchangeView.{ExchangeView, IsValidExchange};
     ghost use Rattle.exchange.specs.Walks.{AreWalks};
     ghost use Rattle.std.specs.Coded.{codes};
     ghost use Rattle.terms.specs.Datum.{datum_code};
@@ -59,13 +59,13 @@ impl<T: Turns> Model for Exchange<T> {
     ghost use Rattle.terms.specs.contracts.term.Term as term;
     ghost use Rattle.terms.specs.contracts.effect.Effect as effect;
 
-    ghost Value = { Shared (Setup T) };
+    ghost Value = { ExchangeView (Setup T) };
 
     ghost coded = { Prim.hlevel (codes, shape.the_row.coded, term.the_row.coded, effect.the_row.coded, datum_code) };
 
     ghost view = { λ e. record { setup = arc_value e.setup; stubs = e.stubs.items; bound = e.bound; held = e.held.after; given = e.given } };
 
-    ghost invariant = { λ e. ((e.held.before ≡ []) × AreWalks T.stands (arc_value e.setup) e.walks.items) × IsShared (system T.turn_of (arc_value e.setup)) (record { setup = arc_value e.setup; stubs = e.stubs.items; bound = e.bound; held = e.held.after; given = e.given }) };
+    ghost invariant = { λ e. ((e.held.before ≡ []) × AreWalks T.stands (arc_value e.setup) e.walks.items) × IsValidExchange (system T.turn_of (arc_value e.setup)) (record { setup = arc_value e.setup; stubs = e.stubs.items; bound = e.bound; held = e.held.after; given = e.given }) };
 }
 
 impl<T: Turns> Exchange<T> {
@@ -80,8 +80,8 @@ impl<T: Turns> Exchange<T> {
     /// it; from the bound on, what senders have standing is what receivers have taken or have in their inboxes; below it, both are what the
     /// reference sends; and what was taken in and given are the reference's turns. The call does nothing.
     pub fn soundness_law(&self)
-        ensures sound { IsSound (machine_of T.turn_of self.now.setup) (length (composition (plan_of self.now.setup))) (exchange_of (machine_of T.turn_of self.now.setup) self.now) }
-        ensures shared { IsShared (system T.turn_of self.now.setup) self.now }
+        ensures sound { IsSoundExchange T.turn_of self.now }
+        ensures shared { IsValidExchange (system T.turn_of self.now.setup) self.now }
     {
         let _ = &self.setup;
     }
@@ -125,9 +125,9 @@ impl<T: Turns> Exchange<T> {
     pub fn commit(&mut self) -> u64
         ensures commit { HasCommitted T.turn_of self.old self.new }
         ensures rest { self.new ≡ record self.old { bound = self.new.bound; stubs = self.new.stubs } }
-        ensures stubs { (j : ℕ) → slice_get self.new.stubs j ≡ option_map (passing (system T.turn_of self.old.setup) (rank_of_bound self.new.bound) j) (slice_get self.old.stubs j) }
+        ensures stubs { HavePassed (system T.turn_of self.old.setup) self.new.bound self.old.stubs self.new.stubs }
         ensures count { result ≡ length (reference_below (machine_of T.turn_of self.old.setup) (rank_of_bound self.new.bound)) }
-        ensures core { (leases : ℕ → LeaseSeen (List Datum) Named) → Simulates T.turn_of self.old (λ steps. steps ≡ Commit (rank_of_bound self.new.bound) ∷ []) leases self.new leases }
+        ensures core { IsOneCommit T.turn_of self.old self.new }
     {
         machine_is_lawful(self.setup());
         exchange_is_core::<State, Action>();
@@ -138,7 +138,7 @@ impl<T: Turns> Exchange<T> {
     fn raise_bound(&mut self) -> u64
         ensures commit { HasCommitted T.turn_of self.old self.new }
         ensures rest { self.new ≡ record self.old { bound = self.new.bound; stubs = self.new.stubs } }
-        ensures stubs { (j : ℕ) → slice_get self.new.stubs j ≡ option_map (passing (system T.turn_of self.old.setup) (rank_of_bound self.new.bound) j) (slice_get self.old.stubs j) }
+        ensures stubs { HavePassed (system T.turn_of self.old.setup) self.new.bound self.old.stubs self.new.stubs }
         ensures count { result ≡ length (reference_below (machine_of T.turn_of self.old.setup) (rank_of_bound self.new.bound)) }
     {
         machine_is_lawful(&self.setup);
@@ -193,13 +193,13 @@ fn pass_all<T: Turns>(
 ) -> u64
     requires walks { AreWalks T.stands setup.now walks.old }
     requires many { length stubs.old ≡ length (composition (plan_of setup.now)) }
-    requires passing { (j : ℕ) (stub : StubValue) → slice_get stubs.old j ≡ Some stub → IsPassing (system T.turn_of setup.now) (rank_of_bound bound) j stub }
+    requires passing { ArePassing (system T.turn_of setup.now) bound stubs.old }
     requires end { rank_of_bound bound ≤ end_rank }
     ensures walks { AreWalks T.stands setup.now walks.new }
     ensures items { length walks.new ≡ length walks.old }
-    ensures stubs { (j : ℕ) → slice_get stubs.new j ≡ option_map (passing (system T.turn_of setup.now) (rank_of_bound bound) j) (slice_get stubs.old j) }
+    ensures stubs { HavePassed (system T.turn_of setup.now) bound stubs.old stubs.new }
     ensures many { length stubs.new ≡ length stubs.old }
-    ensures passed { (j : ℕ) (stub : StubValue) → slice_get stubs.new j ≡ Some stub → IsPassing (system T.turn_of setup.now) (rank_of_bound bound) j stub }
+    ensures passed { ArePassing (system T.turn_of setup.now) bound stubs.new }
     ensures count { result ≡ turns_of (point (machine_of T.turn_of setup.now) (rank_of_bound bound)) (length (composition (plan_of setup.now))) }
 {
     machine_is_lawful(setup);

@@ -2,9 +2,9 @@
 ghost use Rattle.std.specs.Prelude.{◌≡◌, ◌==◌, ◌↔◌, true, false, IfErr, IsOk, IsErrOf, None};
 ghost use Rattle.task_seed.specs.Setups.{system};
 ghost use Rattle.event_keys.specs.Ranks.{rank_of_bound};
-ghost use Rattle.rollback.specs.Held.{machine_of};
+ghost use Rattle.rollback.specs.ComponentView.{machine_of};
 ghost use Rattle.exchange.specs.Known.{IsKnown};
-ghost use Rattle.exchange.specs.Seen.{Knows};
+ghost use Rattle.exchange.specs.Seen.{Knows, is_own};
 
 use crate::exchange::Exchange;
 use crate::lease::Lease;
@@ -74,8 +74,8 @@ impl<T: Turns> Exchange<T> {
     /// Whether a lease can meet the exchange: exactly where its setup is the exchange's (else 40), and base, floor, taken messages and
     /// standing sends are those that are kept of its component (else 41).
     pub fn judge(&self, lease: &Lease<T>) -> Result<(), MeetRefused>
-        ensures ok { IsOk result ↔ ((⟦<Setup<T> as PartialEq>⟧.eq self.now.setup lease.now.component.setup ≡ true) × Knows T.turn_of self.now lease.now) }
-        ensures other { IsErrOf result MeetRefused.OtherSetup ↔ (⟦<Setup<T> as PartialEq>⟧.eq self.now.setup lease.now.component.setup ≡ false) }
+        ensures ok { IsOk result ↔ ((is_own ⟦<Setup<T> as PartialEq>⟧.eq self.now lease.now ≡ true) × Knows T.turn_of self.now lease.now) }
+        ensures other { IsErrOf result MeetRefused.OtherSetup ↔ (is_own ⟦<Setup<T> as PartialEq>⟧.eq self.now lease.now ≡ false) }
     {
         if !self.is_own(lease) {
             return Err(MeetRefused::OtherSetup);
@@ -85,7 +85,7 @@ impl<T: Turns> Exchange<T> {
 
     // Whether a lease's setup is the exchange's; then both mean the same.
     pub(crate) fn is_own(&self, lease: &Lease<T>) -> bool
-        ensures answer { result ≡ ⟦<Setup<T> as PartialEq>⟧.eq self.now.setup lease.now.component.setup }
+        ensures answer { result ≡ is_own ⟦<Setup<T> as PartialEq>⟧.eq self.now lease.now }
         ensures same { result ≡ true → system T.turn_of self.now.setup ≡ system T.turn_of lease.now.component.setup }
     {
         let setup = lease.component.setup();

@@ -3,15 +3,12 @@ ghost use Rattle.std.specs.Prelude.{◌≡◌, ◌≤◌, ◌<◌, ◌-◌, ◌^
 ghost use Rattle.antimessage.specs.Bags.{least_of};
 ghost use Rattle.event_keys.specs.Ranks.{rank_of_bound};
 ghost use Rattle.raw_events.specs.Around.{is_nonempty};
-ghost use Rattle.rollback.specs.Held.{machine_of, next_key, is_last_idle, processed};
-ghost use Rattle.event_keys.specs.declared.message.Signed.{Signed as SignedValue};
+ghost use Rattle.rollback.specs.ComponentView.{machine_of, next_key, is_last_idle, processed};
 ghost use Rattle.exchange.specs.Core.{StaysKnown, deliveries};
-ghost use Rattle.exchange.specs.Holding.{IsAhead, IsDelivered, IsHolding, AllDelivered, lease_of};
-ghost use Rattle.plans.specs.Plans.{composition};
-ghost use Rattle.task_seed.specs.Setups.{plan_of};
+ghost use Rattle.exchange.specs.LeaseView.{IsAhead, IsOnlyAhead, AllDelivered, lease_of};
 ghost use Rattle.virtual_time.specs.Exchange.Leases.{IsLease};
 ghost use Rattle.virtual_time.specs.Worlds.{Process};
-ghost use Rattle.exchange.specs.Seen.{MovesBy};
+ghost use Rattle.exchange.specs.Seen.{HasDelivered, IsSoundLease, MovesBy};
 ghost use Rattle.rollback.specs.Stepped.{HasNextKey, IsNextSent, next_entry};
 
 use antimessage::Bag;
@@ -39,8 +36,8 @@ pub struct Lease<T: Turns> {
 
 impl<T: Turns> Model for Lease<T> {
     ghost use Rattle.task_seed.specs.declared.setup.Setup.{Setup};
-    ghost use Rattle.exchange.specs.Holding.{Holding, IsHolding};
-    ghost use Rattle.rollback.specs.Held.{machine_of};
+    ghost use Rattle.exchange.specs.LeaseView.{LeaseView, IsValidLease};
+    ghost use Rattle.rollback.specs.ComponentView.{machine_of};
     ghost use Rattle.plans.specs.Plans.{composition};
     ghost use Rattle.task_seed.specs.Setups.{plan_of};
     ghost use Rattle.std.specs.Prelude.{length};
@@ -50,13 +47,13 @@ impl<T: Turns> Model for Lease<T> {
     ghost use Rattle.terms.specs.contracts.term.Term as term;
     ghost use Rattle.terms.specs.contracts.effect.Effect as effect;
 
-    ghost Value = { Holding (Setup T) };
+    ghost Value = { LeaseView (Setup T) };
 
     ghost coded = { Prim.hlevel (codes, shape.the_row.coded, term.the_row.coded, effect.the_row.coded, datum_code) };
 
     ghost view = { λ l. record { component = l.component; tray = l.tray; out = l.out; copies = l.copies; floor = l.floor } };
 
-    ghost invariant = { λ l. IsHolding (machine_of T.turn_of l.component.setup) (length (composition (plan_of l.component.setup))) (record { component = l.component; tray = l.tray; out = l.out; copies = l.copies; floor = l.floor }) };
+    ghost invariant = { λ l. IsValidLease (machine_of T.turn_of l.component.setup) (length (composition (plan_of l.component.setup))) (record { component = l.component; tray = l.tray; out = l.out; copies = l.copies; floor = l.floor }) };
 }
 
 impl<T: Turns> Lease<T> {
@@ -113,7 +110,7 @@ impl<T: Turns> Lease<T> {
     /// The call does nothing.
     pub fn soundness_law(&self)
         ensures lease { IsLease (machine_of T.turn_of self.now.component.setup) self.now.component.number (lease_of self.now) }
-        ensures holding { IsHolding (machine_of T.turn_of self.now.component.setup) (length (composition (plan_of self.now.component.setup))) self.now }
+        ensures holding { IsSoundLease T.turn_of self.now }
     {
         let _ = &self.component;
     }
@@ -196,7 +193,7 @@ impl<T: Turns> Lease<T> {
 
     // The least message of the tray comes to the component; false where there is none.
     fn deliver_next(&mut self) -> bool
-        ensures delivered { result ≡ true → (signed : SignedValue) × IsDelivered (machine_of T.turn_of self.old.component.setup) self.old self.new signed }
+        ensures delivered { result ≡ true → HasDelivered T.turn_of self.old self.new }
         ensures none { result ≡ false → (self.old.tray ≡ []) × (self.new ≡ self.old) }
     {
         machine_is_lawful(self.component.setup());
@@ -214,7 +211,7 @@ impl<T: Turns> Lease<T> {
         ensures key { IfOk result (λ key. HasNextKey T.turn_of self.old.component key) }
         ensures record { OnOk result (self.new.component.history ≡ processed (next_entry T.turn_of self.old.component) self.old.component.history) }
         ensures sent { OnOk result (IsNextSent T.turn_of self.old.component self.old.out self.new.out) }
-        ensures rest { self.new ≡ record self.old { component = record self.old.component { history = self.new.component.history }; out = self.new.out; copies = self.new.copies } }
+        ensures rest { IsOnlyAhead self.old self.new }
         ensures nothing { IsErrOf result ProcessRefused.NothingPending ↔ (next_entry T.turn_of self.old.component ≡ None) }
         ensures kept { OnErr result (self.new ≡ self.old) }
     {

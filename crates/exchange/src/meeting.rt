@@ -3,18 +3,12 @@ ghost use Rattle.std.specs.Prelude.{◌≡◌, ◌↔◌, ◌++◌, ℕ, List, S
 ghost use Rattle.event_keys.specs.Ranks.{rank_of_bound};
 ghost use Rattle.antimessage.specs.Bags.{insert_all};
 ghost use Rattle.antimessage.specs.Counts.{Each};
-ghost use Rattle.virtual_time.specs.Exchange.Leases.{IsFloor, Lease as LeaseSeen};
-ghost use Rattle.virtual_time.specs.Exchange.Wholes.{put_lease};
-ghost use Rattle.terms.specs.Datum.{Datum};
-ghost use Rattle.terms.specs.Named.{Named};
-ghost use Rattle.exchange.specs.Core.{AreMeetings};
 ghost use Rattle.plans.specs.Plans.{composition};
 ghost use Rattle.task_seed.specs.Setups.{plan_of, system};
-ghost use Rattle.rollback.specs.Held.{machine_of};
 ghost use Rattle.exchange.specs.declared.stub.Stub.{Stub as StubValue};
-ghost use Rattle.exchange.specs.Holding.{part_of, lease_of};
-ghost use Rattle.exchange.specs.Moving.{first_receiver, HasCome, IsBrought, IsSent, IsArrived, IsHandedOver, IsForgotten, IsReached, IsPassedOn};
-ghost use Rattle.exchange.specs.Seen.{HaveMet, Knows, Simulates};
+ghost use Rattle.exchange.specs.LeaseView.{KeepsComponent};
+ghost use Rattle.exchange.specs.Moving.{first_receiver, HasCome, IsBrought, IsSent, IsArrived, IsHandedOver, IsForgotten, IsReached, HasOwnInbox, HasPassedOn};
+ghost use Rattle.exchange.specs.Seen.{HaveMet, IsFloorOf, Knows, OnlyMeets, is_own};
 
 use crate::exchange::Exchange;
 use crate::judging::MeetRefused;
@@ -141,7 +135,7 @@ fn spread(stubs: &mut [Stub], out: &mut Bag, copies: &mut Bag)
 // The least of the component's next key and of the keys in its tray.
 fn floor_of<T: Turns>(component: &Component<T>, tray: &Bag) -> Bound
     requires { Each (λ x. x.message.to ≡ component.now.number) tray.now }
-    ensures { IsFloor (machine_of T.turn_of component.now.setup) component.now.number (rank_of_bound result) (part_of component.now.number component.now.history tray.now) }
+    ensures { IsFloorOf T.turn_of component.now tray.now result }
 {
     machine_is_lawful(component.setup());
     component.lists_law();
@@ -160,10 +154,10 @@ fn pass_on<T: Turns>(
 ) -> Bound
     requires many { length stubs.old ≡ length (composition (plan_of component.now.setup)) }
     requires arrived { Each (λ x. x.message.to ≡ component.now.number) tray.old }
-    requires inbox { (stub : StubValue) → slice_get stubs.old component.now.number ≡ Some stub → Each (λ x. x.message.to ≡ component.now.number) stub.inbox }
-    ensures passed { IsPassedOn component.now.number bound result out.old copies.old.of_sender copies.old.of_receiver tray.old tray.new stubs.old stubs.new }
+    requires inbox { HasOwnInbox component.now.number stubs.old }
+    ensures passed { HasPassedOn component.now.number bound result out.old copies.old tray.old tray.new stubs.old stubs.new }
     ensures arrived { Each (λ x. x.message.to ≡ component.now.number) tray.new }
-    ensures floor { IsFloor (machine_of T.turn_of component.now.setup) component.now.number (rank_of_bound result) (part_of component.now.number component.now.history tray.new) }
+    ensures floor { IsFloorOf T.turn_of component.now tray.new result }
 {
     flight_law();
     machine_is_lawful(component.setup());
@@ -189,13 +183,13 @@ impl<T: Turns> Exchange<T> {
     /// In the whole world that the exchange and its leases stand for, wherever these are, messages meet their antimessages, and nothing else
     /// happens.
     pub fn meet(&mut self, lease: &mut Lease<T>) -> Result<Bound, MeetRefused>
-        ensures ok { IsOk result ↔ ((⟦<Setup<T> as PartialEq>⟧.eq self.old.setup lease.old.component.setup ≡ true) × Knows T.turn_of self.old lease.old) }
-        ensures other { IsErrOf result MeetRefused.OtherSetup ↔ (⟦<Setup<T> as PartialEq>⟧.eq self.old.setup lease.old.component.setup ≡ false) }
+        ensures ok { IsOk result ↔ ((is_own ⟦<Setup<T> as PartialEq>⟧.eq self.old lease.old ≡ true) × Knows T.turn_of self.old lease.old) }
+        ensures other { IsErrOf result MeetRefused.OtherSetup ↔ (is_own ⟦<Setup<T> as PartialEq>⟧.eq self.old lease.old ≡ false) }
         ensures bound { IfOk result (λ bound. bound ≡ self.old.bound) }
         ensures met { OnOk result (HaveMet T.turn_of self.old lease.old self.new lease.new) }
-        ensures core { OnOk result ((leases : ℕ → LeaseSeen (List Datum) Named) → leases lease.old.component.number ≡ lease_of lease.old → Simulates T.turn_of self.old AreMeetings leases self.new (put_lease lease.old.component.number (lease_of lease.new) leases)) }
+        ensures core { OnOk result (OnlyMeets T.turn_of self.old lease.old self.new lease.new) }
         ensures rest { self.new ≡ record self.old { stubs = self.new.stubs; held = self.new.held } }
-        ensures same { OnOk result ((lease.new.component.setup ≡ lease.old.component.setup) × (lease.new.component.number ≡ lease.old.component.number)) }
+        ensures same { OnOk result (KeepsComponent lease.old lease.new) }
         ensures kept { OnErr result ((self.new ≡ self.old) × (lease.new ≡ lease.old)) }
     {
         if !self.is_own(lease) {
@@ -213,9 +207,9 @@ impl<T: Turns> Exchange<T> {
         ensures stranger { IfErr result (λ refused. refused ≡ MeetRefused.Stranger) }
         ensures bound { IfOk result (λ bound. bound ≡ self.old.bound) }
         ensures met { OnOk result (HaveMet T.turn_of self.old lease.old self.new lease.new) }
-        ensures core { OnOk result ((leases : ℕ → LeaseSeen (List Datum) Named) → leases lease.old.component.number ≡ lease_of lease.old → Simulates T.turn_of self.old AreMeetings leases self.new (put_lease lease.old.component.number (lease_of lease.new) leases)) }
+        ensures core { OnOk result (OnlyMeets T.turn_of self.old lease.old self.new lease.new) }
         ensures rest { self.new ≡ record self.old { stubs = self.new.stubs; held = self.new.held } }
-        ensures same { OnOk result ((lease.new.component.setup ≡ lease.old.component.setup) × (lease.new.component.number ≡ lease.old.component.number)) }
+        ensures same { OnOk result (KeepsComponent lease.old lease.new) }
         ensures kept { OnErr result ((self.new ≡ self.old) × (lease.new ≡ lease.old)) }
     {
         machine_is_lawful(self.setup());
@@ -233,7 +227,7 @@ impl<T: Turns> Exchange<T> {
         ensures bound { result ≡ self.old.bound }
         ensures met { HaveMet T.turn_of self.old lease.old self.new lease.new }
         ensures rest { self.new ≡ record self.old { stubs = self.new.stubs; held = self.new.held } }
-        ensures same { (lease.new.component.setup ≡ lease.old.component.setup) × (lease.new.component.number ≡ lease.old.component.number) }
+        ensures same { KeepsComponent lease.old lease.new }
     {
         machine_is_lawful(&self.setup);
         flight_law();

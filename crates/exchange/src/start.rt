@@ -1,14 +1,9 @@
 //! The exchange and its leases at the start.
-ghost use Rattle.std.specs.Prelude.{◌≡◌, ◌<◌, IfOk, length, map};
-ghost use Rattle.std.specs.List.{range_with_len};
+ghost use Rattle.std.specs.Prelude.{◌≡◌, ◌<◌, IfOk, length};
 ghost use Rattle.std.specs.Arc.{arc_value};
 ghost use Rattle.plans.specs.Plans.{composition};
 ghost use Rattle.task_seed.specs.Setups.{system, plan_of};
-ghost use Rattle.rollback.specs.Held.{machine_of};
-ghost use Rattle.virtual_time.specs.Worlds.{start_world};
-ghost use Rattle.exchange.specs.Core.{StandFor};
-ghost use Rattle.exchange.specs.Shared.{exchange_of};
-ghost use Rattle.exchange.specs.Start.{first_bound, start_stub, start_holding, start_shared, leases_of};
+ghost use Rattle.exchange.specs.Start.{StandForStart, first_bound, start_stub, start_holding, start_leases, start_shared};
 
 use crate::exchange::Exchange;
 use crate::lease::Lease;
@@ -83,8 +78,8 @@ impl<T: Turns> Exchange<T> {
         setup: Arc<Setup<T>>,
     ) -> Result<(Exchange<T>, Vec<Lease<T>>), NoMemory>
         ensures exchange { IfOk result (λ both. both.0 ≡ start_shared T.turn_of (arc_value setup)) }
-        ensures leases { IfOk result (λ both. both.1.items ≡ map (start_holding T.turn_of (arc_value setup)) (range_with_len 0 (length (composition (plan_of (arc_value setup)))))) }
-        ensures start { IfOk result (λ both. StandFor (machine_of T.turn_of (arc_value setup)) (exchange_of (machine_of T.turn_of (arc_value setup)) both.0) (leases_of (machine_of T.turn_of (arc_value setup)) both.1.items) (start_world (machine_of T.turn_of (arc_value setup)))) }
+        ensures leases { IfOk result (λ both. both.1.items ≡ start_leases T.turn_of (arc_value setup)) }
+        ensures start { IfOk result (λ both. StandForStart T.turn_of (arc_value setup) both.0 both.1.items) }
     {
         machine_is_lawful(&setup);
         exchange_is_core::<State, Action>();
@@ -96,7 +91,7 @@ impl<T: Turns> Exchange<T> {
 
     fn start(alloc: Global, setup: Arc<Setup<T>>) -> Result<(Exchange<T>, Vec<Lease<T>>), NoMemory>
         ensures exchange { IfOk result (λ both. both.0 ≡ start_shared T.turn_of (arc_value setup)) }
-        ensures leases { IfOk result (λ both. both.1.items ≡ map (start_holding T.turn_of (arc_value setup)) (range_with_len 0 (length (composition (plan_of (arc_value setup)))))) }
+        ensures leases { IfOk result (λ both. both.1.items ≡ start_leases T.turn_of (arc_value setup)) }
     {
         machine_is_lawful(&setup);
         exchange_is_sound::<State, Action>();

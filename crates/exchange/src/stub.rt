@@ -5,7 +5,7 @@ ghost use Rattle.plans.specs.Plans.{composition};
 ghost use Rattle.task_seed.specs.Setups.{system, plan_of};
 ghost use Rattle.task_seed.specs.Turning.{key_of};
 ghost use Rattle.task_seed.specs.Machines.{turn_rank, end_rank};
-ghost use Rattle.exchange.specs.Shared.{earlier, clear_until, is_ahead_below};
+ghost use Rattle.exchange.specs.ExchangeView.{earlier, clear_until, is_ahead_below};
 ghost use Rattle.exchange.specs.Walks.{StandsBeforeTurn};
 
 use antimessage::Bag;

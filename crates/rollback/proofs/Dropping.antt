@@ -20,7 +20,7 @@ use Rattle.rollback.specs.Dropped.{is_done_below, dones_below, dones_from, turns
 use Rattle.rollback.specs.Falling.{IsFalling}
 use Rattle.rollback.specs.Flight.{items_of}
 use Rattle.rollback.proofs.Falling.{falling_from}
-use Rattle.rollback.specs.Kept.{entry_of, entries_of, IsReady, AllReady, base_state, record_of, IsReplayed, IsKept}
+use Rattle.rollback.specs.ComponentInvariant.{entry_of, entries_of, IsReady, AllReady, base_state, record_of, IsReplayed, IsValidComponent}
 use Rattle.rollback.specs.Replays.{replays_below}
 use Rattle.rollback.proofs.Keeping.{depth_is, number_is}
 use Rattle.rollback.proofs.Replays.{number_cut, oldest_replay, replay_cut, replays_cut}
@@ -140,8 +140,8 @@ module _ (s : System) (i : ℕ) where
           below = below_is ∙ (λ v. replays_below (machine s) i (sym base_is v) (sym (entries_from c ds) v));
         }
 
-  module _ (first c : ℕ) (states : States) (done : Around Done) (pending owed : Around Signed) (own : Option Key) (kept : IsKept s i first states done pending owed own) where
-    pub kept_dropped : IsKept s i (number first (entries_of (dones_below c done.before))) (without_first (length (dones_below c done.before)) states) (record { before = dones_from c done.before; after = [] }) pending owed own
+  module _ (first c : ℕ) (states : States) (done : Around Done) (pending owed : Around Signed) (own : Option Key) (kept : IsValidComponent s i first states done pending owed own) where
+    pub kept_dropped : IsValidComponent s i (number first (entries_of (dones_below c done.before))) (without_first (length (dones_below c done.before)) states) (record { before = dones_from c done.before; after = [] }) pending owed own
     kept_dropped =
         record {
           there = kept.there;

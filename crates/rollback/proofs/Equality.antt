@@ -34,7 +34,7 @@ use Rattle.task_seed.specs.Turning.{System, has_turns, ticks, key_at, key_of}
 use Rattle.message_balance.specs.declared.done.Done.{Done}
 use Rattle.message_balance.specs.declared.done.Done.TheVariants.{Turn, Input}
 use Rattle.rollback.specs.Flight.{items_of, AllGo}
-use Rattle.rollback.specs.Kept.{entry_of, entries_of, IsSmall, IsReady, AllReady, base_state, record_of, IsQueue, IsKept}
+use Rattle.rollback.specs.ComponentInvariant.{entry_of, entries_of, IsSmall, IsReady, AllReady, base_state, record_of, IsQueue, IsValidComponent}
 use Rattle.message_balance.specs.Same.{same_done}
 use Rattle.rollback.specs.Same.{same_item, same_entry, same_events, same_held}
 use Rattle.rollback.specs.SameLaws.{entry_decides}
@@ -162,7 +162,7 @@ module _ (s t : System) (i : ℕ) where
 
   -- the lists compare as the events of the records that they stand for
   pub events_same : (first other : ℕ) (states others : States) (done dones : Around Done) (pending waiting owed owing : Around Signed) (coming next : Option Key)
-      → IsKept s i first states done pending owed coming → IsKept t i other others dones waiting owing next
+      → IsValidComponent s i first states done pending owed coming → IsValidComponent t i other others dones waiting owing next
       → (same_items same_done done dones && (same_items is_same pending waiting && same_items is_same owed owing))
       ≡ same_events (record_of states first done pending owed) (record_of others other dones waiting owing)
   events_same first other states others done dones pending waiting owed owing coming next p q =
@@ -188,13 +188,13 @@ tested true true b f h x y e = ap (λ z. (b && (f && h)) && z) (e refl)
 
 -- the fields compare as the components that they stand for
 pub held_same : {P : Type 0} (eq : P → P → Bool) (setup plan : P) (s t : System) (i j : ℕ) (base bound : Bound) (first other : ℕ) (states others : States) (done dones : Around Done) (pending waiting owed owing : Around Signed) (coming next : Option Key)
-    → IsKept s i first states done pending owed coming → IsKept t j other others dones waiting owing next
+    → IsValidComponent s i first states done pending owed coming → IsValidComponent t j other others dones waiting owing next
     → (((((((eq setup plan && nat_eq i j) && bound_eq.ghosts.eq base bound) && nat_eq first other) && same_state (base_state states) (base_state others)) && same_items same_done done dones) && same_items is_same pending waiting) && same_items is_same owed owing)
     ≡ same_held eq (record { setup = setup; number = i; base = base; history = record_of states first done pending owed }) (record { setup = plan; number = j; base = bound; history = record_of others other dones waiting owing })
 held_same eq setup plan s t i j base bound first other states others done dones pending waiting owed owing coming next p q =
     regrouped (eq setup plan) (nat_eq i j) (bound_eq.ghosts.eq base bound) (nat_eq first other) (same_state (base_state states) (base_state others)) (same_items same_done done dones) (same_items is_same pending waiting) (same_items is_same owed owing)
     ∙ tested (eq setup plan) (nat_eq i j) (bound_eq.ghosts.eq base bound) (nat_eq first other) (same_state (base_state states) (base_state others)) _ _
-    (λ e. events_same s t i first other states others done dones pending waiting owed owing coming next p (subst (λ k. IsKept t k other others dones waiting owing next) (sym (number_is i j e)) q))
+    (λ e. events_same s t i first other states others done dones pending waiting owed owing coming next p (subst (λ k. IsValidComponent t k other others dones waiting owing next) (sym (number_is i j e)) q))
 
 -- the value of one more part of a test, from the value so far
 pub and_then : (r a s b : Bool) → a ≡ s → a ≡ true → r ≡ b → r ≡ (s && b)

@@ -24,7 +24,7 @@ use Rattle.task_seed.specs.Turning.{System}
 use Rattle.message_balance.specs.declared.done.Done.{Done}
 use Rattle.message_balance.specs.declared.done.Done.TheVariants.{Turn, Input}
 use Rattle.message_balance.specs.declared.sent.Sent.{Sent}
-use Rattle.rollback.specs.Kept.{AllReady, IsReady, entries_of, signed_of}
+use Rattle.rollback.specs.ComponentInvariant.{AllReady, IsReady, entries_of, signed_of}
 use Rattle.message_balance.specs.Balance.{all_of, count_as, count_standing, is_all_sent, is_all_taken, is_input_balanced, is_sending_of, is_sent_if_from, is_sent_balanced, is_taken_if_to, is_taken_balanced, is_turn_balanced}
 use Rattle.rollback.specs.Post.{signed_to}
 use Rattle.message_balance.specs.Walks.{count_turns}

@@ -23,7 +23,7 @@ use Rattle.virtual_time.specs.Bags.{IsSorted, inputs}
 use Rattle.virtual_time.specs.Records.{is_input}
 use Rattle.event_keys.specs.contracts.message.MessagePartialEq.TheImpl as message_eq
 use Rattle.antimessage.specs.Counts.{is_same}
-use Rattle.rollback.specs.Kept.{is_entry_input, is_any_input}
+use Rattle.rollback.specs.ComponentInvariant.{is_entry_input, is_any_input}
 use Rattle.rollback.proofs.Flight.{item_same}
 use Rattle.rollback.specs.Falling.{IsFalling}
 use Rattle.rollback.proofs.Falling.{rises, falling_none, falling_input, falling_turn, falling_back_turn, falling_back_input, falling_insert, falling_remove}
@@ -40,7 +40,7 @@ use Rattle.message_balance.specs.declared.done.Done.{Done}
 use Rattle.message_balance.specs.declared.done.Done.TheVariants.{Turn, Input}
 use Rattle.rollback.specs.Flight.{goes, is_sign, item_of, items_of, AllGo}
 use Rattle.rollback.specs.Replays.{replays_below}
-use Rattle.rollback.specs.Kept.{entry_of, entries_of, signed_of, IsSmall, AllReady, IsTimed, base_state, record_of, IsReplayed, IsQueue, IsKept}
+use Rattle.rollback.specs.ComponentInvariant.{entry_of, entries_of, signed_of, IsSmall, AllReady, IsTimed, base_state, record_of, IsReplayed, IsQueue, IsValidComponent}
 use Rattle.rollback.specs.Coming.{is_before_own, turning, coming_of}
 
 -- the rank of a key, or the end where there is none
@@ -94,7 +94,7 @@ module _ (s : System) (i : ℕ) where
       go (x ∷ xs) e = e.0
 
   -- the next entry, from the fields
-  pub coming_is : (first : ℕ) (states : States) (done : Around Done) (pending owed : Around Signed) (own : Option Key) → IsKept s i first states done pending owed own
+  pub coming_is : (first : ℕ) (states : States) (done : Around Done) (pending owed : Around Signed) (own : Option Key) → IsValidComponent s i first states done pending owed own
       → next_of (machine s) i (record_of states first done pending owed) ≡ coming_of (machine s) i (record_of states first done pending owed) (head pending.after) own
   coming_is first states done pending owed own kept =
       next_is (record_of states first done pending owed) pending.after own kept.there kept.next kept.small refl (head_timed Plus pending kept.waiting)
@@ -180,8 +180,8 @@ module _ (s : System) (i : ℕ) where
 
   -- the first pending input is done
   pub kept_input : (first : ℕ) (states : States) (done : Around Done) (pending owed : Around Signed) (own : Option Key) (x : Signed) (xs : List Signed)
-      → IsKept s i first states done pending owed own → pending.after ≡ x ∷ xs → is_before_own (head pending.after) own ≡ true
-      → IsKept s i first (record { current = applied s.composition i x.message.action states.current; below = states.current ∷ states.below }) (record done { before = Input x ∷ done.before }) (record pending { after = xs }) owed own
+      → IsValidComponent s i first states done pending owed own → pending.after ≡ x ∷ xs → is_before_own (head pending.after) own ≡ true
+      → IsValidComponent s i first (record { current = applied s.composition i x.message.action states.current; below = states.current ∷ states.below }) (record done { before = Input x ∷ done.before }) (record pending { after = xs }) owed own
   kept_input first states done pending owed own x xs kept h before =
       let t = queue_tail Plus pending x xs h kept.waiting in
       record {
@@ -199,8 +199,8 @@ module _ (s : System) (i : ℕ) where
 
   -- the own turn is done
   pub kept_turn : (first : ℕ) (states : States) (done : Around Done) (pending owed : Around Signed) (own next : Option Key) (turned : Turned)
-      → IsKept s i first states done pending owed own → own ≡ Some turned.key → next ≡ key_of s i (turned.key.number + 1) → IfSome next IsSmall → is_before_own (head pending.after) own ≡ false
-      → IsKept s i first (record { current = by_own (machine s) i (action_of turned.outcome) states.current; below = states.current ∷ states.below }) (record done { before = Turn turned (record { before = signed_of s Minus i turned.key turned.outcome; after = [] }) ∷ done.before }) pending owed next
+      → IsValidComponent s i first states done pending owed own → own ≡ Some turned.key → next ≡ key_of s i (turned.key.number + 1) → IfSome next IsSmall → is_before_own (head pending.after) own ≡ false
+      → IsValidComponent s i first (record { current = by_own (machine s) i (action_of turned.outcome) states.current; below = states.current ∷ states.below }) (record done { before = Turn turned (record { before = signed_of s Minus i turned.key turned.outcome; after = [] }) ∷ done.before }) pending owed next
   kept_turn first states done pending owed own next turned kept h is small before =
       let n = number first (entries_of done.before) in
       let there : Some turned.key ≡ key_of s i n = sym h ∙ kept.next in
@@ -221,8 +221,8 @@ module _ (s : System) (i : ℕ) where
 
   -- the last done entry, a turn, is taken back
   pub kept_back_turn : (first : ℕ) (states : States) (done : Around Done) (pending owed : Around Signed) (own : Option Key) (turned : Turned) (minuses : Around Signed) (ds : List Done)
-      → IsKept s i first states done pending owed own → done.before ≡ Turn turned minuses ∷ ds
-      → IsKept s i first (undone states) (record done { before = ds }) pending owed (Some turned.key)
+      → IsValidComponent s i first states done pending owed own → done.before ≡ Turn turned minuses ∷ ds
+      → IsValidComponent s i first (undone states) (record done { before = ds }) pending owed (Some turned.key)
   kept_back_turn first states done pending owed own turned minuses ds kept h =
       let ready : AllReady s i first (Turn turned minuses ∷ ds) = subst (λ (l : List Done). AllReady s i first l) h kept.ready in
       let less = replayed_less states ds (Turn turned minuses) (subst (λ (l : List Done). IsReplayed s i states l) h kept.replayed) in
@@ -240,8 +240,8 @@ module _ (s : System) (i : ℕ) where
 
   -- the last done entry, an input, is taken back
   pub kept_back_input : (first : ℕ) (states : States) (done : Around Done) (pending owed : Around Signed) (own : Option Key) (x : Signed) (ds : List Done)
-      → IsKept s i first states done pending owed own → done.before ≡ Input x ∷ ds
-      → IsKept s i first (undone states) (record done { before = ds }) (record pending { after = insert x pending.after }) owed own
+      → IsValidComponent s i first states done pending owed own → done.before ≡ Input x ∷ ds
+      → IsValidComponent s i first (undone states) (record done { before = ds }) (record pending { after = insert x pending.after }) owed own
   kept_back_input first states done pending owed own x ds kept h =
       let ready : AllReady s i first (Input x ∷ ds) = subst (λ (l : List Done). AllReady s i first l) h kept.ready in
       let less = replayed_less states ds (Input x) (subst (λ (l : List Done). IsReplayed s i states l) h kept.replayed) in
@@ -260,7 +260,7 @@ module _ (s : System) (i : ℕ) where
 
   -- the fields at the start
   pub kept_new : (state : List Datum) (own : Option Key) → i < length s.composition → own ≡ key_of s i 0 → IfSome own IsSmall
-      → IsKept s i 0 (record { current = state; below = [] }) (record { before = []; after = [] }) (record { before = []; after = [] }) (record { before = []; after = [] }) own
+      → IsValidComponent s i 0 (record { current = state; below = [] }) (record { before = []; after = [] }) (record { before = []; after = [] }) (record { before = []; after = [] }) own
   kept_new state own there is small =
       record {
         there = there;
@@ -275,12 +275,12 @@ module _ (s : System) (i : ℕ) where
       }
 
   -- other pending inputs, or other owed antimessages
-  pub with_waiting : (first : ℕ) (states : States) (done : Around Done) (pending owed new : Around Signed) (own : Option Key) → IsKept s i first states done pending owed own → IsQueue Plus i new
-      → IsFalling (entries_of done.before) (items_of new.after) own → IsKept s i first states done new owed own
+  pub with_waiting : (first : ℕ) (states : States) (done : Around Done) (pending owed new : Around Signed) (own : Option Key) → IsValidComponent s i first states done pending owed own → IsQueue Plus i new
+      → IsFalling (entries_of done.before) (items_of new.after) own → IsValidComponent s i first states done new owed own
   with_waiting first states done pending owed new own kept q falling =
       record { there = kept.there; replayed = kept.replayed; ready = kept.ready; ahead = kept.ahead; next = kept.next; small = kept.small; waiting = q; owing = kept.owing; falling = falling }
 
-  module _ (first : ℕ) (states : States) (done : Around Done) (pending owed : Around Signed) (own : Option Key) (kept : IsKept s i first states done pending owed own) where
+  module _ (first : ℕ) (states : States) (done : Around Done) (pending owed : Around Signed) (own : Option Key) (kept : IsValidComponent s i first states done pending owed own) where
     pub waiting_insert : (x : Signed) → Fits x → goes Plus i x ≡ true → latest 0 (entries_of done.before) ≤ rank x.message.key → IsFalling (entries_of done.before) (items_of (insert x pending.after)) own
     waiting_insert x fits there late =
         subst (λ (l : List (Item Named)). IsFalling (entries_of done.before) l own) (sym (queue_items_insert Plus pending x kept.waiting fits there))
@@ -291,8 +291,8 @@ module _ (s : System) (i : ℕ) where
         subst (λ (l : List (Item Named)). IsFalling (entries_of done.before) l own) (sym (queue_items_remove Plus pending x kept.waiting fits there))
         (falling_remove (machine s) (entries_of done.before) (item_of x) (items_of pending.after) own kept.falling)
 
-  pub with_owing : (first : ℕ) (states : States) (done : Around Done) (pending owed new : Around Signed) (own : Option Key) → IsKept s i first states done pending owed own → IsQueue Minus i new
-      → IsKept s i first states done pending new own
+  pub with_owing : (first : ℕ) (states : States) (done : Around Done) (pending owed new : Around Signed) (own : Option Key) → IsValidComponent s i first states done pending owed own → IsQueue Minus i new
+      → IsValidComponent s i first states done pending new own
   with_owing first states done pending owed new own kept q =
       record { there = kept.there; replayed = kept.replayed; ready = kept.ready; ahead = kept.ahead; next = kept.next; small = kept.small; waiting = kept.waiting; owing = q; falling = kept.falling }
 

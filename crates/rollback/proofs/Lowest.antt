@@ -21,7 +21,7 @@ use Rattle.virtual_time.specs.Entries.{Item, Own, Input, number, replay}
 use Rattle.virtual_time.specs.Machine.{Machine, Lawful}
 use Rattle.virtual_time.specs.Records.{Record, next_of, own_next, least_of as least_next}
 use Rattle.task_seed.specs.Machines.{end_rank}
-use Rattle.rollback.specs.Held.{next_key}
+use Rattle.rollback.specs.ComponentView.{next_key}
 use Rattle.rollback.specs.Flight.{in_flight, is_sign, item_of, goes}
 use Rattle.rollback.proofs.Sending.{end_is}
 

@@ -9,7 +9,7 @@ use Rattle.antimessage.specs.Counts.{Each, signed_cmp}
 use Rattle.antimessage.specs.Order.{IsInOrder}
 use Rattle.antimessage.proofs.Counting.{signed_decides}
 use Rattle.antimessage.proofs.Sorted.{signed_total}
-use Rattle.rollback.specs.Kept.{is_first_greater}
+use Rattle.rollback.specs.ComponentInvariant.{is_first_greater}
 
 none_by : (x y : Signed) (ys : List Signed) → is_gt (signed_cmp y x) ≡ true → Each (λ z. is_gt (signed_cmp y z) ≡ false) ys → (first_where (is_one x) ys ≡ None) × (remove x ys ≡ ys)
 none_by x y [] h e = (refl, refl)

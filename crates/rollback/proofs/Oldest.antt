@@ -12,7 +12,7 @@ use Rattle.message_balance.specs.declared.done.Done.{Done}
 use Rattle.message_balance.specs.declared.done.Done.TheVariants.{Turn, Input}
 use Rattle.rollback.specs.Dropped.{dones_below, dones_from, is_done_below, key_in, newest_key, oldest_below, turn_in, turns_in, without_oldest_below}
 use Rattle.rollback.specs.Falling.{Falls}
-use Rattle.rollback.specs.Kept.{entries_of, entry_of}
+use Rattle.rollback.specs.ComponentInvariant.{entries_of, entry_of}
 
 -- the key of the newest own turn among entries, or this one where there is none
 abbrev pub newest_or : List Done → Option Key → Option Key

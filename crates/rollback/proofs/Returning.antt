@@ -8,7 +8,7 @@ use Rattle.virtual_time.specs.Machine.{Machine}
 use Rattle.virtual_time.specs.Entries.{Entry, Item}
 use Rattle.virtual_time.specs.Records.{Record, Processes, after_entry, next_of, sent_by, undone, roll_back_of, roll_back_times, unsent}
 use Rattle.rollback.specs.Flight.{in_flight}
-use Rattle.rollback.specs.Held.{last_of, processed, sent_next}
+use Rattle.rollback.specs.ComponentView.{last_of, processed, sent_next}
 use Rattle.rollback.specs.Post.{IsPosted}
 use Rattle.rollback.specs.declared.refused.ProcessRefused.{ProcessRefused}
 use Rattle.rollback.specs.Runs.{IsRun, IsEnd, IsTrip}

@@ -12,7 +12,7 @@ use Rattle.virtual_time.specs.Entries.{entry_key, latest}
 use Rattle.message_balance.specs.declared.done.Done.{Done}
 use Rattle.message_balance.specs.declared.done.Done.TheVariants.{Turn, Input}
 use Rattle.rollback.specs.Falling.{Falls}
-use Rattle.rollback.specs.Kept.{entry_of, entries_of, is_any_input, is_entry_input, is_first_input, is_first_passed}
+use Rattle.rollback.specs.ComponentInvariant.{entry_of, entries_of, is_any_input, is_entry_input, is_first_input, is_first_passed}
 
 -- equal messages have one key
 same_key : (a b : Message) → message_eq.ghosts.eq a b ≡ true → rank a.key ≡ rank b.key

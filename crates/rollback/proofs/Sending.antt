@@ -17,7 +17,7 @@ use Rattle.plans.specs.Signatures.{receives, receivers_of}
 use Rattle.virtual_time.specs.Records.{sent}
 use Rattle.task_seed.specs.Turning.{System}
 use Rattle.task_seed.specs.Machines.{machine, end_rank}
-use Rattle.rollback.specs.Kept.{signed_of}
+use Rattle.rollback.specs.ComponentInvariant.{signed_of}
 use Rattle.rollback.specs.Post.{IsPosted, post_all}
 use Rattle.rollback.proofs.Posts.{posted, not_posted}
 

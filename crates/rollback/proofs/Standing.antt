@@ -32,7 +32,7 @@ use Rattle.message_balance.specs.declared.done.Done.{Done}
 use Rattle.message_balance.specs.declared.done.Done.TheVariants.{Turn, Input}
 use Rattle.message_balance.specs.declared.sent.Sent.{Sent}
 use Rattle.rollback.specs.Flight.{in_flight, item_of}
-use Rattle.rollback.specs.Kept.{AllReady, IsKept, IsReady, IsSmall, entries_of, record_of, signed_of}
+use Rattle.rollback.specs.ComponentInvariant.{AllReady, IsValidComponent, IsReady, IsSmall, entries_of, record_of, signed_of}
 use Rattle.message_balance.specs.Balance.{all_of, count_as, is_all_sent, is_sending_of, is_sent_if_from, is_sent_balanced, is_turn_balanced}
 use Rattle.rollback.specs.Matched.{IsStanding}
 use Rattle.rollback.specs.Post.{signed_to}
@@ -265,7 +265,7 @@ module _ (s : System) (i : ℕ) (small : i < 2 ^ 16) (all : (composition : List 
           (λ v. (standing v && out v) && done v)
 
   -- the fields are balanced exactly where the messages stand
-  pub standing_is : (first : ℕ) (states : States) (own : Option Key) (pending owed : Around Signed) (t : Sent) (b : Bool) → b ≡ is_all_sent t i → IsKept s i first states t.done.now pending owed own → IsInOrder t.standing.now → IsInOrder t.out.now
+  pub standing_is : (first : ℕ) (states : States) (own : Option Key) (pending owed : Around Signed) (t : Sent) (b : Bool) → b ≡ is_all_sent t i → IsValidComponent s i first states t.done.now pending owed own → IsInOrder t.standing.now → IsInOrder t.out.now
       → (b ≡ true) ↔ IsStanding (machine s) i (record_of states first t.done.now pending owed) t.standing.now t.out.now
   standing_is first states own pending owed t b e kept standing out =
       (λ h k a j owned. standing_from t first standing.fits out.fits kept.ready kept.ahead k a j owned (sym e ∙ h), λ h. e ∙ standing_by t first standing.fits out.fits kept.ready kept.ahead h)

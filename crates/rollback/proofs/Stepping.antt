@@ -27,14 +27,14 @@ use Rattle.task_seed.specs.Machines.{machine, turn_outcome}
 use Rattle.message_balance.specs.declared.done.Done.{Done}
 use Rattle.message_balance.specs.declared.done.Done.TheVariants.{Turn, Input}
 use Rattle.rollback.specs.Flight.{item_of, items_of}
-use Rattle.rollback.specs.Kept.{entries_of, record_of, IsReplayed, AllReady, IsKept}
+use Rattle.rollback.specs.ComponentInvariant.{entries_of, record_of, IsReplayed, AllReady, IsValidComponent}
 use Rattle.rollback.specs.Stepped.{IsComingTurn}
-use Rattle.rollback.specs.Held.{is_receiving, is_turning, last_of, processed, sent_next}
+use Rattle.rollback.specs.ComponentView.{is_receiving, is_turning, last_of, processed, sent_next}
 use Rattle.rollback.specs.Coming.{is_before_own, received, turning, coming_of}
 use Rattle.rollback.proofs.Flight.{items_insert}
 use Rattle.rollback.proofs.Keeping.{coming_is, number_is, replayed_less}
 
-module _ (s : System) (i first : ℕ) (states : States) (done : Around Done) (pending owed : Around Signed) (own : Option Key) (kept : IsKept s i first states done pending owed own) where
+module _ (s : System) (i first : ℕ) (states : States) (done : Around Done) (pending owed : Around Signed) (own : Option Key) (kept : IsValidComponent s i first states done pending owed own) where
   abbrev now : Record (List Datum) Named
   now = record_of states first done pending owed
 

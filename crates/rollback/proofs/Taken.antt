@@ -21,7 +21,7 @@ use Rattle.message_balance.specs.declared.done.Done.{Done}
 use Rattle.message_balance.specs.declared.done.Done.TheVariants.{Turn, Input}
 use Rattle.message_balance.specs.declared.received.Received.{Received}
 use Rattle.rollback.specs.Flight.{goes, in_flight, item_of, items_of}
-use Rattle.rollback.specs.Kept.{AllReady, IsKept, IsQueue, entries_of, record_of}
+use Rattle.rollback.specs.ComponentInvariant.{AllReady, IsValidComponent, IsQueue, entries_of, record_of}
 use Rattle.message_balance.specs.Balance.{all_of, is_all_taken, is_input_balanced, is_input_of, is_taken_if_to, is_taken_balanced}
 use Rattle.rollback.specs.Matched.{IsTaken}
 use Rattle.rollback.proofs.Flight.{hit_same, items_flight}
@@ -134,7 +134,7 @@ module _ (s : System) (i : ℕ) where
           (λ v. (((taken v && tray v) && pending v) && owed v) && done v)
 
 -- the fields are balanced exactly where the record has taken the messages
-pub taken_is : (s : System) (i first : ℕ) (states : States) (own : Option Key) (t : Received) (b : Bool) → b ≡ is_all_taken t i → IsKept s i first states t.done.now t.pending.now t.owed.now own → IsInOrder t.taken.now → IsInOrder t.tray.now
+pub taken_is : (s : System) (i first : ℕ) (states : States) (own : Option Key) (t : Received) (b : Bool) → b ≡ is_all_taken t i → IsValidComponent s i first states t.done.now t.pending.now t.owed.now own → IsInOrder t.taken.now → IsInOrder t.tray.now
     → (b ≡ true) ↔ IsTaken (machine s) i (record_of states first t.done.now t.pending.now t.owed.now) t.taken.now t.tray.now
 taken_is s i first states own t b e kept taken tray =
     (λ h. taken_from s i t first taken.fits tray.fits kept.ready kept.ahead kept.waiting kept.owing (sym e ∙ h), λ h. e ∙ taken_by s i t first taken.fits tray.fits kept.ready kept.ahead kept.waiting kept.owing h)

@@ -6,7 +6,7 @@ use Rattle.virtual_time.specs.Records.{Record, back_at, undone, roll_back_of, la
 use Rattle.virtual_time.specs.Bags.{has, hit, inputs}
 use Rattle.std.specs.Prelude.{nat_lt}
 use Rattle.std.proofs.lemmas.Bool.{lt-ltb}
-use Rattle.rollback.specs.Held.{last_of, is_last_later, is_last_another}
+use Rattle.rollback.specs.ComponentView.{last_of, is_last_later, is_last_another}
 
 module _ {S A : Type 0} (m : Machine S A) (i : ℕ) (x : Item A) where
   -- the record after all later entries were taken back

@@ -5,7 +5,7 @@ use Rattle.event_keys.specs.declared.outcome.Turned.{Turned}
 use Rattle.virtual_time.specs.Entries.{entry_key}
 use Rattle.message_balance.specs.declared.done.Done.{Done}
 use Rattle.message_balance.specs.declared.done.Done.TheVariants.{Turn, Input}
-use Rattle.rollback.specs.Kept.{entry_of}
+use Rattle.rollback.specs.ComponentInvariant.{entry_of}
 
 -- the done entry is below a bound
 abbrev pub is_done_below : ℕ → Done → Bool

@@ -1,10 +1,10 @@
 pub mod Flight
 pub mod Post
 pub mod Replays
-pub mod Held
+pub mod ComponentView
 pub mod Stepped
 pub mod Falling
-pub mod Kept
+pub mod ComponentInvariant
 pub mod Refusals
 pub mod Coming
 pub mod Reading
@@ -13,3 +13,5 @@ pub mod Runs
 pub mod Same
 pub mod SameLaws
 pub mod Matched
+pub mod Laws
+pub mod Grown

@@ -1,5 +1,5 @@
 -- When two components are equal.
-use Rattle.std.specs.Prelude.{◌==◌, ◌&&◌, Bool, true, false, Option, None, Some, List}
+use Rattle.std.specs.Prelude.{◌≡◌, ◌==◌, ◌&&◌, Bool, true, false, Option, None, Some, List}
 use Rattle.std.specs.Cmp.Lexicographic.{pointwise}
 use Rattle.terms.specs.Datum.{Datum}
 use Rattle.terms.specs.Named.{Named}
@@ -8,7 +8,7 @@ use Rattle.undo_records.specs.First.{same_state}
 use Rattle.virtual_time.specs.Entries.{Entry, Own, Input as Received, Item}
 use Rattle.virtual_time.specs.Records.{Record}
 use Rattle.task_seed.specs.Machines.{same_action}
-use Rattle.rollback.specs.Held.{Held}
+use Rattle.rollback.specs.ComponentView.{ComponentView}
 
 -- both idle, or the same action
 abbrev pub same_outcome : Option Named → Option Named → Bool
@@ -29,7 +29,7 @@ same_entry (Received x) (Own l p) = false
 same_entry (Received x) (Received y) = same_item x y
 
 -- equal setups, and the same number, bound and state of the base, and number of the first turn
-abbrev pub same_base : {P : Type 0} → (P → P → Bool) → Held P → Held P → Bool
+abbrev pub same_base : {P : Type 0} → (P → P → Bool) → ComponentView P → ComponentView P → Bool
 same_base eq a b = eq a.setup b.setup && ((a.number == b.number) && (bound_eq.ghosts.eq a.base b.base && ((a.history.first == b.history.first) && same_state a.history.base b.history.base)))
 
 -- the same done entries, pending inputs and owed antimessages
@@ -37,5 +37,9 @@ abbrev pub same_events : Record (List Datum) Named → Record (List Datum) Named
 same_events r q = pointwise same_entry r.done q.done && (pointwise same_item r.pending q.pending && pointwise same_item r.owed q.owed)
 
 -- components are equal where both hold
-abbrev pub same_held : {P : Type 0} → (P → P → Bool) → Held P → Held P → Bool
+abbrev pub same_held : {P : Type 0} → (P → P → Bool) → ComponentView P → ComponentView P → Bool
 same_held eq a b = same_base eq a b && same_events a.history b.history
+
+-- what equality tells: equal setups, and the same number, base and record
+abbrev pub HaveEqualParts : {P : Type 0} → (P → P → Bool) → ComponentView P → ComponentView P → Type 0
+HaveEqualParts eq a b = (eq a.setup b.setup ≡ true) × (a.number ≡ b.number) × (a.base ≡ b.base) × (a.history ≡ b.history)

@@ -24,7 +24,7 @@ use Rattle.virtual_time.specs.Entries.{Entry, Own, Input as Received, Item}
 use Rattle.virtual_time.specs.Records.{Record}
 use Rattle.task_seed.specs.Setups.{plan_of, source_of, horizon_of}
 use Rattle.task_seed.specs.Machines.{same_action}
-use Rattle.rollback.specs.Held.{Held}
+use Rattle.rollback.specs.ComponentView.{ComponentView}
 use Rattle.rollback.specs.Same.{same_outcome, same_item, same_entry, same_base, same_events, same_held}
 
 action_is : (a b : Named) → same_action a b ≡ true → a ≡ b
@@ -114,7 +114,7 @@ same_held_equiv laws =
     (and_equiv (on_equiv (λ h. h.history.first) numbers_equiv) (on_equiv (λ h. h.history.base) states_equiv)))))
     (on_equiv (λ h. h.history) events_equiv)
 
-base_is : {P : Type 0} (eq : P → P → Truth) (a b : Held P) → same_base eq a b ≡ true → (eq a.setup b.setup ≡ true) × (a.number ≡ b.number) × (a.base ≡ b.base) × (a.history.first ≡ b.history.first) × (a.history.base ≡ b.history.base)
+base_is : {P : Type 0} (eq : P → P → Truth) (a b : ComponentView P) → same_base eq a b ≡ true → (eq a.setup b.setup ≡ true) × (a.number ≡ b.number) × (a.base ≡ b.base) × (a.history.first ≡ b.history.first) × (a.history.base ≡ b.history.base)
 base_is eq a b h =
     let one = both_true (eq a.setup b.setup) ((a.number == b.number) && (bound_eq.ghosts.eq a.base b.base && ((a.history.first == b.history.first) && same_state a.history.base b.history.base))) h in
     let two = both_true (a.number == b.number) (bound_eq.ghosts.eq a.base b.base && ((a.history.first == b.history.first) && same_state a.history.base b.history.base)) one.1 in
@@ -129,14 +129,14 @@ events_is r q h =
     ((entries_decide r.done q.done).0 one.0, (items_decide r.pending q.pending).0 two.0, (items_decide r.owed q.owed).0 two.1)
 
 -- equal components have equal setups, and all else is the same
-pub held_is : {P : Type 0} (eq : P → P → Truth) (a b : Held P) → same_held eq a b ≡ true → (eq a.setup b.setup ≡ true) × (a.number ≡ b.number) × (a.base ≡ b.base) × (a.history ≡ b.history)
+pub held_is : {P : Type 0} (eq : P → P → Truth) (a b : ComponentView P) → same_held eq a b ≡ true → (eq a.setup b.setup ≡ true) × (a.number ≡ b.number) × (a.base ≡ b.base) × (a.history ≡ b.history)
 held_is eq a b h =
     let parts = both_true (same_base eq a b) (same_events a.history b.history) h in
     let base = base_is eq a b parts.0 in
     let events = events_is a.history b.history parts.1 in
     (base.0, base.1, base.2, λ i. record { base = base.4 i; first = base.3 i; done = events.0 i; pending = events.1 i; owed = events.2 i })
 
-pub held_from : {P : Type 0} (eq : P → P → Truth) (a b : Held P) → (eq a.setup b.setup ≡ true) × (a.number ≡ b.number) × (a.base ≡ b.base) × (a.history ≡ b.history) → same_held eq a b ≡ true
+pub held_from : {P : Type 0} (eq : P → P → Truth) (a b : ComponentView P) → (eq a.setup b.setup ≡ true) × (a.number ≡ b.number) × (a.base ≡ b.base) × (a.history ≡ b.history) → same_held eq a b ≡ true
 held_from eq a b h =
     both_by _ _
     (both_by _ _ h.0
@@ -148,5 +148,5 @@ held_from eq a b h =
     (both_by _ _ ((items_decide a.history.pending b.history.pending).1 (ap (λ r. r.pending) h.3)) ((items_decide a.history.owed b.history.owed).1 (ap (λ r. r.owed) h.3))))
 
 -- components of an equal base have the same number
-pub number_of_base : {P : Type 0} (eq : P → P → Truth) (a b : Held P) → same_base eq a b ≡ true → a.number ≡ b.number
+pub number_of_base : {P : Type 0} (eq : P → P → Truth) (a b : ComponentView P) → same_base eq a b ≡ true → a.number ≡ b.number
 number_of_base eq a b h = (base_is eq a b h).1

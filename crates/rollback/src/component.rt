@@ -1,7 +1,6 @@
 //! One component: what it has done, what waits, and its state.
 ghost use Rattle.std.specs.Prelude.{◌≡◌, ◌<◌, ◌+◌, ◌∷◌, ◌↔◌, [], None, Some, IfSome, true, length, IfOk, OnOk, OnErr, IsErrOf, IsTrue, is_some, not, option_map};
 ghost use Rattle.std.specs.Arc.{arc_value};
-ghost use Rattle.event_keys.specs.declared.key.Bound.TheVariants.{At};
 ghost use Rattle.event_keys.specs.Entries.{action_of};
 ghost use Rattle.event_keys.specs.Ranks.{rank, rank_of_bound};
 ghost use Rattle.raw_events.specs.Around.{is_nonempty};
@@ -11,8 +10,8 @@ ghost use Rattle.virtual_time.specs.Records.{roll_back_of};
 ghost use Rattle.task_seed.specs.Setups.{plan_of};
 ghost use Rattle.task_seed.specs.Setups.{system};
 ghost use Rattle.task_seed.specs.Turning.{key_of};
-ghost use Rattle.rollback.specs.Held.{machine_of, processed, next_key, last_key, last_of, is_last_idle, is_receiving, is_turning, start_record};
-ghost use Rattle.rollback.specs.Kept.{IsSmall, entry_of, turn_receivers};
+ghost use Rattle.rollback.specs.ComponentView.{machine_of, processed, next_key, last_key, last_of, is_last_idle, is_receiving, is_turning, start_held};
+ghost use Rattle.rollback.specs.ComponentInvariant.{IsSmall, entry_of, turn_receivers};
 ghost use Rattle.rollback.specs.Stepped.{HasNextKey, IsNextSent, IsNextTurn, IsUnsent, machine_at, next_entry, stepped};
 
 use crate::growth::{outcome_at, post_all, receivers_of_turn, take_input, take_turn};
@@ -56,31 +55,31 @@ pub struct Component<T: Turns> {
 impl<T: Turns> Model for Component<T> {
     ghost use Rattle.std.specs.Arc.{arc_value};
     ghost use Rattle.task_seed.specs.declared.setup.Setup.{Setup};
-    ghost use Rattle.rollback.specs.Held.{Held};
+    ghost use Rattle.rollback.specs.ComponentView.{ComponentView};
     ghost use Rattle.std.specs.Coded.{codes};
     ghost use Rattle.terms.specs.Datum.{datum_code};
     ghost use Rattle.terms.specs.contracts.scalar.Shape as shape;
     ghost use Rattle.terms.specs.contracts.term.Term as term;
     ghost use Rattle.terms.specs.contracts.effect.Effect as effect;
 
-    ghost Value = { Held (Setup T) };
+    ghost Value = { ComponentView (Setup T) };
 
     ghost coded = { Prim.hlevel (codes, shape.the_row.coded, term.the_row.coded, effect.the_row.coded, datum_code) };
 
     ghost use Rattle.task_seed.specs.Setups.{system};
-    ghost use Rattle.rollback.specs.Kept.{record_of, IsKept};
+    ghost use Rattle.rollback.specs.ComponentInvariant.{record_of, IsValidComponent};
     ghost use Rattle.rollback.specs.Reading.{IsRead};
 
     ghost view = { λ c. record { setup = arc_value c.setup; number = c.number; base = c.base; history = record_of c.store c.first c.done c.pending c.owed } };
 
-    ghost invariant = { λ c. IsKept (system T.turn_of (arc_value c.setup)) c.number c.first c.store c.done c.pending c.owed c.coming × IsRead T.turn_of T.stands (arc_value c.setup) c.number c.ahead };
+    ghost invariant = { λ c. IsValidComponent (system T.turn_of (arc_value c.setup)) c.number c.first c.store c.done c.pending c.owed c.coming × IsRead T.turn_of T.stands (arc_value c.setup) c.number c.ahead };
 }
 
 impl<T: Turns> Component<T> {
     /// Component `number` of a setup, at its start.
     pub fn new(alloc: Global, setup: Arc<Setup<T>>, number: u16) -> Result<Component<T>, NoMemory>
         requires { number < length (composition (plan_of (arc_value setup))) }
-        ensures { IfOk result (λ c. c ≡ record { setup = arc_value setup; number = number; base = At (record { tick = 0; component = 0; number = 0 }); history = start_record (machine_of T.turn_of (arc_value setup)) number }) }
+        ensures { IfOk result (λ c. c ≡ start_held T.turn_of (arc_value setup) number) }
     {
         let state = setup.plan().start(alloc, number)?;
         let store = Store::new(alloc, state)?;

@@ -1,7 +1,7 @@
 //! Steps that copy what they send.
 ghost use Rattle.std.specs.Prelude.{◌≡◌, ◌↔◌, [], None, IfOk, OnOk, OnErr, IsErrOf, IsTrue};
 ghost use Rattle.event_keys.specs.declared.message.Sign.TheVariants.{Plus};
-ghost use Rattle.rollback.specs.Held.{is_turning};
+ghost use Rattle.rollback.specs.ComponentView.{is_turning};
 ghost use Rattle.rollback.specs.Stepped.{HasNextKey, IsNextSent, next_entry, stepped};
 
 use crate::component::Component;

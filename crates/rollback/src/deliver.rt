@@ -1,19 +1,18 @@
 //! What comes to a component: messages and antimessages.
-ghost use Rattle.std.specs.Prelude.{◌≡◌, ◌≤◌, [], nat_lt, true, false, is_some, length};
+ghost use Rattle.std.specs.Prelude.{◌≡◌, ◌≤◌, [], true, false, is_some, length};
 ghost use Rattle.event_keys.specs.declared.message.Sign.TheVariants.{Plus, Minus};
 ghost use Rattle.raw_events.specs.Around.{first_where};
 ghost use Rattle.raw_events.specs.Onto.{onto};
 ghost use Rattle.antimessage.specs.Bags.{is_one, insert as insert_one, remove as remove_one};
 ghost use Rattle.antimessage.specs.Order.{Fits, IsInOrder};
-ghost use Rattle.virtual_time.specs.Bags.{insert, remove, has, inputs};
+ghost use Rattle.virtual_time.specs.Bags.{has};
 ghost use Rattle.virtual_time.specs.Entries.{latest};
-ghost use Rattle.virtual_time.specs.Records.{back_at, back_by_message, back_by_antimessage, back_until, before_last, later, not_later, message_comes, antimessage_comes};
 ghost use Rattle.rollback.specs.Falling.{Falls};
 ghost use Rattle.rollback.specs.Flight.{goes, item_of};
-ghost use Rattle.rollback.specs.Held.{comes, back_by, is_last_later, is_last_another};
-ghost use Rattle.rollback.specs.Kept.{IsTimed, entries_of, is_done_later, is_entry_input, is_first_another, is_first_input, is_first_passed, is_any_input, is_first_greater};
+ghost use Rattle.rollback.specs.ComponentView.{is_last_later, is_last_another};
+ghost use Rattle.rollback.specs.ComponentInvariant.{IsTimed, entries_of, is_done_later, is_entry_input, is_first_another, is_first_input, is_first_passed, is_any_input, is_first_greater};
 ghost use Rattle.rollback.specs.Post.{opposite, opposed};
-ghost use Rattle.rollback.specs.Stepped.{IsUnsent, machine_at};
+ghost use Rattle.rollback.specs.Stepped.{IsUnsent, back_before, back_to, done_since, is_input_done, later_than, machine_at, taken_back, taken_back_by_antimessage, taken_back_by_message, with_antimessage, with_coming, with_message, with_owed, with_pending, without_owed, without_pending};
 
 use crate::component::Component;
 use crate::keys::{fits, is_below, key_of};
@@ -97,9 +96,9 @@ impl<T: Turns> Component<T> {
     /// number of the entries that were taken back.
     pub fn deliver(&mut self, cell: EventCell<Signed>, out: &mut Bag) -> u64
         requires { cell.message.to ≡ self.old.number }
-        ensures record { self.new ≡ record self.old { history = comes (machine_at T.turn_of self.old) cell.sign (item_of cell) self.old.history } }
-        ensures sent { IsUnsent T.turn_of self.old (back_by (machine_at T.turn_of self.old) cell.sign (item_of cell) self.old.history) out.old out.new }
-        ensures count { result ≡ length (back_by (machine_at T.turn_of self.old) cell.sign (item_of cell) self.old.history) }
+        ensures record { self.new ≡ with_coming T.turn_of self.old cell }
+        ensures sent { IsUnsent T.turn_of self.old (taken_back T.turn_of self.old cell) out.old out.new }
+        ensures count { result ≡ length (taken_back T.turn_of self.old cell) }
     {
         match cell.value().sign {
             Sign::Plus => self.deliver_message(cell, out),
@@ -109,9 +108,9 @@ impl<T: Turns> Component<T> {
 
     fn deliver_message(&mut self, mut cell: EventCell<Signed>, out: &mut Bag) -> u64
         requires { goes Plus self.old.number cell ≡ true }
-        ensures record { self.new ≡ record self.old { history = message_comes (machine_at T.turn_of self.old) (item_of cell) self.old.history } }
-        ensures sent { IsUnsent T.turn_of self.old (back_by_message (machine_at T.turn_of self.old) (item_of cell) self.old.history) out.old out.new }
-        ensures count { result ≡ length (back_by_message (machine_at T.turn_of self.old) (item_of cell) self.old.history) }
+        ensures record { self.new ≡ with_message T.turn_of self.old cell }
+        ensures sent { IsUnsent T.turn_of self.old (taken_back_by_message T.turn_of self.old cell) out.old out.new }
+        ensures count { result ≡ length (taken_back_by_message T.turn_of self.old cell) }
     {
         if self.take_owed(&mut cell) {
             return 0;
@@ -125,9 +124,9 @@ impl<T: Turns> Component<T> {
 
     fn deliver_antimessage(&mut self, mut cell: EventCell<Signed>, out: &mut Bag) -> u64
         requires { goes Minus self.old.number cell ≡ true }
-        ensures record { self.new ≡ record self.old { history = antimessage_comes (machine_at T.turn_of self.old) (item_of cell) self.old.history } }
-        ensures sent { IsUnsent T.turn_of self.old (back_by_antimessage (machine_at T.turn_of self.old) (item_of cell) self.old.history) out.old out.new }
-        ensures count { result ≡ length (back_by_antimessage (machine_at T.turn_of self.old) (item_of cell) self.old.history) }
+        ensures record { self.new ≡ with_antimessage T.turn_of self.old cell }
+        ensures sent { IsUnsent T.turn_of self.old (taken_back_by_antimessage T.turn_of self.old cell) out.old out.new }
+        ensures count { result ≡ length (taken_back_by_antimessage T.turn_of self.old cell) }
     {
         if self.take_pending(&mut cell) {
             return 0;
@@ -153,7 +152,7 @@ impl<T: Turns> Component<T> {
     // Takes the antimessage that is owed for a message, if there is one.
     fn take_owed(&mut self, cell: &mut EventCell<Signed>) -> bool
         requires { goes Plus self.old.number cell.old ≡ true }
-        ensures record { self.new ≡ record self.old { history = record self.old.history { owed = remove (machine_at T.turn_of self.old) (item_of cell.old) self.old.history.owed } } }
+        ensures record { self.new ≡ without_owed T.turn_of self.old cell.old }
         ensures answer { result ≡ has (machine_at T.turn_of self.old) (item_of cell.old) self.old.history.owed }
         ensures kept { result ≡ false → self.new ≡ self.old }
         ensures cell { cell.new ≡ cell.old }
@@ -164,7 +163,7 @@ impl<T: Turns> Component<T> {
     // Takes the pending message of an antimessage, if there is one.
     fn take_pending(&mut self, cell: &mut EventCell<Signed>) -> bool
         requires { goes Minus self.old.number cell.old ≡ true }
-        ensures record { self.new ≡ record self.old { history = record self.old.history { pending = remove (machine_at T.turn_of self.old) (item_of cell.old) self.old.history.pending } } }
+        ensures record { self.new ≡ without_pending T.turn_of self.old cell.old }
         ensures answer { result ≡ has (machine_at T.turn_of self.old) (item_of cell.old) self.old.history.pending }
         ensures kept { result ≡ false → self.new ≡ self.old }
         ensures cell { cell.new ≡ cell.old }
@@ -176,7 +175,7 @@ impl<T: Turns> Component<T> {
     fn wait(&mut self, cell: EventCell<Signed>)
         requires here { goes Plus self.old.number cell ≡ true }
         requires late { latest 0 self.old.history.done ≤ (item_of cell).key }
-        ensures { self.new ≡ record self.old { history = record self.old.history { pending = insert (machine_at T.turn_of self.old) (item_of cell) self.old.history.pending } } }
+        ensures { self.new ≡ with_pending T.turn_of self.old cell }
     {
         put(&mut self.pending, cell);
     }
@@ -184,7 +183,7 @@ impl<T: Turns> Component<T> {
     // An antimessage is owed from now on.
     fn owe(&mut self, cell: EventCell<Signed>)
         requires { goes Minus self.old.number cell ≡ true }
-        ensures { self.new ≡ record self.old { history = record self.old.history { owed = insert (machine_at T.turn_of self.old) (item_of cell) self.old.history.owed } } }
+        ensures { self.new ≡ with_owed T.turn_of self.old cell }
     {
         put(&mut self.owed, cell);
     }
@@ -204,8 +203,8 @@ impl<T: Turns> Component<T> {
     // Takes the done entries back that are later than a message.
     fn unwind_later(&mut self, message: &Signed, out: &mut Bag)
         requires { goes Plus self.old.number message.now ≡ true }
-        ensures record { self.new ≡ record self.old { history = back_at (machine_at T.turn_of self.old) (later (machine_at T.turn_of self.old) (item_of message.now) self.old.history.done) (not_later (machine_at T.turn_of self.old) (item_of message.now) self.old.history.done) self.old.history } }
-        ensures sent { IsUnsent T.turn_of self.old (later (machine_at T.turn_of self.old) (item_of message.now) self.old.history.done) out.old out.new }
+        ensures record { self.new ≡ back_before T.turn_of self.old message.now }
+        ensures sent { IsUnsent T.turn_of self.old (later_than T.turn_of self.old message.now) out.old out.new }
     {
         while self.is_last_later(message) {
             self.roll_back(out);
@@ -224,7 +223,7 @@ impl<T: Turns> Component<T> {
     // Whether the message of an antimessage is done.
     fn has_done(&mut self, antimessage: &Signed) -> bool
         requires { goes Minus self.old.number antimessage.now ≡ true }
-        ensures answer { result ≡ nat_lt 0 (inputs (machine_at T.turn_of self.old) self.old.history.done (item_of antimessage.now).key (item_of antimessage.now).action) }
+        ensures answer { result ≡ is_input_done T.turn_of self.old antimessage.now }
         ensures kept { self.new ≡ self.old }
     {
         is_timed(antimessage);
@@ -234,8 +233,8 @@ impl<T: Turns> Component<T> {
     // Takes the done entries back from the last message of an antimessage on, that one too.
     fn unwind_until(&mut self, antimessage: &Signed, out: &mut Bag)
         requires { goes Minus self.old.number antimessage.now ≡ true }
-        ensures record { self.new ≡ record self.old { history = back_at (machine_at T.turn_of self.old) (back_until (machine_at T.turn_of self.old) (item_of antimessage.now) self.old.history.done) (before_last (machine_at T.turn_of self.old) (item_of antimessage.now) self.old.history.done) self.old.history } }
-        ensures sent { IsUnsent T.turn_of self.old (back_until (machine_at T.turn_of self.old) (item_of antimessage.now) self.old.history.done) out.old out.new }
+        ensures record { self.new ≡ back_to T.turn_of self.old antimessage.now }
+        ensures sent { IsUnsent T.turn_of self.old (done_since T.turn_of self.old antimessage.now) out.old out.new }
     {
         while self.is_last_another(antimessage) {
             self.roll_back(out);

@@ -2,12 +2,13 @@
 ghost use Rattle.std.specs.Prelude.{◌≡◌, ◌<◌, ◌^◌, [], ◌++◌, IfSome, map, length, reverse};
 ghost use Rattle.event_keys.specs.Ranks.{rank_of_bound};
 ghost use Rattle.virtual_time.specs.Entries.{below};
-ghost use Rattle.virtual_time.specs.Records.{cut_of, turns_among};
+ghost use Rattle.virtual_time.specs.Records.{turns_among};
 ghost use Rattle.rollback.specs.Falling.{Falls};
 ghost use Rattle.raw_events.specs.Onto.{onto};
-ghost use Rattle.rollback.specs.Kept.{entries_of};
+ghost use Rattle.rollback.specs.ComponentInvariant.{entries_of};
 ghost use Rattle.task_seed.specs.Taken.{turn_of};
 ghost use Rattle.rollback.specs.Dropped.{dones_below, dones_from, key_in, newest_key, number_after, oldest_below, turn_in, turns_in, without_oldest_below};
+ghost use Rattle.rollback.specs.ComponentView.{cut_at};
 ghost use Rattle.rollback.specs.Stepped.{machine_at};
 
 use crate::component::Component;
@@ -30,7 +31,7 @@ impl<T: Turns> Component<T> {
     /// taken back any more. The answer is the dropped own turns, the oldest first, all after the cursor. The caller's bound is neither
     /// below the base nor above the next key.
     pub fn drop_below(&mut self, bound: Bound) -> EventList<Turned>
-        ensures record { self.new ≡ record self.old { base = bound; history = cut_of (machine_at T.turn_of self.old) self.old.number (rank_of_bound bound) self.old.history } }
+        ensures record { self.new ≡ cut_at (machine_at T.turn_of self.old) bound self.old }
         ensures turns { map turn_of result.after ≡ onto (turns_among (below (rank_of_bound bound) self.old.history.done)) [] }
         ensures front { result.before ≡ [] }
     {

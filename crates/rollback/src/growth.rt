@@ -12,8 +12,9 @@ ghost use Rattle.plans.specs.Steps.{applied};
 ghost use Rattle.task_seed.specs.Setups.{system, plan_of};
 ghost use Rattle.task_seed.specs.Turning.{turn_in};
 ghost use Rattle.task_seed.specs.Machines.{turn_outcome};
-ghost use Rattle.rollback.specs.Held.{machine_of};
-ghost use Rattle.rollback.specs.Kept.{signed_by, signed_of, turn_receivers, IsGivenBack};
+ghost use Rattle.rollback.specs.Grown.{IsTurnSent, after_action, after_input, after_turn, done_turn, marked_as, with_done};
+ghost use Rattle.rollback.specs.ComponentView.{machine_of};
+ghost use Rattle.rollback.specs.ComponentInvariant.{signed_by, signed_of, turn_receivers, IsGivenBack};
 ghost use Rattle.rollback.specs.Post.{signed_to, post_all, IsPosted};
 
 use crate::keys::fits;
@@ -46,7 +47,7 @@ pub(crate) fn advance(
     action: &Action,
     store: &mut Store,
 ) -> Result<(), NoMemory>
-    ensures ok { OnOk result (store.new ≡ record { current = applied (composition plan.now) i action.now store.old.current; below = store.old.current ∷ store.old.below }) }
+    ensures ok { OnOk result (store.new ≡ after_action plan.now i action.now store.old) }
     ensures err { OnErr result (store.new ≡ store.old) }
 {
     store.mark(alloc)?;
@@ -65,7 +66,7 @@ pub(crate) fn advance_turn<T: Turns>(
     outcome: &Outcome,
     store: &mut Store,
 ) -> Result<(), NoMemory>
-    ensures ok { OnOk result (store.new ≡ record { current = by_own (machine_of T.turn_of setup.now) i (action_of outcome.now) store.old.current; below = store.old.current ∷ store.old.below }) }
+    ensures ok { OnOk result (store.new ≡ marked_as (by_own (machine_of T.turn_of setup.now) i (action_of outcome.now) store.old.current) store.old) }
     ensures err { OnErr result (store.new ≡ store.old) }
 {
     match outcome {
@@ -185,8 +186,8 @@ pub(crate) fn take_input(
     pending: &mut EventList<Signed>,
 ) -> Result<(), NoMemory>
     requires { IsTrue (is_nonempty pending.old.after) }
-    ensures state { OnOk result (IfSome (head pending.old.after) (λ first. store.new ≡ record { current = applied (composition plan.now) i first.message.action store.old.current; below = store.old.current ∷ store.old.below })) }
-    ensures done { OnOk result (IfSome (head pending.old.after) (λ first. done.new ≡ record done.old { before = Done.Input first ∷ done.old.before })) }
+    ensures state { OnOk result (IfSome (head pending.old.after) (λ first. store.new ≡ after_input plan.now i first store.old)) }
+    ensures done { OnOk result (IfSome (head pending.old.after) (λ first. done.new ≡ with_done (Done.Input first) done.old)) }
     ensures pending { OnOk result (pending.new ≡ record pending.old { after = tail pending.old.after }) }
     ensures store_kept { OnErr result (store.new ≡ store.old) }
     ensures done_kept { OnErr result (done.new ≡ done.old) }
@@ -226,9 +227,9 @@ pub(crate) fn take_turn<T: Turns>(
 ) -> Result<(), NoMemory>
     requires there { i < length (composition (plan_of setup.now)) }
     requires receivers { receivers.now ≡ turn_receivers (system T.turn_of setup.now) i turned.outcome }
-    ensures state { OnOk result (store.new ≡ record { current = by_own (machine_of T.turn_of setup.now) i (action_of turned.outcome) store.old.current; below = store.old.current ∷ store.old.below }) }
-    ensures done { OnOk result (done.new ≡ record done.old { before = Done.Turn turned (record { before = signed_of (system T.turn_of setup.now) Minus i turned.key turned.outcome; after = [] }) ∷ done.old.before }) }
-    ensures sent { OnOk result (IsPosted Plus (sent (machine_of T.turn_of setup.now) i (rank turned.key) (action_of turned.outcome)) out.old out.new) }
+    ensures state { OnOk result (store.new ≡ after_turn (machine_of T.turn_of setup.now) i turned store.old) }
+    ensures done { OnOk result (done.new ≡ with_done (done_turn (system T.turn_of setup.now) i turned) done.old) }
+    ensures sent { OnOk result (IsTurnSent (machine_of T.turn_of setup.now) i turned out.old out.new) }
     ensures store_kept { OnErr result (store.new ≡ store.old) }
     ensures done_kept { OnErr result (done.new ≡ done.old) }
     ensures out_kept { OnErr result (out.new ≡ out.old) }

@@ -1,12 +1,8 @@
 //! Entries processed and taken back.
-ghost use Rattle.std.specs.Prelude.{◌≡◌, ◌≤◌, ◌+◌, ℕ, take};
-ghost use Rattle.terms.specs.Named.{Named};
-ghost use Rattle.event_keys.specs.declared.message.Sign.TheVariants.{Plus, Minus};
-ghost use Rattle.virtual_time.specs.Bags.{times};
+ghost use Rattle.std.specs.Prelude.{◌≡◌, ◌≤◌, take};
 ghost use Rattle.virtual_time.specs.Records.{roll_back_times};
-ghost use Rattle.rollback.specs.Flight.{in_flight};
 ghost use Rattle.rollback.specs.Runs.{IsRun, IsEnd, IsTrip};
-ghost use Rattle.rollback.specs.Stepped.{IsUnsent, machine_at};
+ghost use Rattle.rollback.specs.Stepped.{GainsEvenly, IsUnsent, machine_at};
 
 use crate::component::Component;
 use crate::refused::ProcessRefused;
@@ -33,7 +29,7 @@ impl<T: Turns> Component<T> {
     pub fn there_and_back(&mut self, alloc: Global, most: u32, out: &mut Bag) -> Trip
         ensures same { self.new ≡ self.old }
         ensures trip { IsTrip (machine_at T.turn_of self.old) self.old.number self.old.history out.old out.new result.entries most result.stopped }
-        ensures balance { (j k : ℕ) (action : Named) → times (machine_at T.turn_of self.old) (in_flight Plus j out.new) k action + times (machine_at T.turn_of self.old) (in_flight Minus j out.old) k action ≡ times (machine_at T.turn_of self.old) (in_flight Minus j out.new) k action + times (machine_at T.turn_of self.old) (in_flight Plus j out.old) k action }
+        ensures balance { GainsEvenly T.turn_of self.old out.old out.new }
         ensures most { result.entries ≤ most }
     {
         machine_is_lawful(self.setup());

@@ -4,7 +4,7 @@ ghost use Rattle.event_keys.specs.Ranks.{rank, rank_of_bound};
 ghost use Rattle.antimessage.specs.Order.{KeyFits};
 ghost use Rattle.virtual_time.specs.Entries.{entry_key};
 ghost use Rattle.task_seed.specs.Machines.{end_rank};
-ghost use Rattle.rollback.specs.Kept.{entry_of};
+ghost use Rattle.rollback.specs.ComponentInvariant.{entry_of};
 
 use event_keys::laws::{bound_rank_law, key_rank_law, rank_law};
 use event_keys::{Bound, Key};

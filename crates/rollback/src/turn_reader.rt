@@ -2,7 +2,7 @@
 ghost use Rattle.std.specs.Prelude.{◌≡◌, ◌<◌, ◌+◌, None, Some, IfSome, IsSome};
 ghost use Rattle.task_seed.specs.Setups.{system};
 ghost use Rattle.task_seed.specs.Turning.{key_of, turn_in};
-ghost use Rattle.rollback.specs.Kept.{IsSmall};
+ghost use Rattle.rollback.specs.ComponentInvariant.{IsSmall};
 ghost use Rattle.rollback.specs.Reading.{IsRead};
 
 use crate::keys::fits;

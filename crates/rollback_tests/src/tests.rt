@@ -8,130 +8,202 @@ mod refused;
 mod steps;
 
 use event_keys::Bound;
-use given::{AT_1, AT_2, AT_3, Given, minus, passes, plus, start};
+use given::{AT_1, AT_2, AT_3, Given, PASS_2, UNSENT_2, start};
 use rollback::{ProcessRefused, Trip};
 use std::test::Fail;
 use steps::Step::{
-    Base, Come, Drop, Go, Idled, Meet, Next, NoneDropped, Out, Passed, Process, RollBack,
+    self, Anew, Base, Begin, Come, Drop, Go, Idled, Meet, Next, NoneDropped, Out, Passed, Process,
+    RollBack, Same,
 };
-use steps::{EMPTY, ENDED, assert_runs, assert_same, out};
+use steps::{EMPTY, ENDED, assert_steps};
 use terms::{NoMemory, Refusal};
 
-#[test]
-fn a_message_takes_back_what_is_later(rt: HostRuntime) -> Result<(), Fail> {
-    assert_runs(&rt, 0, &[Process(Ok(AT_2)), out(passes(AT_2, 1, 0))])?;
-    let steps = [
-        Process(Ok(AT_1)),
-        Process(Ok(AT_3)),
-        EMPTY,
-        Come(plus(AT_2), 1),
-        Next(Bound::At(AT_2)),
-        EMPTY,
-    ];
-    Ok(assert_runs(&rt, 1, &steps)?)
-}
+const STRAGGLERS: [Step; 48] = [
+    // a message takes back what is later
+    Begin(0),
+    Process(Ok(AT_2)),
+    Out(AT_2, 1, 0),
+    Begin(1),
+    Process(Ok(AT_1)),
+    Process(Ok(AT_3)),
+    EMPTY,
+    Come(PASS_2, 1),
+    Next(Bound::At(AT_2)),
+    EMPTY,
+    // a pending message is taken back
+    Begin(1),
+    Process(Ok(AT_1)),
+    Process(Ok(AT_3)),
+    EMPTY,
+    Come(PASS_2, 1),
+    Come(UNSENT_2, 0),
+    Next(Bound::At(AT_3)),
+    Process(Ok(AT_3)),
+    EMPTY,
+    Anew(1),
+    Process(Ok(AT_1)),
+    Process(Ok(AT_3)),
+    EMPTY,
+    Same,
+    // a turn is rolled back once
+    Begin(0),
+    Process(Ok(AT_2)),
+    RollBack(true),
+    Out(AT_2, 1, 1),
+    Meet(PASS_2),
+    EMPTY,
+    RollBack(false),
+    EMPTY,
+    Anew(0),
+    Same,
+    // an antimessage takes back from its message on
+    Begin(1),
+    Process(Ok(AT_1)),
+    EMPTY,
+    Come(PASS_2, 0),
+    Process(Ok(AT_2)),
+    Process(Ok(AT_3)),
+    Out(AT_3, 1, 0),
+    Come(UNSENT_2, 2),
+    Out(AT_3, 1, 1),
+    Next(Bound::At(AT_3)),
+    Anew(1),
+    Process(Ok(AT_1)),
+    EMPTY,
+    Same,
+];
+
+const OWED: [Step; 29] = [
+    // an antimessage is owed until its message comes
+    Begin(1),
+    Come(UNSENT_2, 0),
+    Come(PASS_2, 0),
+    Next(Bound::At(AT_1)),
+    EMPTY,
+    Anew(1),
+    Same,
+    // and once
+    Begin(1),
+    Process(Ok(AT_1)),
+    EMPTY,
+    Come(UNSENT_2, 0),
+    Come(PASS_2, 0),
+    Next(Bound::At(AT_3)),
+    Come(PASS_2, 0),
+    Next(Bound::At(AT_2)),
+    // a message that comes twice is taken back once
+    Begin(0),
+    Process(Ok(AT_2)),
+    RollBack(true),
+    Process(Ok(AT_2)),
+    Out(AT_2, 2, 1),
+    Begin(1),
+    Come(PASS_2, 0),
+    Come(PASS_2, 0),
+    Come(UNSENT_2, 0),
+    EMPTY,
+    Anew(1),
+    Come(PASS_2, 0),
+    EMPTY,
+    Same,
+];
+
+const THERE_AND_BACK: [Step; 15] = [
+    // component 0 passes the token and then idles
+    Begin(0),
+    Go(
+        1,
+        Trip {
+            entries: 1,
+            stopped: None,
+        },
+    ),
+    Out(AT_2, 1, 1),
+    Anew(0),
+    Same,
+    Begin(0),
+    Go(
+        2,
+        Trip {
+            entries: 2,
+            stopped: None,
+        },
+    ),
+    Out(AT_2, 1, 1),
+    Anew(0),
+    Same,
+    Begin(0),
+    Go(
+        7,
+        Trip {
+            entries: 2,
+            stopped: Some(ProcessRefused::NothingPending),
+        },
+    ),
+    Out(AT_2, 1, 1),
+    Anew(0),
+    Same,
+];
+
+const DROPPED: [Step; 40] = [
+    Begin(1),
+    Process(Ok(AT_1)),
+    Process(Ok(AT_3)),
+    EMPTY,
+    Drop(Bound::At(AT_3)),
+    Base(Bound::At(AT_3)),
+    Idled(AT_1),
+    NoneDropped,
+    RollBack(true),
+    Next(Bound::At(AT_3)),
+    RollBack(false),
+    EMPTY,
+    Process(Ok(AT_3)),
+    Drop(Bound::End),
+    Idled(AT_3),
+    NoneDropped,
+    RollBack(false),
+    // turns are dropped in order
+    Begin(1),
+    Process(Ok(AT_1)),
+    Come(PASS_2, 0),
+    Process(Ok(AT_2)),
+    Process(Ok(AT_3)),
+    Drop(Bound::End),
+    Idled(AT_1),
+    Passed(AT_3),
+    NoneDropped,
+    Begin(1),
+    Process(Ok(AT_1)),
+    Process(Ok(AT_3)),
+    Drop(Bound::End),
+    Idled(AT_1),
+    Idled(AT_3),
+    NoneDropped,
+    // nothing is pending at the end
+    Begin(1),
+    Process(Ok(AT_1)),
+    Process(Ok(AT_3)),
+    Next(Bound::End),
+    Process(ENDED),
+    Next(Bound::End),
+    EMPTY,
+];
 
 #[test]
-fn a_pending_message_is_taken_back(rt: HostRuntime) -> Result<(), Fail> {
-    let steps = [
-        Process(Ok(AT_1)),
-        Process(Ok(AT_3)),
-        EMPTY,
-        Come(plus(AT_2), 1),
-        Come(minus(AT_2), 0),
-        Next(Bound::At(AT_3)),
-        Process(Ok(AT_3)),
-        EMPTY,
-    ];
-    let idled = [Process(Ok(AT_1)), Process(Ok(AT_3)), EMPTY];
-    Ok(assert_same(&rt, 1, &steps, &idled)?)
+fn stragglers_and_antimessages(rt: HostRuntime) -> Result<(), Fail> {
+    assert_steps(&rt, &STRAGGLERS)?;
+    Ok(assert_steps(&rt, &OWED)?)
 }
 
-#[test]
-fn a_turn_is_rolled_back_once(rt: HostRuntime) -> Result<(), Fail> {
-    let steps = [
-        Process(Ok(AT_2)),
-        RollBack(true),
-        out(passes(AT_2, 1, 1)),
-        Meet(plus(AT_2)),
-        EMPTY,
-        RollBack(false),
-        EMPTY,
-    ];
-    Ok(assert_same(&rt, 0, &steps, &[])?)
-}
-
-#[test]
-fn an_antimessage_is_owed_until_its_message_comes(rt: HostRuntime) -> Result<(), Fail> {
-    let steps = [
-        Come(minus(AT_2), 0),
-        Come(plus(AT_2), 0),
-        Next(Bound::At(AT_1)),
-        EMPTY,
-    ];
-    Ok(assert_same(&rt, 1, &steps, &[])?)
-}
-
-#[test]
-fn an_antimessage_is_owed_once(rt: HostRuntime) -> Result<(), Fail> {
-    let steps = [
-        Process(Ok(AT_1)),
-        EMPTY,
-        Come(minus(AT_2), 0),
-        Come(plus(AT_2), 0),
-        Next(Bound::At(AT_3)),
-        Come(plus(AT_2), 0),
-        Next(Bound::At(AT_2)),
-    ];
-    Ok(assert_runs(&rt, 1, &steps)?)
-}
-
-#[test]
-fn a_message_that_comes_twice_is_taken_back_once(rt: HostRuntime) -> Result<(), Fail> {
-    let sender = [
-        Process(Ok(AT_2)),
-        RollBack(true),
-        Process(Ok(AT_2)),
-        out(passes(AT_2, 2, 1)),
-    ];
-    assert_runs(&rt, 0, &sender)?;
-    let twice = [
-        Come(plus(AT_2), 0),
-        Come(plus(AT_2), 0),
-        Come(minus(AT_2), 0),
-        EMPTY,
-    ];
-    Ok(assert_same(&rt, 1, &twice, &[Come(plus(AT_2), 0), EMPTY])?)
-}
-
-#[test]
-fn an_antimessage_takes_back_from_its_message_on(rt: HostRuntime) -> Result<(), Fail> {
-    let steps = [
-        Process(Ok(AT_1)),
-        EMPTY,
-        Come(plus(AT_2), 0),
-        Process(Ok(AT_2)),
-        Process(Ok(AT_3)),
-        out(passes(AT_3, 1, 0)),
-        Come(minus(AT_2), 2),
-        out(passes(AT_3, 1, 1)),
-        Next(Bound::At(AT_3)),
-    ];
-    Ok(assert_same(&rt, 1, &steps, &[Process(Ok(AT_1)), EMPTY])?)
-}
-
-// Component 0 passes the token and then idles.
 #[test]
 fn what_is_processed_is_taken_back(rt: HostRuntime) -> Result<(), Fail> {
-    for (most, entries, stopped) in [
-        (1, 1, None),
-        (2, 2, None),
-        (7, 2, Some(ProcessRefused::NothingPending)),
-    ] {
-        let trip = Trip { entries, stopped };
-        assert_same(&rt, 0, &[Go(most, trip), out(passes(AT_2, 1, 1))], &[])?;
-    }
-    Ok(())
+    Ok(assert_steps(&rt, &THERE_AND_BACK)?)
+}
+
+#[test]
+fn what_is_below_the_bound_is_dropped_in_order(rt: HostRuntime) -> Result<(), Fail> {
+    Ok(assert_steps(&rt, &DROPPED)?)
 }
 
 #[test]
@@ -141,66 +213,6 @@ fn a_component_has_its_setup(rt: HostRuntime) -> Result<(), Fail> {
     assert!(rt; second.setup().key(1, 1) == Some(AT_3));
     assert!(rt; second.setup() == first.setup());
     Ok(())
-}
-
-#[test]
-fn what_is_below_the_bound_is_dropped(rt: HostRuntime) -> Result<(), Fail> {
-    let steps = [
-        Process(Ok(AT_1)),
-        Process(Ok(AT_3)),
-        EMPTY,
-        Drop(Bound::At(AT_3)),
-        Base(Bound::At(AT_3)),
-        Idled(AT_1),
-        NoneDropped,
-        RollBack(true),
-        Next(Bound::At(AT_3)),
-        RollBack(false),
-        EMPTY,
-        Process(Ok(AT_3)),
-        Drop(Bound::End),
-        Idled(AT_3),
-        NoneDropped,
-        RollBack(false),
-    ];
-    Ok(assert_runs(&rt, 1, &steps)?)
-}
-
-#[test]
-fn turns_are_dropped_in_order(rt: HostRuntime) -> Result<(), Fail> {
-    let passed_on = [
-        Process(Ok(AT_1)),
-        Come(plus(AT_2), 0),
-        Process(Ok(AT_2)),
-        Process(Ok(AT_3)),
-        Drop(Bound::End),
-        Idled(AT_1),
-        Passed(AT_3),
-        NoneDropped,
-    ];
-    assert_runs(&rt, 1, &passed_on)?;
-    let idled = [
-        Process(Ok(AT_1)),
-        Process(Ok(AT_3)),
-        Drop(Bound::End),
-        Idled(AT_1),
-        Idled(AT_3),
-        NoneDropped,
-    ];
-    Ok(assert_runs(&rt, 1, &idled)?)
-}
-
-#[test]
-fn nothing_is_pending_at_the_end(rt: HostRuntime) -> Result<(), Fail> {
-    let steps = [
-        Process(Ok(AT_1)),
-        Process(Ok(AT_3)),
-        Next(Bound::End),
-        Process(ENDED),
-        Next(Bound::End),
-        EMPTY,
-    ];
-    Ok(assert_runs(&rt, 1, &steps)?)
 }
 
 #[test]

@@ -11,7 +11,7 @@ use Rattle.task_seed.specs.Turning.{System}
 use Rattle.virtual_time.specs.Exchange.Stubs.{Stub as StubSeen}
 use Rattle.terms.specs.Named.{Named}
 use Rattle.exchange.specs.declared.stub.Stub.{Stub}
-use Rattle.exchange.specs.Shared.{is_end, is_ended, stub_or_start}
+use Rattle.exchange.specs.ExchangeView.{is_end, is_ended, stub_or_start}
 
 end_is : rank_of_bound End ≡ end_rank
 unfolding end_rank

@@ -8,7 +8,7 @@ use Rattle.task_seed.specs.declared.setup.Setup.{Setup}
 use Rattle.task_seed.specs.declared.turns.Turn.{Turn}
 use Rattle.exchange.specs.Start.{start_holding}
 use Rattle.std.proofs.lemmas.List.Elements.{All-nil, All-cons, All-head, All-tail, All-weaker}
-use Rattle.exchange.specs.Holding.{Holding}
+use Rattle.exchange.specs.LeaseView.{LeaseView}
 use Rattle.pools.specs.declared.places.Pass.{Pass}
 use Rattle.pools.specs.Passes.{holding}
 use Rattle.pools.specs.Places.{times, common, AreAlike, AreOnce}
@@ -37,7 +37,7 @@ pub started_once : {T : Type 0} (turn_of : T → ℕ → ℕ → Option Turn) (s
 started_once turn_of setup n x = subst (λ l. times x l ≤ 1) (sym (numbers_started turn_of setup 0 n)) (once_each x 0 n)
 
 -- the leases of an exchange at its start are of its setup
-pub started_setup : {T : Type 0} (turn_of : T → ℕ → ℕ → Option Turn) (setup : Setup T) (a n : ℕ) → All (λ (l : Holding (Setup T)). setup_of l ≡ setup) (map (start_holding turn_of setup) (range_with_len a n))
+pub started_setup : {T : Type 0} (turn_of : T → ℕ → ℕ → Option Turn) (setup : Setup T) (a n : ℕ) → All (λ (l : LeaseView (Setup T)). setup_of l ≡ setup) (map (start_holding turn_of setup) (range_with_len a n))
 started_setup turn_of setup a zero = All-nil _
 started_setup turn_of setup a (suc n) = All-cons (λ l. setup_of l ≡ setup) (start_holding turn_of setup a) _ refl (started_setup turn_of setup (a + 1) n)
 
@@ -46,7 +46,7 @@ module _ {T : Type 0} where
   paced_numbers [] = refl
   paced_numbers (p ∷ ps) = ap (λ ns. paced_number p ∷ ns) (paced_numbers ps)
 
-  pub paced_once : (ps : List (Paced T)) (ls : List (Holding (Setup T))) → map lease_in ps ≡ ls → AreOnce (map number_of ls) → AreOnce (map paced_number ps)
+  pub paced_once : (ps : List (Paced T)) (ls : List (LeaseView (Setup T))) → map lease_in ps ≡ ls → AreOnce (map number_of ls) → AreOnce (map paced_number ps)
   paced_once ps ls is once = subst AreOnce (sym (paced_numbers ps ∙ ap (map number_of) is)) once
 
   paced_all : (setup : Setup T) (ps : List (Paced T)) → All (λ l. setup_of l ≡ setup) (map lease_in ps) → All (λ p. paced_setup p ≡ setup) ps
@@ -60,7 +60,7 @@ module _ {T : Type 0} where
       let first : paced_setup p ≡ setup = All-head (λ q. paced_setup q ≡ setup) p ps each in
       All-weaker (λ q. paced_setup q ≡ setup) (λ q. Some (paced_setup p) ≡ Some (paced_setup q)) (λ q is. ap Some (first ∙ sym is)) (p ∷ ps) each
 
-  pub paced_alike : (setup : Setup T) (ps : List (Paced T)) (ls : List (Holding (Setup T))) → map lease_in ps ≡ ls → All (λ l. setup_of l ≡ setup) ls → AreAlike paced_setup ps
+  pub paced_alike : (setup : Setup T) (ps : List (Paced T)) (ls : List (LeaseView (Setup T))) → map lease_in ps ≡ ls → All (λ l. setup_of l ≡ setup) ls → AreAlike paced_setup ps
   paced_alike setup ps ls is each = alike setup ps (paced_all setup ps (subst (All (λ l. setup_of l ≡ setup)) (sym is) each))
 
   abbrev or_given : Setup T → Option (Setup T) → Setup T
@@ -75,7 +75,7 @@ module _ {T : Type 0} where
       let right : paced_setup p ≡ b = ap (or_given b) other in
       sym left ∙ sym first ∙ right
 
-  pub paced_of_one : (setup : Setup T) (ps : List (Paced T)) (ls : List (Holding (Setup T))) → map lease_in ps ≡ ls → All (λ l. setup_of l ≡ setup) ls → AreOfOne (Some setup) (common paced_setup ps)
+  pub paced_of_one : (setup : Setup T) (ps : List (Paced T)) (ls : List (LeaseView (Setup T))) → map lease_in ps ≡ ls → All (λ l. setup_of l ≡ setup) ls → AreOfOne (Some setup) (common paced_setup ps)
   paced_of_one setup ps ls is each = of_one setup ps (paced_all setup ps (subst (All (λ l. setup_of l ≡ setup)) (sym is) each))
 
   -- passes of two pools, whose things are of one setup

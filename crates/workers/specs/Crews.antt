@@ -2,7 +2,7 @@
 use Rattle.std.specs.Prelude.{◌≡◌, ℕ, ◌<◌, Option, Some}
 use Rattle.gvt.specs.Seats.{IsSeatOf}
 use Rattle.gvt.specs.declared.word.Published.{Published}
-use Rattle.exchange.specs.Holding.{Holding}
+use Rattle.exchange.specs.LeaseView.{LeaseView}
 use Rattle.pools.specs.declared.places.Pass.{Pass}
 use Rattle.pools.specs.declared.places.Pool.{Pool}
 use Rattle.pools.specs.Passes.{holding, IsOf as IsOfPool}
@@ -16,13 +16,13 @@ use Rattle.workers.specs.declared.shared.Shared.{Shared}
 
 module _ {T : Type 0} where
   -- the number of a lease is that of its component
-  abbrev pub number_of : Holding (Setup T) → ℕ
+  abbrev pub number_of : LeaseView (Setup T) → ℕ
   number_of lease = lease.component.number
 
-  abbrev pub setup_of : Holding (Setup T) → Setup T
+  abbrev pub setup_of : LeaseView (Setup T) → Setup T
   setup_of lease = lease.component.setup
 
-  abbrev pub lease_in : Paced T → Holding (Setup T)
+  abbrev pub lease_in : Paced T → LeaseView (Setup T)
   lease_in paced = paced.lease.value
 
   abbrev pub paced_number : Paced T → ℕ

@@ -1,7 +1,7 @@
 //! What stands between a worker and the lease that it runs ahead.
 ghost use Rattle.std.specs.Prelude.{◌≡◌, ◌≤◌, ◌⊎◌, None, IfOk, OnErr};
-ghost use Rattle.rollback.specs.Held.{machine_of};
-ghost use Rattle.exchange.specs.Holding.{IsAhead};
+ghost use Rattle.rollback.specs.ComponentView.{machine_of};
+ghost use Rattle.exchange.specs.LeaseView.{IsAhead};
 ghost use Rattle.workers.specs.Gates.{StaysItself};
 ghost use Rattle.rollback.specs.Stepped.{next_entry};
 

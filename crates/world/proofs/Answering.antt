@@ -27,7 +27,7 @@ use Rattle.task_seed.specs.declared.turns.Turn.{Turn}
 use Rattle.task_seed.specs.Setups.{system}
 use Rattle.task_seed.specs.Turning.{System}
 use Rattle.rollback.specs.Flight.{goes, in_flight, item_of}
-use Rattle.rollback.specs.Held.{Held, back_by, comes, last_key, last_of, machine_of, processed, sent_next}
+use Rattle.rollback.specs.ComponentView.{ComponentView, back_by, comes, last_key, last_of, machine_of, processed, sent_next}
 use Rattle.rollback.specs.Post.{IsPosted}
 use Rattle.rollback.specs.Stepped.{HasNextKey, IsNextSent, next_entry, stepped}
 use Rattle.world.specs.MachineLaws.{Laws}
@@ -70,7 +70,7 @@ module _ {T : Type 0} (turn_of : T → ℕ → ℕ → Option Turn) (w : Simulat
   count = length s.composition
 
   -- a step that changed one component and what is in flight
-  changed : (step : Step Named) (reply : Reply) (i : ℕ) (d : Held (Setup T)) (flight : List Signed) → i < length w.components → IsComponent w i d
+  changed : (step : Step Named) (reply : Reply) (i : ℕ) (d : ComponentView (Setup T)) (flight : List Signed) → i < length w.components → IsComponent w i d
       → ((sign : Sign) (j : ℕ) → count ≤ j → in_flight sign j flight ≡ [])
       → Answers m count (world_of m w) step reply (world_of m (record w { components = slice_set w.components i d; flight = flight })) → IsStep turn_of w step reply (record w { components = slice_set w.components i d; flight = flight })
   changed step reply i d flight there component inside answers =
@@ -105,10 +105,10 @@ module _ {T : Type 0} (turn_of : T → ℕ → ℕ → Option Turn) (w : Simulat
     no_component_rolls_back l = let many = is.many in inl (omega (arith, l, many), record { reply_is = refl; stays = refl })
 
     module _ (there : i < length w.components) where
-      found : (c : Held (Setup T)) × (slice_get w.components i ≡ Some c)
+      found : (c : ComponentView (Setup T)) × (slice_get w.components i ≡ Some c)
       found = get_there w.components i there
 
-      abbrev c : Held (Setup T)
+      abbrev c : ComponentView (Setup T)
       c = found.0
 
       abbrev was : slice_get w.components i ≡ Some c
@@ -127,8 +127,8 @@ module _ {T : Type 0} (turn_of : T → ℕ → ℕ → Option Turn) (w : Simulat
       next_in_world : next_of m i (record_of ((world_of m w).part i)) ≡ next_entry turn_of c
       next_in_world = ap (next_of m i) (record_is m laws.lawful w i c there was here.number) ∙ ap (λ n. next_of m n c.history) (sym here.number) ∙ sym next_is
 
-      pub step_processed : (key : Key) (components : List (Held (Setup T))) (flight : List Signed) → ((x : Held (Setup T)) → slice_get w.components i ≡ Some x → HasNextKey turn_of x key)
-          → ((x : Held (Setup T)) → slice_get w.components i ≡ Some x → (components ≡ slice_set w.components i (stepped turn_of x)) × IsNextSent turn_of x w.flight flight)
+      pub step_processed : (key : Key) (components : List (ComponentView (Setup T))) (flight : List Signed) → ((x : ComponentView (Setup T)) → slice_get w.components i ≡ Some x → HasNextKey turn_of x key)
+          → ((x : ComponentView (Setup T)) → slice_get w.components i ≡ Some x → (components ≡ slice_set w.components i (stepped turn_of x)) × IsNextSent turn_of x w.flight flight)
           → IsStep turn_of w (happening.Process i) (theory.Processed (rank key)) (record w { components = components; flight = flight })
       step_processed key components flight keys done = go (next_entry turn_of c) refl (keys c was)
         where
@@ -141,7 +141,7 @@ module _ {T : Type 0} (turn_of : T → ℕ → ℕ → Option Turn) (w : Simulat
           go : (o : Option (Entry Named)) → next_entry turn_of c ≡ o → IsSomeAnd o (λ entry. entry_key entry ≡ rank key) → IsStep turn_of w (happening.Process i) (theory.Processed (rank key)) (record w { components = components; flight = flight })
           go None e k = absurd k
           go (Some e) next k =
-              let d : Held (Setup T) = record c { history = processed (next_of m c.number c.history) c.history } in
+              let d : ComponentView (Setup T) = record c { history = processed (next_of m c.number c.history) c.history } in
               let world_is = processes m laws.lawful w i c there was here.number e flight (sym next_is ∙ next) posted in
               let answers : Answers m count (world_of m w) (happening.Process i) (theory.Processed (rank key)) (world_of m (record w { components = slice_set w.components i d; flight = flight }))
               = inr (inr (e, short, next_in_world ∙ next, inr (ap (λ n. theory.Processed n) (sym k), world_is))) in
@@ -149,10 +149,10 @@ module _ {T : Type 0} (turn_of : T → ℕ → ℕ → Option Turn) (w : Simulat
               (changed (happening.Process i) (theory.Processed (rank key)) i d flight there (record { number = here.number; setup = here.setup; base = here.base })
               (inside_posted Plus (sent_next m c.number (next_of m c.number c.history)) w.flight flight (λ j l. next_nowhere m count laws.counted c.number j l (next_of m c.number c.history) []) is.inside posted) answers)
 
-      pub nothing_processed : ((x : Held (Setup T)) → slice_get w.components i ≡ Some x → next_entry turn_of x ≡ None) → Answers m count (world_of m w) (happening.Process i) (theory.Refused 31) (world_of m w)
+      pub nothing_processed : ((x : ComponentView (Setup T)) → slice_get w.components i ≡ Some x → next_entry turn_of x ≡ None) → Answers m count (world_of m w) (happening.Process i) (theory.Refused 31) (world_of m w)
       nothing_processed none = inr (inl (short, next_in_world ∙ none c was, record { reply_is = refl; stays = refl }))
 
-      pub not_processed : ((x : Held (Setup T)) → slice_get w.components i ≡ Some x → next_entry turn_of x ≡ None → ⊥) → Answers m count (world_of m w) (happening.Process i) (theory.Refused 1) (world_of m w)
+      pub not_processed : ((x : ComponentView (Setup T)) → slice_get w.components i ≡ Some x → next_entry turn_of x ≡ None → ⊥) → Answers m count (world_of m w) (happening.Process i) (theory.Refused 1) (world_of m w)
       not_processed some = go (next_entry turn_of c) refl
         where
           go : (o : Option (Entry Named)) → next_entry turn_of c ≡ o → Answers m count (world_of m w) (happening.Process i) (theory.Refused 1) (world_of m w)
@@ -162,8 +162,8 @@ module _ {T : Type 0} (turn_of : T → ℕ → ℕ → Option Turn) (w : Simulat
       done_in_world : ((world_of m w).part i).done ≡ c.history.done
       done_in_world = ap (λ (r : Record (List Datum) Named). r.done) (record_is m laws.lawful w i c there was here.number)
 
-      pub step_rolled_back : (key : Key) (components : List (Held (Setup T))) (flight : List Signed) → ((x : Held (Setup T)) → slice_get w.components i ≡ Some x → Some (rank key) ≡ last_key x.history.done)
-          → ((x : Held (Setup T)) → slice_get w.components i ≡ Some x → (components ≡ slice_set w.components i (record x { history = roll_back_of (machine_of turn_of x.setup) x.history })) × IsPosted Minus (unsent (machine_of turn_of x.setup) x.number (last_of x.history.done)) w.flight flight)
+      pub step_rolled_back : (key : Key) (components : List (ComponentView (Setup T))) (flight : List Signed) → ((x : ComponentView (Setup T)) → slice_get w.components i ≡ Some x → Some (rank key) ≡ last_key x.history.done)
+          → ((x : ComponentView (Setup T)) → slice_get w.components i ≡ Some x → (components ≡ slice_set w.components i (record x { history = roll_back_of (machine_of turn_of x.setup) x.history })) × IsPosted Minus (unsent (machine_of turn_of x.setup) x.number (last_of x.history.done)) w.flight flight)
           → IsStep turn_of w (happening.RollBack i) (theory.RolledBack (rank key)) (record w { components = components; flight = flight })
       step_rolled_back key components flight keys done = go c.history.done refl (keys c was)
         where
@@ -176,7 +176,7 @@ module _ {T : Type 0} (turn_of : T → ℕ → ℕ → Option Turn) (w : Simulat
           go : (es : List (Entry Named)) → c.history.done ≡ es → Some (rank key) ≡ last_key es → IsStep turn_of w (happening.RollBack i) (theory.RolledBack (rank key)) (record w { components = components; flight = flight })
           go [] q k = absurd (not_some (rank key) k)
           go (e ∷ es) q k =
-              let d : Held (Setup T) = record c { history = roll_back_of m c.history } in
+              let d : ComponentView (Setup T) = record c { history = roll_back_of m c.history } in
               let world_is = rolls_back m laws.lawful w i c there was here.number e es flight q posted in
               let key_is : entry_key e ≡ rank key = sym (some_is (rank key) (entry_key e) k) in
               let answers : Answers m count (world_of m w) (happening.RollBack i) (theory.RolledBack (rank key)) (world_of m (record w { components = slice_set w.components i d; flight = flight }))
@@ -185,7 +185,7 @@ module _ {T : Type 0} (turn_of : T → ℕ → ℕ → Option Turn) (w : Simulat
               (changed (happening.RollBack i) (theory.RolledBack (rank key)) i d flight there (record { number = here.number; setup = here.setup; base = here.base })
               (inside_posted Minus (unsent m c.number (last_of c.history.done)) w.flight flight (λ j l. unsent_nowhere m count laws.counted c.number j l (last_of c.history.done) []) is.inside posted) answers)
 
-      pub nothing_rolled_back : ((x : Held (Setup T)) → slice_get w.components i ≡ Some x → None ≡ last_key x.history.done) → Answers m count (world_of m w) (happening.RollBack i) (theory.Refused 33) (world_of m w)
+      pub nothing_rolled_back : ((x : ComponentView (Setup T)) → slice_get w.components i ≡ Some x → None ≡ last_key x.history.done) → Answers m count (world_of m w) (happening.RollBack i) (theory.Refused 33) (world_of m w)
       nothing_rolled_back none = inr (inl (short, done_in_world ∙ empty c.history.done (none c was), record { reply_is = refl; stays = refl }))
         where
           empty : (es : List (Entry Named)) → None ≡ last_key es → es ≡ []
@@ -231,10 +231,10 @@ module _ {T : Type 0} (turn_of : T → ℕ → ℕ → Option Turn) (w : Simulat
         go true = refl
         go false = refl
 
-    pub step_delivered : (sign : Sign) (answer : ℕ) (components : List (Held (Setup T))) (flight : List Signed) → has m y (in_flight sign message.to w.flight) ≡ true
-        → ((x : Held (Setup T)) → slice_get w.components message.to ≡ Some x → (components ≡ slice_set w.components message.to (record x { history = comes (machine_of turn_of x.setup) sign y x.history }))
+    pub step_delivered : (sign : Sign) (answer : ℕ) (components : List (ComponentView (Setup T))) (flight : List Signed) → has m y (in_flight sign message.to w.flight) ≡ true
+        → ((x : ComponentView (Setup T)) → slice_get w.components message.to ≡ Some x → (components ≡ slice_set w.components message.to (record x { history = comes (machine_of turn_of x.setup) sign y x.history }))
         × IsPosted Minus (unsent (machine_of turn_of x.setup) x.number (back_by (machine_of turn_of x.setup) sign y x.history)) (remove_one (record { message = message; sign = sign }) w.flight) flight)
-        → ((x : Held (Setup T)) → slice_get w.components message.to ≡ Some x → answer ≡ length (back_by (machine_of turn_of x.setup) sign y x.history))
+        → ((x : ComponentView (Setup T)) → slice_get w.components message.to ≡ Some x → answer ≡ length (back_by (machine_of turn_of x.setup) sign y x.history))
         → IsStep turn_of w (delivery sign message) (theory.Delivered answer) (record w { components = components; flight = flight })
     step_delivered sign answer components flight has_it done counts =
         subst (λ cs. IsStep turn_of w (delivery sign message) (theory.Delivered answer) (record w { components = cs; flight = flight })) (sym came)
@@ -244,10 +244,10 @@ module _ {T : Type 0} (turn_of : T → ℕ → ℕ → Option Turn) (w : Simulat
         there : message.to < length w.components
         there = receiver sign has_it
 
-        found : (c : Held (Setup T)) × (slice_get w.components message.to ≡ Some c)
+        found : (c : ComponentView (Setup T)) × (slice_get w.components message.to ≡ Some c)
         found = get_there w.components message.to there
 
-        c : Held (Setup T)
+        c : ComponentView (Setup T)
         c = found.0
 
         was : slice_get w.components message.to ≡ Some c
@@ -256,7 +256,7 @@ module _ {T : Type 0} (turn_of : T → ℕ → ℕ → Option Turn) (w : Simulat
         here : IsComponent w message.to c
         here = is.components message.to c was
 
-        d : Held (Setup T)
+        d : ComponentView (Setup T)
         d = record c { history = comes m sign y c.history }
 
         came : components ≡ slice_set w.components message.to d

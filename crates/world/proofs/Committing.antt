@@ -21,9 +21,10 @@ use Rattle.virtual_time.specs.Worlds.{IsToCommit, Part, Past, World, commit, cut
 use Rattle.task_seed.specs.Machines.{machine}
 use Rattle.task_seed.specs.Turning.{System}
 use Rattle.task_seed.specs.Taken.{turn_of, turns_of}
-use Rattle.rollback.specs.Held.{Held}
+use Rattle.rollback.specs.ComponentView.{ComponentView}
 use Rattle.raw_events.specs.Onto.{onto}
-use Rattle.world.specs.Dropping.{IsOrderly, cut_at, cut_between, done_at, dropped_at}
+use Rattle.world.specs.Dropping.{IsOrderly, cut_between, done_at, dropped_at}
+use Rattle.rollback.specs.ComponentView.{cut_at}
 use Rattle.world.specs.MachineLaws.{Laws}
 use Rattle.world.specs.Simulation.{IsComponent, IsSimulation, Simulation, part_of, record_or_start, world_of}
 use Rattle.world.proofs.Ranges.{among_at, at_among, dropped_some, some_dropped}
@@ -84,7 +85,7 @@ module _ {P : Type 0} (s : System) (laws : Laws (machine s) (length s.compositio
   sound = laws.world.sound (world_of m w) is.reached
 
   -- each component's done entries are in order
-  pub orderly : (j : ℕ) (c : Held P) → slice_get w.components j ≡ Some c → IsOrderly m w.setup j c
+  pub orderly : (j : ℕ) (c : ComponentView P) → slice_get w.components j ≡ Some c → IsOrderly m w.setup j c
   orderly j c e =
       let here = is.components j c e in
       record {
@@ -95,7 +96,7 @@ module _ {P : Type 0} (s : System) (laws : Laws (machine s) (length s.compositio
       }
 
   module _ (bound : Bound) (not_behind : rank_of_bound w.bound ≤ rank_of_bound bound) (g : ℕ) (time : IsVirtualTime m (world_of m w) g) (not_ahead : rank_of_bound bound ≤ g)
-      (components : List (Held P)) (many : length components ≡ length w.components) (turns : List Turned)
+      (components : List (ComponentView P)) (many : length components ≡ length w.components) (turns : List Turned)
       (cuts : (j : ℕ) → slice_get components j ≡ option_map (cut_between m bound 0 (length w.components) j) (slice_get w.components j))
       (falls : Falls (turns_of turns)) (given : (k : ℕ) → outcome_at k (turns_of turns) ≡ dropped_at m (rank_of_bound bound) 0 (length w.components) w.components k) where
     abbrev b : ℕ
@@ -116,14 +117,14 @@ module _ {P : Type 0} (s : System) (laws : Laws (machine s) (length s.compositio
           done = done;
         }
       where
-        has_done : (o : Option (Held P)) → done_at t.key o ≡ Some t.outcome → turn_at t.key (record_or_start m (m.owner t.key) o).done ≡ Some t.outcome
+        has_done : (o : Option (ComponentView P)) → done_at t.key o ≡ Some t.outcome → turn_at t.key (record_or_start m (m.owner t.key) o).done ≡ Some t.outcome
         has_done None e = cc
         has_done (Some c) e = e
 
     is_given : (t : Turn Named) → IsToCommit m (world_of m w) b t → IsAmong t (turns_of turns)
     is_given t h = at_among t.key t.outcome (turns_of turns) (given t.key ∙ go (slice_get w.components (m.owner t.key)) refl h.done)
       where
-        go : (o : Option (Held P)) → slice_get w.components (m.owner t.key) ≡ o → turn_at t.key (record_or_start m (m.owner t.key) o).done ≡ Some t.outcome → dropped_at m b 0 (length w.components) w.components t.key ≡ Some t.outcome
+        go : (o : Option (ComponentView P)) → slice_get w.components (m.owner t.key) ≡ o → turn_at t.key (record_or_start m (m.owner t.key) o).done ≡ Some t.outcome → dropped_at m b 0 (length w.components) w.components t.key ≡ Some t.outcome
         go None e d = cc
         go (Some c) e d =
             let short = slice_get_within w.components (m.owner t.key) c e in
@@ -136,13 +137,13 @@ module _ {P : Type 0} (s : System) (laws : Laws (machine s) (length s.compositio
     committed_is : map turn_of (onto turns w.committed) ≡ (commit m b (world_of m w)).committed
     committed_is = map_onto turns w.committed ∙ onto_append (map turn_of turns) [] (map turn_of w.committed) ∙ sym appended
 
-    cut_here : (j : ℕ) (c : Held P) → j < length w.components → cut_between m bound 0 (length w.components) j c ≡ cut_at m bound c
+    cut_here : (j : ℕ) (c : ComponentView P) → j < length w.components → cut_between m bound 0 (length w.components) j c ≡ cut_at m bound c
     cut_here j c short = ap (λ t. cond t (cut_at m bound c) c) (λ v. le-leb 0 j (omega arith) v && lt-ltb j (length w.components) short v)
 
     part_is : (j : ℕ) → (world_of m after).part j ≡ cut m b j ((world_of m w).part j)
     part_is j = ap (λ o. part_of (record_or_start m j o) w.flight j) (cuts j) ∙ go (slice_get w.components j) refl
       where
-        go : (o : Option (Held P)) → slice_get w.components j ≡ o → part_of (record_or_start m j (option_map (cut_between m bound 0 (length w.components) j) o)) w.flight j ≡ cut m b j (part_of (record_or_start m j o) w.flight j)
+        go : (o : Option (ComponentView P)) → slice_get w.components j ≡ o → part_of (record_or_start m j (option_map (cut_between m bound 0 (length w.components) j) o)) w.flight j ≡ cut m b j (part_of (record_or_start m j o) w.flight j)
         go None e = refl
         go (Some c) e =
             let here = is.components j c e in
@@ -195,7 +196,7 @@ module _ {P : Type 0} (s : System) (laws : Laws (machine s) (length s.compositio
     pub kept : IsSimulation s after
     kept = record { reached = reached; many = many ∙ is.many; components = λ j c e. each j c e (slice_get w.components j) refl; inside = is.inside }
       where
-        each : (j : ℕ) (c : Held P) → slice_get components j ≡ Some c → (o : Option (Held P)) → slice_get w.components j ≡ o → IsComponent after j c
+        each : (j : ℕ) (c : ComponentView P) → slice_get components j ≡ Some c → (o : Option (ComponentView P)) → slice_get w.components j ≡ o → IsComponent after j c
         each j c e None q = absurd (not_some c (sym e ∙ cuts j ∙ ap (option_map (cut_between m bound 0 (length w.components) j)) q))
         each j c e (Some d) q =
             let short = slice_get_within w.components j d q in

@@ -18,7 +18,7 @@ use Rattle.task_seed.specs.Machines.{machine}
 use Rattle.task_seed.specs.Turning.{System}
 use Rattle.task_seed.specs.Taken.{turn_of}
 use Rattle.rollback.specs.Flight.{in_flight}
-use Rattle.rollback.specs.Held.{Held}
+use Rattle.rollback.specs.ComponentView.{ComponentView}
 use Rattle.world.specs.Keeping.{Keeps}
 use Rattle.world.specs.Simulation.{IsSimulation, Simulation, part_of, record_or_start, world_of}
 
@@ -77,7 +77,7 @@ module _ {P : Type 0} (s : System) (v w : Simulation P) (a : IsSimulation s v) (
   in_flight_is Plus j = ap (λ (x : Part (List Datum) Named). x.plus) (part_is j)
   in_flight_is Minus j = ap (λ (x : Part (List Datum) Named). x.minus) (part_is j)
 
-  held_is : (j : ℕ) (c d : Held P) → slice_get w.components j ≡ Some c → slice_get v.components j ≡ Some d → c ≡ d
+  held_is : (j : ℕ) (c d : ComponentView P) → slice_get w.components j ≡ Some c → slice_get v.components j ≡ Some d → c ≡ d
   held_is j c d at_w at_v =
       let of_w = b.components j c at_w in
       let of_v = a.components j d at_v in

@@ -17,7 +17,7 @@ use Rattle.virtual_time.specs.Machine.{Lawful, Machine}
 use Rattle.virtual_time.specs.Records.{Record, after_entry, antimessage_comes, back_by_antimessage, back_by_message, message_comes, next_of, roll_back_of, sent_by, undone, unsent}
 use Rattle.virtual_time.specs.Worlds.{World, can_meet, deliver_antimessage, deliver_message, meet, process, process_entry, put_back, record_of, roll_back, same, taken_at, undo_entry}
 use Rattle.rollback.specs.Flight.{in_flight, item_of}
-use Rattle.rollback.specs.Held.{Held, last_of, processed, sent_next}
+use Rattle.rollback.specs.ComponentView.{ComponentView, last_of, processed, sent_next}
 use Rattle.rollback.specs.Post.{IsPosted}
 use Rattle.world.specs.MachineLaws.{FlightLaws}
 use Rattle.world.specs.Simulation.{Simulation, world_of}
@@ -50,7 +50,7 @@ unsent_own m law i (Own k None ∷ es) xs = unsent_own m law i es xs
 unsent_own m law i (Own k (Some a) ∷ es) xs = ap (λ b. unsent m i es i (cond b (insert m (record { key = k; action = a }) xs) xs)) (law.others i a) ∙ unsent_own m law i es xs
 unsent_own m law i (Input x ∷ es) xs = unsent_own m law i es xs
 
-module _ {P : Type 0} (m : Machine (List Datum) Named) (law : Lawful m) (w : Simulation P) (i : ℕ) (c : Held P) (there : i < length w.components) (was : slice_get w.components i ≡ Some c) (number : c.number ≡ i) where
+module _ {P : Type 0} (m : Machine (List Datum) Named) (law : Lawful m) (w : Simulation P) (i : ℕ) (c : ComponentView P) (there : i < length w.components) (was : slice_get w.components i ≡ Some c) (number : c.number ≡ i) where
   -- the world where component i has a new record
   abbrev pub with_history : Record (List Datum) Named → List Signed → Simulation P
   with_history r flight = record w { components = slice_set w.components i (record c { history = r }); flight = flight }
@@ -122,7 +122,7 @@ module _ {P : Type 0} (m : Machine (List Datum) Named) (law : Lawful m) (laws : 
   abbrev y : Item Named
   y = item_of (plus message)
 
-  module _ (c : Held P) (there : message.to < length w.components) (was : slice_get w.components message.to ≡ Some c) (number : c.number ≡ message.to) (flight : List Signed) where
+  module _ (c : ComponentView P) (there : message.to < length w.components) (was : slice_get w.components message.to ≡ Some c) (number : c.number ≡ message.to) (flight : List Signed) where
     -- a message comes
     pub message_delivered : IsPosted Minus (unsent m c.number (back_by_message m y c.history)) (remove_one (plus message) w.flight) flight
         → world_of m (record w { components = slice_set w.components i (record c { history = message_comes m y c.history }); flight = flight }) ≡ deliver_message m i y (world_of m w)

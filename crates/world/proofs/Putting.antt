@@ -13,7 +13,7 @@ use Rattle.virtual_time.specs.Records.{Record}
 use Rattle.virtual_time.specs.Worlds.{Part, put_back, record_of, with_record}
 use Rattle.task_seed.specs.Taken.{turn_of}
 use Rattle.rollback.specs.Flight.{in_flight}
-use Rattle.rollback.specs.Held.{Held}
+use Rattle.rollback.specs.ComponentView.{ComponentView}
 use Rattle.world.specs.Simulation.{Simulation, record_or_start, world_of}
 
 pub get_same : {X : Type 0} (xs : List X) (n : ℕ) (x : X) → n < length xs → slice_get (slice_set xs n x) n ≡ Some x
@@ -56,10 +56,10 @@ get_set Q xs i d there at others j x e = go (cases_eq j i)
         subst (λ n. Q n x) (sym same) (subst (Q i) is at)
     go (inr ne) = others j x (sym (get_other xs i d j ne) ∙ e)
 
-module _ {P : Type 0} (m : Machine (List Datum) Named) (w : Simulation P) (i : ℕ) (c d : Held P) (there : i < length w.components) (was : slice_get w.components i ≡ Some c)
+module _ {P : Type 0} (m : Machine (List Datum) Named) (w : Simulation P) (i : ℕ) (c d : ComponentView P) (there : i < length w.components) (was : slice_get w.components i ≡ Some c)
     (flight : List Signed) (plus minus : ℕ → List (Item Named) → List (Item Named))
     (pluses : (j : ℕ) → in_flight Plus j flight ≡ plus j (in_flight Plus j w.flight)) (minuses : (j : ℕ) → in_flight Minus j flight ≡ minus j (in_flight Minus j w.flight)) where
-  abbrev components : List (Held P)
+  abbrev components : List (ComponentView P)
   components = slice_set w.components i d
 
   abbrev changed : Simulation P

@@ -12,10 +12,11 @@ use Rattle.virtual_time.specs.Records.{turns_among}
 use Rattle.virtual_time.specs.Reference.{AllBelow, Falls, IsAmong, Turn, outcome_at}
 use Rattle.event_keys.specs.declared.outcome.Turned.{Turned}
 use Rattle.task_seed.specs.Taken.{turn_of, turns_of}
-use Rattle.rollback.specs.Held.{Held}
+use Rattle.rollback.specs.ComponentView.{ComponentView}
 use Rattle.raw_events.specs.Onto.{onto}
 use Rattle.world.proofs.Putting.{get_other, get_same}
-use Rattle.world.specs.Dropping.{cut_at, cut_between, done_at, dropped_at}
+use Rattle.world.specs.Dropping.{cut_between, done_at, dropped_at}
+use Rattle.rollback.specs.ComponentView.{cut_at}
 
 -- a turn is among those that fall where its key has its outcome
 pub at_among : {A : Type 0} (k : ℕ) (o : Option A) (ts : List (Turn A)) → outcome_at k ts ≡ Some o → IsAmong (record { key = k; outcome = o }) ts
@@ -79,20 +80,20 @@ cond_some true o x e = (refl, e)
 cond_some false o x e = cc
 
 module _ {P : Type 0} (m : Machine (List Datum) Named) (b : ℕ) where
-  pub dropped_some : (from to : ℕ) (cs : List (Held P)) (k : ℕ) (o : Option Named) → dropped_at m b from to cs k ≡ Some o → IsWithin from to b (m.owner k) k × (done_at k (slice_get cs (m.owner k)) ≡ Some o)
+  pub dropped_some : (from to : ℕ) (cs : List (ComponentView P)) (k : ℕ) (o : Option Named) → dropped_at m b from to cs k ≡ Some o → IsWithin from to b (m.owner k) k × (done_at k (slice_get cs (m.owner k)) ≡ Some o)
   dropped_some from to cs k o e =
       let parts = cond_some (nat_le from (m.owner k) && (nat_lt (m.owner k) to && nat_lt k b)) (done_at k (slice_get cs (m.owner k))) o e in
       (within_test from to b (m.owner k) k parts.0, parts.1)
 
-  pub some_dropped : (from to : ℕ) (cs : List (Held P)) (k : ℕ) (o : Option Named) → IsWithin from to b (m.owner k) k → done_at k (slice_get cs (m.owner k)) ≡ Some o → dropped_at m b from to cs k ≡ Some o
+  pub some_dropped : (from to : ℕ) (cs : List (ComponentView P)) (k : ℕ) (o : Option Named) → IsWithin from to b (m.owner k) k → done_at k (slice_get cs (m.owner k)) ≡ Some o → dropped_at m b from to cs k ≡ Some o
   some_dropped from to cs k o w e = ap (λ t. cond t (done_at k (slice_get cs (m.owner k))) None) (test_within from to b (m.owner k) k w.low w.high w.below) ∙ e
 
   -- nothing is given up by no component
-  pub dropped_none : (from to : ℕ) (cs : List (Held P)) (k : ℕ) → to ≤ from → None ≡ dropped_at m b from to cs k
+  pub dropped_none : (from to : ℕ) (cs : List (ComponentView P)) (k : ℕ) → to ≤ from → None ≡ dropped_at m b from to cs k
   dropped_none from to cs k l = same_option None (dropped_at m b from to cs k) (λ o e. cc) (λ o e. let w = (dropped_some from to cs k o e).0 in let low = w.low in let high = w.high in absurd (omega (arith, l, low, high)))
 
   -- what one component gives up
-  pub dropped_one : (from to : ℕ) (cs : List (Held P)) (c : Held P) (given : List (Turn Named)) → slice_get cs from ≡ Some c → to ≡ from + 1
+  pub dropped_one : (from to : ℕ) (cs : List (ComponentView P)) (c : ComponentView P) (given : List (Turn Named)) → slice_get cs from ≡ Some c → to ≡ from + 1
       → ((k : ℕ) (o : Option Named) → outcome_at k given ≡ Some o → (k < b) × (turn_at k c.history.done ≡ Some o) × (m.owner k ≡ from))
       → ((k : ℕ) (o : Option Named) → k < b → turn_at k c.history.done ≡ Some o → outcome_at k given ≡ Some o) → (k : ℕ) → outcome_at k given ≡ dropped_at m b from to cs k
   dropped_one from to cs c given at one only all k = same_option (outcome_at k given) (dropped_at m b from to cs k) there back
@@ -112,7 +113,7 @@ module _ {P : Type 0} (m : Machine (List Datum) Named) (b : ℕ) where
           all k o h.0.below (ap (done_at k) (sym at) ∙ ap (λ n. done_at k (slice_get cs n)) (sym owner) ∙ h.1)
 
   -- what is given up by some and by others
-  pub dropped_both : (from middle to : ℕ) (cs ds : List (Held P)) (k : ℕ) → from ≤ middle → middle ≤ to → ((j : ℕ) → middle ≤ j → slice_get ds j ≡ slice_get cs j)
+  pub dropped_both : (from middle to : ℕ) (cs ds : List (ComponentView P)) (k : ℕ) → from ≤ middle → middle ≤ to → ((j : ℕ) → middle ≤ j → slice_get ds j ≡ slice_get cs j)
       → option_or (dropped_at m b middle to ds k) (dropped_at m b from middle cs k) ≡ dropped_at m b from to cs k
   dropped_both from middle to cs ds k l h same = same_option (option_or (dropped_at m b middle to ds k) (dropped_at m b from middle cs k)) (dropped_at m b from to cs k) there back
     where
@@ -144,7 +145,7 @@ module _ {P : Type 0} (m : Machine (List Datum) Named) (b : ℕ) where
       back o e = to_parts o (dropped_some from to cs k o e) (cases_lt (m.owner k) middle)
 
   -- no key is given up by both
-  pub dropped_apart : (from middle to : ℕ) (cs ds : List (Held P)) (k : ℕ) (o : Option Named) → dropped_at m b middle to ds k ≡ Some o → dropped_at m b from middle cs k ≡ None
+  pub dropped_apart : (from middle to : ℕ) (cs ds : List (ComponentView P)) (k : ℕ) (o : Option Named) → dropped_at m b middle to ds k ≡ Some o → dropped_at m b from middle cs k ≡ None
   dropped_apart from middle to cs ds k o e =
       let w = (dropped_some middle to ds k o e).0 in
       let low = w.low in
@@ -164,35 +165,35 @@ not_true false = refl
 
 -- what is done to those of a range
 module _ {P : Type 0} (m : Machine (List Datum) Named) (bound : Bound) where
-  pub cut_inside : (from to j : ℕ) (c : Held P) → from ≤ j → j < to → cut_between m bound from to j c ≡ cut_at m bound c
+  pub cut_inside : (from to j : ℕ) (c : ComponentView P) → from ≤ j → j < to → cut_between m bound from to j c ≡ cut_at m bound c
   cut_inside from to j c l h = ap (λ t. cond t (cut_at m bound c) c) (λ v. le-leb from j l v && lt-ltb j to h v)
 
-  pub cut_past : (from to j : ℕ) (c : Held P) → to ≤ j → cut_between m bound from to j c ≡ c
+  pub cut_past : (from to j : ℕ) (c : ComponentView P) → to ≤ j → cut_between m bound from to j c ≡ c
   cut_past from to j c h = ap (λ t. cond (nat_le from j && t) (cut_at m bound c) c) (le-ltb j to h) ∙ ap (λ t. cond t (cut_at m bound c) c) (not_true (nat_le from j))
 
-  pub cut_before : (from to j : ℕ) (c : Held P) → j < from → cut_between m bound from to j c ≡ c
+  pub cut_before : (from to j : ℕ) (c : ComponentView P) → j < from → cut_between m bound from to j c ≡ c
   cut_before from to j c h = ap (λ t. cond (t && nat_lt j to) (cut_at m bound c) c) (lt-leb from j h)
 
-  over : (f g : Held P → Held P) → ((c : Held P) → f c ≡ g c) → (o : Option (Held P)) → option_map f o ≡ option_map g o
+  over : (f g : ComponentView P → ComponentView P) → ((c : ComponentView P) → f c ≡ g c) → (o : Option (ComponentView P)) → option_map f o ≡ option_map g o
   over f g e None = refl
   over f g e (Some c) = ap (λ x. Some x) (e c)
 
-  kept : (f : Held P → Held P) → ((c : Held P) → f c ≡ c) → (o : Option (Held P)) → option_map f o ≡ o
+  kept : (f : ComponentView P → ComponentView P) → ((c : ComponentView P) → f c ≡ c) → (o : Option (ComponentView P)) → option_map f o ≡ o
   kept f e None = refl
   kept f e (Some c) = ap (λ x. Some x) (e c)
 
   -- what is not in the range stays
-  pub past_stays : (from to j : ℕ) (o : Option (Held P)) → to ≤ j → option_map (cut_between m bound from to j) o ≡ o
+  pub past_stays : (from to j : ℕ) (o : Option (ComponentView P)) → to ≤ j → option_map (cut_between m bound from to j) o ≡ o
   past_stays from to j o h = kept (cut_between m bound from to j) (λ c. cut_past from to j c h) o
 
-  pub none_cut : (from to j : ℕ) (o : Option (Held P)) → to ≤ from → o ≡ option_map (cut_between m bound from to j) o
+  pub none_cut : (from to j : ℕ) (o : Option (ComponentView P)) → to ≤ from → o ≡ option_map (cut_between m bound from to j) o
   none_cut from to j o h = sym (kept (cut_between m bound from to j) (λ c. go c (cases_lt j from)) o)
     where
-      go : (c : Held P) → (j < from) ⊎ (from ≤ j) → cut_between m bound from to j c ≡ c
+      go : (c : ComponentView P) → (j < from) ⊎ (from ≤ j) → cut_between m bound from to j c ≡ c
       go c (inl l) = cut_before from to j c l
       go c (inr l) = cut_past from to j c (omega (arith, l, h))
 
-  pub one_cut : (cs : List (Held P)) (from to : ℕ) (c new : Held P) → slice_get cs from ≡ Some c → to ≡ from + 1 → from < length cs → new ≡ cut_at m bound c
+  pub one_cut : (cs : List (ComponentView P)) (from to : ℕ) (c new : ComponentView P) → slice_get cs from ≡ Some c → to ≡ from + 1 → from < length cs → new ≡ cut_at m bound c
       → (j : ℕ) → slice_get (slice_set cs from new) j ≡ option_map (cut_between m bound from to j) (slice_get cs j)
   one_cut cs from to c new at one there is j = go (cases_eq j from) (cases_lt j from)
     where
@@ -207,7 +208,7 @@ module _ {P : Type 0} (m : Machine (List Datum) Named) (bound : Bound) where
           later (inl h) = omega (arith, h, one)
           later (inr h) = absurd (ne (omega (arith, h, l)))
 
-  pub both_cut : (from middle to j : ℕ) (a b c : Option (Held P)) → from ≤ middle → middle ≤ to → b ≡ option_map (cut_between m bound from middle j) a → c ≡ option_map (cut_between m bound middle to j) b
+  pub both_cut : (from middle to j : ℕ) (a b c : Option (ComponentView P)) → from ≤ middle → middle ≤ to → b ≡ option_map (cut_between m bound from middle j) a → c ≡ option_map (cut_between m bound middle to j) b
       → c ≡ option_map (cut_between m bound from to j) a
   both_cut from middle to j a b c l h first second = go (cases_lt j middle) (cases_lt j from) (cases_lt j to)
     where

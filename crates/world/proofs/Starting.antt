@@ -8,8 +8,9 @@ use Rattle.virtual_time.specs.Worlds.{start_world}
 use Rattle.task_seed.specs.declared.setup.Setup.{Setup}
 use Rattle.task_seed.specs.declared.turns.Turn.{Turn}
 use Rattle.task_seed.specs.Setups.{plan_of, system}
-use Rattle.rollback.specs.Held.{Held, machine_of}
-use Rattle.world.specs.Simulation.{IsComponent, IsSimulation, Simulation, part_of, record_or_start, start_held, start_simulation, world_of}
+use Rattle.rollback.specs.ComponentView.{ComponentView, machine_of}
+use Rattle.world.specs.Simulation.{IsComponent, IsSimulation, Simulation, part_of, record_or_start, start_simulation, world_of}
+use Rattle.rollback.specs.ComponentView.{start_held}
 
 some_is : {X : Type 0} (a b : X) → Some a ≡ Some b → a ≡ b
 some_is a b e = cc
@@ -19,7 +20,7 @@ not_some a e = cc
 
 module _ {T : Type 0} (turn_of : T → ℕ → ℕ → Option Turn) (setup : Setup T) where
   -- what stands in the first components
-  held_at : (a n j : ℕ) (o : Option (Held (Setup T))) → slice_get (map (start_held turn_of setup) (range_with_len a n)) j ≡ o → (o ≡ Some (start_held turn_of setup (a + j))) ⊎ (o ≡ None)
+  held_at : (a n j : ℕ) (o : Option (ComponentView (Setup T))) → slice_get (map (start_held turn_of setup) (range_with_len a n)) j ≡ o → (o ≡ Some (start_held turn_of setup (a + j))) ⊎ (o ≡ None)
   held_at a zero j o e = inr (sym e)
   held_at a (suc n) zero o e = inl (sym e ∙ ap (λ i. Some (start_held turn_of setup i)) (omega arith))
   held_at a (suc n) (suc j) o e = go (held_at (a + 1) n j o e)
@@ -58,7 +59,7 @@ module _ {T : Type 0} (turn_of : T → ℕ → ℕ → Option Turn) (setup : Set
         inside = λ sign j l. refl;
       }
     where
-      each : (j : ℕ) (c : Held (Setup T)) → slice_get start.components j ≡ Some c → (slice_get start.components j ≡ Some (start_held turn_of setup j)) ⊎ (slice_get start.components j ≡ None) → IsComponent start j c
+      each : (j : ℕ) (c : ComponentView (Setup T)) → slice_get start.components j ≡ Some c → (slice_get start.components j ≡ Some (start_held turn_of setup j)) ⊎ (slice_get start.components j ≡ None) → IsComponent start j c
       each j c e (inl h) =
           let both : Some (start_held turn_of setup j) ≡ Some c = sym h ∙ e in
           let same : start_held turn_of setup j ≡ c = some_is (start_held turn_of setup j) c both in

@@ -19,7 +19,7 @@ use Rattle.task_seed.specs.declared.setup.Setup.{Setup}
 use Rattle.task_seed.specs.declared.turns.Turn.{Turn}
 use Rattle.task_seed.specs.Setups.{system}
 use Rattle.rollback.specs.Flight.{in_flight}
-use Rattle.rollback.specs.Held.{Held, machine_of, next_key}
+use Rattle.rollback.specs.ComponentView.{ComponentView, machine_of, next_key}
 use Rattle.virtual_time.specs.Rules.{IsWorld}
 use Rattle.world.specs.MachineLaws.{FlightLaws, Laws, NextLaws}
 use Rattle.world.specs.Simulation.{IsComponent, IsSimulation, Simulation, part_of, record_or_start, world_of}
@@ -31,20 +31,20 @@ lower a b (x ∷ xs) l h = let k = h.0 in (omega (arith, l, k), lower a b xs l h
 
 module _ {T : Type 0} (turn_of : T → ℕ → ℕ → Option Turn) where
   -- the least of the components' next keys is not above any
-  least_low : (cs : List (Held (Setup T))) (j : ℕ) (c : Held (Setup T)) → slice_get cs j ≡ Some c → least_next turn_of cs ≤ next_key (machine_of turn_of c.setup) (next_of (machine_of turn_of c.setup) c.number c.history)
+  least_low : (cs : List (ComponentView (Setup T))) (j : ℕ) (c : ComponentView (Setup T)) → slice_get cs j ≡ Some c → least_next turn_of cs ≤ next_key (machine_of turn_of c.setup) (next_of (machine_of turn_of c.setup) c.number c.history)
   least_low [] j c e = cc
   least_low (x ∷ cs) zero c e =
       let same : x ≡ c = cc in
       subst (λ y. least_next turn_of (x ∷ cs) ≤ next_key (machine_of turn_of y.setup) (next_of (machine_of turn_of y.setup) y.number y.history)) same (omega arith)
   least_low (x ∷ cs) (suc j) c e = let rest = least_low cs j c e in omega (arith, rest)
 
-  pub least_end : (cs : List (Held (Setup T))) → least_next turn_of cs ≤ 2 ^ 144
+  pub least_end : (cs : List (ComponentView (Setup T))) → least_next turn_of cs ≤ 2 ^ 144
   least_end [] = omega arith
   least_end (c ∷ cs) = let rest = least_end cs in omega (arith, rest)
 
   -- what is not above any is not above the least
-  least_most : (d : ℕ) (cs : List (Held (Setup T))) → d ≤ 2 ^ 144
-      → ((j : ℕ) (c : Held (Setup T)) → slice_get cs j ≡ Some c → d ≤ next_key (machine_of turn_of c.setup) (next_of (machine_of turn_of c.setup) c.number c.history)) → d ≤ least_next turn_of cs
+  least_most : (d : ℕ) (cs : List (ComponentView (Setup T))) → d ≤ 2 ^ 144
+      → ((j : ℕ) (c : ComponentView (Setup T)) → slice_get cs j ≡ Some c → d ≤ next_key (machine_of turn_of c.setup) (next_of (machine_of turn_of c.setup) c.number c.history)) → d ≤ least_next turn_of cs
   least_most d [] end each = end
   least_most d (c ∷ cs) end each =
       let rest = least_most d cs end (λ j x e. each (suc j) x e) in
@@ -52,10 +52,10 @@ module _ {T : Type 0} (turn_of : T → ℕ → ℕ → Option Turn) where
       omega (arith, rest, one)
 
   -- so far the least of those that were passed, with those that are left
-  pub least_starts : (cs : List (Held (Setup T))) → min (2 ^ 144) (least_next turn_of cs) ≡ least_next turn_of cs
+  pub least_starts : (cs : List (ComponentView (Setup T))) → min (2 ^ 144) (least_next turn_of cs) ≡ least_next turn_of cs
   least_starts cs = let end = least_end cs in omega (arith, end)
 
-  pub least_steps : (cs : List (Held (Setup T))) (n : ℕ) (c : Held (Setup T)) (a b new : ℕ) → c ≡ slice_index_or cs n c → n < length cs → b ≡ next_key (machine_of turn_of c.setup) (next_of (machine_of turn_of c.setup) c.number c.history)
+  pub least_steps : (cs : List (ComponentView (Setup T))) (n : ℕ) (c : ComponentView (Setup T)) (a b new : ℕ) → c ≡ slice_index_or cs n c → n < length cs → b ≡ next_key (machine_of turn_of c.setup) (next_of (machine_of turn_of c.setup) c.number c.history)
       → new ≡ min a b → min a (least_next turn_of (drop n cs)) ≡ least_next turn_of cs → min new (least_next turn_of (drop (n + 1) cs)) ≡ least_next turn_of cs
   least_steps cs n c a b new is there key lesser h =
       let split : least_next turn_of (drop n cs) ≡ min (next_key (machine_of turn_of c.setup) (next_of (machine_of turn_of c.setup) c.number c.history)) (least_next turn_of (drop (n + 1) cs)) = ap (least_next turn_of) (drop_item cs n c is there) in
@@ -64,7 +64,7 @@ module _ {T : Type 0} (turn_of : T → ℕ → ℕ → Option Turn) where
       drop_item : {X : Type 0} (xs : List X) (i : ℕ) (x : X) → x ≡ slice_index_or xs i x → i < length xs → drop i xs ≡ x ∷ drop (i + 1) xs
       drop_item xs i x is low = let next : suc i ≡ i + 1 = omega arith in drop-cons xs i x low ∙ ap (λ y. y ∷ drop (suc i) xs) (sym is) ∙ ap (λ k. x ∷ drop k xs) next
 
-  pub least_stops : (cs : List (Held (Setup T))) (n b : ℕ) → length cs ≤ n → b ≤ 2 ^ 144 → min b (least_next turn_of (drop n cs)) ≡ least_next turn_of cs → b ≡ least_next turn_of cs
+  pub least_stops : (cs : List (ComponentView (Setup T))) (n b : ℕ) → length cs ≤ n → b ≤ 2 ^ 144 → min b (least_next turn_of (drop n cs)) ≡ least_next turn_of cs → b ≡ least_next turn_of cs
   least_stops cs n b past end h =
       let none : least_next turn_of (drop n cs) ≡ 2 ^ 144 = ap (least_next turn_of) (drop_past cs n past) in
       omega (arith, end, h, none)
@@ -80,18 +80,18 @@ module _ {T : Type 0} (turn_of : T → ℕ → ℕ → Option Turn) (w : Simulat
   m = machine_of turn_of w.setup
 
   module _ (law : Lawful m) (count : ℕ) (counted : HasCount m count) (top : m.top ≡ 2 ^ 144) (next : NextLaws m) (flight : FlightLaws m) (order : IsInOrder w.flight) (many : length w.components ≡ count)
-      (components : (j : ℕ) (c : Held (Setup T)) → slice_get w.components j ≡ Some c → IsComponent w j c)
-      (sorted : (j : ℕ) (c : Held (Setup T)) → slice_get w.components j ≡ Some c → IsSorted m c.history.pending) (g : ℕ) (is : g ≡ min (least_next turn_of w.components) (rank_of_bound (least_of w.flight))) where
+      (components : (j : ℕ) (c : ComponentView (Setup T)) → slice_get w.components j ≡ Some c → IsComponent w j c)
+      (sorted : (j : ℕ) (c : ComponentView (Setup T)) → slice_get w.components j ≡ Some c → IsSorted m c.history.pending) (g : ℕ) (is : g ≡ min (least_next turn_of w.components) (rank_of_bound (least_of w.flight))) where
     in_time : (sign : Sign) (j : ℕ) → AllFrom g (in_flight sign j w.flight)
     in_time sign j = lower (rank_of_bound (least_of w.flight)) g (in_flight sign j w.flight) (omega (arith, is)) (flight.low sign j w.flight order)
 
     -- the next key of component j as the world's machine has it
-    next_here : (j : ℕ) (c : Held (Setup T)) → slice_get w.components j ≡ Some c → next_key (machine_of turn_of c.setup) (next_of (machine_of turn_of c.setup) c.number c.history) ≡ next_key m (next_of m j c.history)
+    next_here : (j : ℕ) (c : ComponentView (Setup T)) → slice_get w.components j ≡ Some c → next_key (machine_of turn_of c.setup) (next_of (machine_of turn_of c.setup) c.number c.history) ≡ next_key m (next_of m j c.history)
     next_here j c e =
         let here = components j c e in
         ap (λ s. next_key (machine_of turn_of s) (next_of (machine_of turn_of s) c.number c.history)) here.setup ∙ ap (λ n. next_key m (next_of m n c.history)) here.number
 
-    past_at : (j : ℕ) (o : Option (Held (Setup T))) → slice_get w.components j ≡ o → IsPast m g j (part_of (record_or_start m j o) w.flight j)
+    past_at : (j : ℕ) (o : Option (ComponentView (Setup T))) → slice_get w.components j ≡ o → IsPast m g j (part_of (record_or_start m j o) w.flight j)
     past_at j None e =
         let past = slice_get_none w.components j e in
         let silent = counted.silent j 0 (omega (arith, past, many)) in
@@ -127,7 +127,7 @@ module _ {T : Type 0} (turn_of : T → ℕ → ℕ → Option Turn) (w : Simulat
         at Plus j = (below j).plus
         at Minus j = (below j).minus
 
-        each : (j : ℕ) (c : Held (Setup T)) → slice_get w.components j ≡ Some c → d ≤ next_key (machine_of turn_of c.setup) (next_of (machine_of turn_of c.setup) c.number c.history)
+        each : (j : ℕ) (c : ComponentView (Setup T)) → slice_get w.components j ≡ Some c → d ≤ next_key (machine_of turn_of c.setup) (next_of (machine_of turn_of c.setup) c.number c.history)
         each j c e =
             let p = subst (λ o. IsPast m d j (part_of (record_or_start m j o) w.flight j)) e (below j) in
             let under = next.most j d c.history p.turn p.pending in
@@ -153,7 +153,7 @@ module _ {T : Type 0} (turn_of : T → ℕ → ℕ → Option Turn) (w : Simulat
   abbrev sound : IsWorld (machine_of turn_of w.setup) seen
   sound = laws.world.sound seen is.reached
 
-  pending_sorted : (j : ℕ) (c : Held (Setup T)) → slice_get w.components j ≡ Some c → IsSorted (machine_of turn_of w.setup) c.history.pending
+  pending_sorted : (j : ℕ) (c : ComponentView (Setup T)) → slice_get w.components j ≡ Some c → IsSorted (machine_of turn_of w.setup) c.history.pending
   pending_sorted j c e = subst (λ o. IsSorted (machine_of turn_of w.setup) (record_or_start (machine_of turn_of w.setup) j o).pending) e (sound.proper j).sorted
 
   pub gvt_time : IsVirtualTime (machine_of turn_of w.setup) seen g

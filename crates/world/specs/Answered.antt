@@ -1,16 +1,21 @@
 -- What a step of a world is in the theory.
-use Rattle.std.specs.Prelude.{◌≡◌, ℕ, Option, List, ◌++◌, length}
+use Rattle.std.specs.Prelude.{◌≡◌, ◌≤◌, ℕ, Option, Result, List, ◌++◌, length, map}
 use Rattle.terms.specs.Datum.{Datum}
 use Rattle.terms.specs.Named.{Named}
 use Rattle.plans.specs.Plans.{composition}
 use Rattle.virtual_time.specs.Machine.{Machine}
 use Rattle.virtual_time.specs.Reference.{Turn as Taken}
 use Rattle.virtual_time.specs.Replies.{Answers, IsReached, IsVirtualTime, Reply, Runs}
+use Rattle.virtual_time.specs.Rules.{IsRollBack}
 use Rattle.virtual_time.specs.Worlds.{Step, World}
 use Rattle.task_seed.specs.declared.setup.Setup.{Setup}
 use Rattle.task_seed.specs.declared.turns.Turn.{Turn}
 use Rattle.task_seed.specs.Setups.{plan_of}
-use Rattle.rollback.specs.Held.{machine_of}
+use Rattle.rollback.specs.ComponentView.{machine_of}
+use Rattle.event_keys.specs.declared.step.Step.{Step as CodeStep}
+use Rattle.world.specs.declared.step.Reply.{Reply as CodeReply}
+use Rattle.world.specs.declared.step.StepRefused.{StepRefused}
+use Rattle.world.specs.Steps.{answer_of, step_of}
 use Rattle.world.specs.Simulation.{Simulation, world_of}
 use Rattle.world.specs.ThereAndBack.{IsThereAndBack}
 
@@ -50,3 +55,11 @@ module _ {T : Type 0} (turn_of : T → ℕ → ℕ → Option Turn) (old : Simul
   -- steps reach it from the start
   abbrev pub IsReachedBySteps : Type 0
   IsReachedBySteps = IsReached theory count (seen old)
+
+  -- no step but a roll-back lowers global virtual time
+  abbrev pub VirtualTimeRises : Step Named → Simulation (Setup T) → Type 0
+  VirtualTimeRises step new = (g h : ℕ) → (IsRollBack step → ⊥) → HasVirtualTime old g → HasVirtualTime new h → g ≤ h
+
+  -- steps with these answers lead there and back for component i
+  abbrev pub ThereAndBack : ℕ → List CodeStep → List (Result CodeReply StepRefused) → Simulation (Setup T) → Type 0
+  ThereAndBack i steps answers = WentThereAndBack i (map step_of steps) (map answer_of answers)

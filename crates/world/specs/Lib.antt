@@ -9,5 +9,7 @@ pub mod MachineLaws
 pub mod Theory
 pub mod ThereAndBack
 pub mod Answered
+pub mod Laws
+pub mod Examples
 pub mod Same
 pub mod SameLaws

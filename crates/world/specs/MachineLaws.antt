@@ -20,7 +20,7 @@ use Rattle.virtual_time.specs.Replies.{IsReached, IsVirtualTime, virtual_time}
 use Rattle.virtual_time.specs.Rules.{IsWorld}
 use Rattle.virtual_time.specs.Worlds.{IsToCommit, Past, World, commit}
 use Rattle.rollback.specs.Flight.{goes, in_flight, item_of}
-use Rattle.rollback.specs.Held.{next_key}
+use Rattle.rollback.specs.ComponentView.{next_key}
 
 module _ (m : Machine (List Datum) Named) where
   -- of next keys: the least of the own turn's and the pending ones'

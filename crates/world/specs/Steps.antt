@@ -4,6 +4,7 @@ use Rattle.terms.specs.Named.{Named}
 use Rattle.event_keys.specs.declared.message.Message.{Message}
 use Rattle.event_keys.specs.declared.message.Sign.{Sign}
 use Rattle.event_keys.specs.declared.message.Sign.TheVariants.{Plus, Minus}
+use Rattle.event_keys.specs.declared.message.Signed.{Signed}
 use Rattle.event_keys.specs.Ranks.{rank, rank_of_bound}
 use Rattle.antimessage.specs.Counts.{plus}
 use Rattle.virtual_time.specs.Replies as theory
@@ -21,10 +22,17 @@ abbrev pub delivery : Sign → Message → happening.Step Named
 delivery Plus m = happening.DeliverMessage m.to (item_of (plus m))
 delivery Minus m = happening.DeliverAntimessage m.to (item_of (plus m))
 
+-- the delivery of this one, and the meeting of a message and its antimessage
+abbrev pub delivering : Signed → happening.Step Named
+delivering signed = delivery signed.sign signed.message
+
+abbrev pub meeting : Message → happening.Step Named
+meeting m = happening.Meet m.to (item_of (plus m))
+
 abbrev pub step_of : Step → happening.Step Named
 step_of (Process i) = happening.Process i
-step_of (Deliver signed) = delivery signed.sign signed.message
-step_of (Meet message) = happening.Meet message.to (item_of (plus message))
+step_of (Deliver signed) = delivering signed
+step_of (Meet message) = meeting message
 step_of (RollBack i) = happening.RollBack i
 step_of (Commit bound) = happening.Commit (rank_of_bound bound)
 

@@ -1,12 +1,11 @@
 //! What is below a bound is given up and committed.
 ghost use Rattle.std.specs.Prelude.{◌≡◌, ◌<◌, ◌≤◌, ◌^◌, ℕ, [], Some, length, nat_lt, option_map, slice_get};
 ghost use Rattle.event_keys.specs.Ranks.{rank_of_bound};
-ghost use Rattle.task_seed.specs.declared.setup.Setup.{Setup as SetupValue};
 ghost use Rattle.task_seed.specs.Taken.{turns_of};
-ghost use Rattle.virtual_time.specs.Reference.{Falls, outcome_at};
-ghost use Rattle.rollback.specs.Held.{Held, machine_of};
+ghost use Rattle.virtual_time.specs.Reference.{Falls};
+ghost use Rattle.rollback.specs.ComponentView.{machine_of};
 ghost use Rattle.raw_events.specs.Onto.{onto};
-ghost use Rattle.world.specs.Dropping.{IsOrderly, cut_between, dropped_at};
+ghost use Rattle.world.specs.Dropping.{AreCut, AreDropped, AreOrderly};
 
 use event_keys::laws::bound_rank_law;
 use event_keys::{Bound, Turned};
@@ -35,13 +34,13 @@ pub(crate) fn drop_between<T: Turns>(
     to: usize,
     bound: Bound,
 ) -> EventList<Turned>
-    requires orderly { (j : ℕ) (c : Held (SetupValue T)) → from ≤ j → j < to → slice_get components.old j ≡ Some c → IsOrderly (machine_of T.turn_of setup.now) setup.now j c }
+    requires orderly { AreOrderly (machine_of T.turn_of setup.now) from to setup.now components.old }
     requires there { to ≤ length components.old }
     ensures many { length components.new ≡ length components.old }
-    ensures cut { (j : ℕ) → slice_get components.new j ≡ option_map (cut_between (machine_of T.turn_of setup.now) bound from to j) (slice_get components.old j) }
+    ensures cut { AreCut (machine_of T.turn_of setup.now) from to bound components.old components.new }
     ensures front { result.before ≡ [] }
     ensures falls { Falls (turns_of result.after) }
-    ensures turns { (k : ℕ) → outcome_at k (turns_of result.after) ≡ dropped_at (machine_of T.turn_of setup.now) (rank_of_bound bound) from to components.old k }
+    ensures turns { AreDropped (machine_of T.turn_of setup.now) from to bound components.old (turns_of result.after) }
 {
     machine_is_lawful(setup);
     dropped_law::<State, Action>();

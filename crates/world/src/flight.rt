@@ -1,18 +1,13 @@
 //! Steps of one component, by its number.
-ghost use Rattle.std.specs.Prelude.{◌≡◌, ◌↔◌, ◌<◌, None, Some, IfNone, IfOk, IfSome, OnErr, OnOk, IsErrOf, length, option_map, slice_get, slice_set};
-ghost use Rattle.event_keys.specs.declared.message.Sign.TheVariants.{Minus};
+ghost use Rattle.std.specs.Prelude.{◌≡◌, ◌↔◌, ◌<◌, None, Some, IfNone, IfOk, IfSome, OnErr, OnOk, IsErrOf, length, option_map, slice_get};
 ghost use Rattle.event_keys.specs.Ranks.{rank, rank_of_bound};
 ghost use Rattle.antimessage.specs.Order.{KeyFits};
 ghost use Rattle.task_seed.specs.declared.setup.Setup.{Setup as SetupValue};
-ghost use Rattle.virtual_time.specs.Records.{roll_back_of, unsent};
-ghost use Rattle.rollback.specs.Flight.{item_of};
-ghost use Rattle.rollback.specs.Held.{Held, back_by, comes, last_key, last_of, machine_of};
-ghost use Rattle.rollback.specs.Post.{IsPosted};
-ghost use Rattle.rollback.specs.Stepped.{HasNextKey, IsNextSent, next_entry, stepped};
-ghost use Rattle.antimessage.specs.Counts.{plus};
-ghost use Rattle.virtual_time.specs.Worlds.{Meet, Process, RollBack};
-ghost use Rattle.world.specs.Stepping.{HasWorld, Steps};
-ghost use Rattle.world.specs.Steps.{answer_by, delivery};
+ghost use Rattle.rollback.specs.ComponentView.{ComponentView, last_key};
+ghost use Rattle.rollback.specs.Stepped.{HasNextKey, next_entry, taken_back};
+ghost use Rattle.virtual_time.specs.Worlds.{Process, RollBack};
+ghost use Rattle.world.specs.Stepping.{Delivers, HasWorld, IsComeTo, IsRolledBackAt, IsSteppedAt, Meets, OfComponent, Steps};
+ghost use Rattle.world.specs.Steps.{answer_by};
 ghost use Rattle.world.specs.Times.{least_next};
 
 use crate::known::laws;
@@ -33,9 +28,9 @@ fn process_at<T: Turns>(
     flight: &mut Bag,
 ) -> Result<Key, ProcessRefused>
     requires { i < length components.old }
-    ensures key { IfOk result (λ key. (c : Held (SetupValue T)) → slice_get components.old i ≡ Some c → HasNextKey T.turn_of c key) }
-    ensures done { OnOk result ((c : Held (SetupValue T)) → slice_get components.old i ≡ Some c → (components.new ≡ slice_set components.old i (stepped T.turn_of c)) × IsNextSent T.turn_of c flight.old flight.new) }
-    ensures nothing { (c : Held (SetupValue T)) → slice_get components.old i ≡ Some c → IsErrOf result ProcessRefused.NothingPending ↔ (next_entry T.turn_of c ≡ None) }
+    ensures key { IfOk result (λ key. (c : ComponentView (SetupValue T)) → slice_get components.old i ≡ Some c → HasNextKey T.turn_of c key) }
+    ensures done { OnOk result (IsSteppedAt T.turn_of i components.old flight.old components.new flight.new) }
+    ensures nothing { OfComponent i components.old (λ c. IsErrOf result ProcessRefused.NothingPending ↔ (next_entry T.turn_of c ≡ None)) }
     ensures kept { OnErr result ((components.new ≡ components.old) × (flight.new ≡ flight.old)) }
 {
     components[usize::from(i)].process(alloc, flight)
@@ -44,8 +39,8 @@ fn process_at<T: Turns>(
 // The key of the entry that was taken back, where one was done.
 fn roll_back_at<T: Turns>(components: &mut [Component<T>], i: u16, flight: &mut Bag) -> Option<Key>
     requires { i < length components.old }
-    ensures key { (c : Held (SetupValue T)) → slice_get components.old i ≡ Some c → option_map rank result ≡ last_key c.history.done }
-    ensures done { IfSome result (λ _. (c : Held (SetupValue T)) → slice_get components.old i ≡ Some c → (components.new ≡ slice_set components.old i (record c { history = roll_back_of (machine_of T.turn_of c.setup) c.history })) × IsPosted Minus (unsent (machine_of T.turn_of c.setup) c.number (last_of c.history.done)) flight.old flight.new) }
+    ensures key { (c : ComponentView (SetupValue T)) → slice_get components.old i ≡ Some c → option_map rank result ≡ last_key c.history.done }
+    ensures done { IfSome result (λ _. IsRolledBackAt T.turn_of i components.old flight.old components.new flight.new) }
     ensures kept { IfNone result ((components.new ≡ components.old) × (flight.new ≡ flight.old)) }
 {
     let component = &mut components[usize::from(i)];
@@ -61,9 +56,9 @@ fn deliver_at<T: Turns>(
     flight: &mut Bag,
 ) -> u64
     requires there { cell.message.to < length components.old }
-    requires number { (c : Held (SetupValue T)) → slice_get components.old cell.message.to ≡ Some c → c.number ≡ cell.message.to }
-    ensures done { (c : Held (SetupValue T)) → slice_get components.old cell.message.to ≡ Some c → (components.new ≡ slice_set components.old cell.message.to (record c { history = comes (machine_of T.turn_of c.setup) cell.sign (item_of cell) c.history })) × IsPosted Minus (unsent (machine_of T.turn_of c.setup) c.number (back_by (machine_of T.turn_of c.setup) cell.sign (item_of cell) c.history)) flight.old flight.new }
-    ensures count { (c : Held (SetupValue T)) → slice_get components.old cell.message.to ≡ Some c → result ≡ length (back_by (machine_of T.turn_of c.setup) cell.sign (item_of cell) c.history) }
+    requires number { (c : ComponentView (SetupValue T)) → slice_get components.old cell.message.to ≡ Some c → c.number ≡ cell.message.to }
+    ensures done { IsComeTo T.turn_of cell.message.to components.old flight.old components.new flight.new cell }
+    ensures count { OfComponent cell.message.to components.old (λ c. result ≡ length (taken_back T.turn_of c cell)) }
 {
     let to = usize::from(cell.value().message.to);
     components[to].deliver(cell, flight)
@@ -139,7 +134,7 @@ pub(crate) fn deliver<T: Turns>(
     flight: &mut Bag,
 ) -> Result<u64, StepRefused>
     requires { HasWorld T.turn_of setup.now components.old flight.old }
-    ensures step { Steps T.turn_of setup.now components.old flight.old components.new flight.new (delivery signed.now.sign signed.now.message) (answer_by Reply.Delivered result) }
+    ensures step { Delivers T.turn_of setup.now components.old flight.old components.new flight.new signed.now (answer_by Reply.Delivered result) }
     ensures many { length components.new ≡ length components.old }
     ensures kept { OnErr result ((components.new ≡ components.old) × (flight.new ≡ flight.old)) }
 {
@@ -161,7 +156,7 @@ pub(crate) fn meet<T: Turns>(
     message: &Message,
     flight: &mut Bag,
 ) -> Result<(), StepRefused>
-    ensures step { Steps T.turn_of setup.now components.now flight.old components.now flight.new (Meet message.now.to (item_of (plus message.now))) (answer_by (λ _. Reply.Met) result) }
+    ensures step { Meets T.turn_of setup.now components.now flight.old flight.new message.now (answer_by (λ _. Reply.Met) result) }
     ensures kept { OnErr result (flight.new ≡ flight.old) }
 {
     laws(setup);

@@ -2,7 +2,7 @@
 ghost use Rattle.std.specs.Prelude.{length};
 ghost use Rattle.plans.specs.Plans.{composition};
 ghost use Rattle.task_seed.specs.Setups.{plan_of};
-ghost use Rattle.rollback.specs.Held.{machine_of};
+ghost use Rattle.rollback.specs.ComponentView.{machine_of};
 ghost use Rattle.world.specs.MachineLaws.{Laws};
 
 use rollback::laws::{least_law, leaving_law, next_law};

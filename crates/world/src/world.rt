@@ -6,16 +6,14 @@ ghost use Rattle.event_keys.specs.Ranks.{rank_of_bound};
 ghost use Rattle.task_seed.specs.Setups.{system};
 ghost use Rattle.task_seed.specs.Taken.{turn_of};
 ghost use Rattle.virtual_time.specs.Reference.{IsReference};
-ghost use Rattle.virtual_time.specs.Rules.{IsRollBack, IsWorld};
-ghost use Rattle.virtual_time.specs.Worlds.{Commit, Meet, Process, RollBack, start_world};
-ghost use Rattle.antimessage.specs.Counts.{plus};
+ghost use Rattle.virtual_time.specs.Rules.{IsWorld};
+ghost use Rattle.virtual_time.specs.Worlds.{Commit, Process, RollBack};
 ghost use Rattle.antimessage.specs.Order.{IsInOrder};
-ghost use Rattle.rollback.specs.Flight.{item_of};
-ghost use Rattle.rollback.specs.Held.{machine_of};
-ghost use Rattle.world.specs.Answered.{Answered, HasVirtualTime, IsReachedBySteps, Ran, StaysCommitted, WentThereAndBack};
+ghost use Rattle.rollback.specs.ComponentView.{machine_of};
+ghost use Rattle.world.specs.Answered.{Answered, HasVirtualTime, IsReachedBySteps, ThereAndBack, Ran, StaysCommitted, VirtualTimeRises};
 ghost use Rattle.world.specs.Keeping.{Keeps};
-ghost use Rattle.world.specs.Simulation.{IsSimulation, start_simulation, world_of};
-ghost use Rattle.world.specs.Steps.{answer_by, answer_of, delivery, step_of};
+ghost use Rattle.world.specs.Simulation.{IsAtStart, IsSimulation, start_simulation, world_of};
+ghost use Rattle.world.specs.Steps.{answer_by, answer_of, delivering, meeting, step_of};
 
 use crate::commit::{append, drop_between, is_above};
 use crate::flight;
@@ -83,7 +81,7 @@ impl<T: Turns> World<T> {
     /// The world of a setup at its start.
     pub fn new(alloc: Global, setup: Arc<Setup<T>>) -> Result<World<T>, NoMemory>
         ensures value { IfOk result (λ world. world ≡ start_simulation T.turn_of (arc_value setup)) }
-        ensures start { IfOk result (λ world. world_of (machine_of T.turn_of (arc_value setup)) world ≡ start_world (machine_of T.turn_of (arc_value setup))) }
+        ensures start { IfOk result (IsAtStart T.turn_of (arc_value setup)) }
     {
         let mut components = Vec::new(alloc);
         for i in 0..setup.plan().components() {
@@ -147,7 +145,7 @@ impl<T: Turns> World<T> {
     pub fn step(&mut self, alloc: Global, step: &Step) -> Result<Reply, StepRefused>
         ensures answers { Answered T.turn_of self.old (step_of step.now) (answer_of result) self.new }
         ensures stays { StaysCommitted T.turn_of self.old self.new }
-        ensures rises { (g h : ℕ) → (IsRollBack (step_of step.now) → ⊥) → HasVirtualTime T.turn_of self.old self.old g → HasVirtualTime T.turn_of self.old self.new h → g ≤ h }
+        ensures rises { VirtualTimeRises T.turn_of self.old (step_of step.now) self.new }
         ensures setup { self.new.setup ≡ self.old.setup }
         ensures keeps { Keeps self.old self.new }
         ensures kept { OnErr result (self.new ≡ self.old) }
@@ -202,7 +200,7 @@ impl<T: Turns> World<T> {
     }
 
     fn deliver(&mut self, signed: &Signed) -> Result<u64, StepRefused>
-        ensures answers { Answered T.turn_of self.old (delivery signed.now.sign signed.now.message) (answer_by Reply.Delivered result) self.new }
+        ensures answers { Answered T.turn_of self.old (delivering signed.now) (answer_by Reply.Delivered result) self.new }
         ensures setup { self.new.setup ≡ self.old.setup }
         ensures keeps { Keeps self.old self.new }
         ensures kept { OnErr result (self.new ≡ self.old) }
@@ -211,7 +209,7 @@ impl<T: Turns> World<T> {
     }
 
     fn meet(&mut self, message: &Message) -> Result<(), StepRefused>
-        ensures answers { Answered T.turn_of self.old (Meet message.now.to (item_of (plus message.now))) (answer_by (λ _. Reply.Met) result) self.new }
+        ensures answers { Answered T.turn_of self.old (meeting message.now) (answer_by (λ _. Reply.Met) result) self.new }
         ensures setup { self.new.setup ≡ self.old.setup }
         ensures keeps { Keeps self.old self.new }
         ensures kept { OnErr result (self.new ≡ self.old) }
@@ -254,7 +252,7 @@ impl<T: Turns> World<T> {
         steps: &[Step],
     ) -> Result<Vec<Result<Reply, StepRefused>>, NoMemory>
         ensures ran { IfOk result (λ answers. Ran T.turn_of self.old (map step_of steps.now) (map answer_of answers.items) self.new) }
-        ensures back { IfOk result (λ answers. (i : ℕ) → WentThereAndBack T.turn_of self.old i (map step_of steps.now) (map answer_of answers.items) self.new → self.new ≡ self.old) }
+        ensures back { IfOk result (λ answers. (i : ℕ) → ThereAndBack T.turn_of self.old i steps.now answers.items self.new → self.new ≡ self.old) }
         ensures stays { IfOk result (λ _. StaysCommitted T.turn_of self.old self.new) }
         ensures setup { self.new.setup ≡ self.old.setup }
         ensures keeps { Keeps self.old self.new }

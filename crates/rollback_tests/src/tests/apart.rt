@@ -1,65 +1,152 @@
 //! Messages that differ in the key or in the action alone, and what an antimessage does to them.
 
-use super::given::{AT_1, AT_2, AT_3, Pass, key, minus, plus};
-use super::steps::Step::{Come, Next, Process};
-use super::steps::{EMPTY, assert_runs, assert_same};
-use event_keys::{Bound, Sign};
+use super::given::{AT_1, AT_2, AT_3, PASS_2, Pass, UNSENT_2};
+use super::steps::Step::{self, Anew, Begin, Come, Next, Process, Same};
+use super::steps::{EMPTY, assert_steps};
+use event_keys::{Bound, Key, Sign};
 use std::test::Fail;
 
-// Each differs from the first pass, which has the tick 2, the number 0 and the argument 1, in one of these.
-fn others() -> [Pass; 3] {
-    [
-        plus(key(2, 0, 1)),
-        plus(key(3, 0, 0)),
-        Pass {
-            sign: Sign::Plus,
-            key: AT_2,
-            argument: 7,
-        },
-    ]
-}
+// Component 0's next turn at the same tick, and its first turn at another one.
+const LATER: Key = Key {
+    tick: 2,
+    component: 0,
+    number: 1,
+};
+
+const AT_TICK_3: Key = Key {
+    tick: 3,
+    component: 0,
+    number: 0,
+};
+
+const PASS_LATER: Pass = Pass {
+    sign: Sign::Plus,
+    key: LATER,
+    argument: 1,
+};
+
+const UNSENT_LATER: Pass = Pass {
+    sign: Sign::Minus,
+    key: LATER,
+    argument: 1,
+};
+
+const PASS_AT_3: Pass = Pass {
+    sign: Sign::Plus,
+    key: AT_TICK_3,
+    argument: 1,
+};
+
+const UNSENT_AT_3: Pass = Pass {
+    sign: Sign::Minus,
+    key: AT_TICK_3,
+    argument: 1,
+};
+
+const PASS_SEVEN: Pass = Pass {
+    sign: Sign::Plus,
+    key: AT_2,
+    argument: 7,
+};
+
+const UNSENT_SEVEN: Pass = Pass {
+    sign: Sign::Minus,
+    key: AT_2,
+    argument: 7,
+};
+
+// The first pass has the tick 2, the number 0 and the argument 1; the other message differs in one of these.
+const APART: [Step; 78] = [
+    // an antimessage takes its own message alone
+    Begin(1),
+    Come(PASS_2, 0),
+    Come(PASS_LATER, 0),
+    Come(UNSENT_2, 0),
+    EMPTY,
+    Anew(1),
+    Come(PASS_LATER, 0),
+    EMPTY,
+    Same,
+    // another antimessage leaves a message
+    Begin(1),
+    Come(PASS_LATER, 0),
+    Come(PASS_2, 0),
+    Come(UNSENT_LATER, 0),
+    EMPTY,
+    Anew(1),
+    Come(PASS_2, 0),
+    EMPTY,
+    Same,
+    // an antimessage leaves another input that is done
+    Begin(1),
+    Come(PASS_LATER, 0),
+    EMPTY,
+    Process(Ok(AT_1)),
+    Process(Ok(LATER)),
+    Come(UNSENT_2, 0),
+    Next(Bound::At(AT_3)),
+    EMPTY,
+    // an antimessage takes its own message alone
+    Begin(1),
+    Come(PASS_2, 0),
+    Come(PASS_AT_3, 0),
+    Come(UNSENT_2, 0),
+    EMPTY,
+    Anew(1),
+    Come(PASS_AT_3, 0),
+    EMPTY,
+    Same,
+    // another antimessage leaves a message
+    Begin(1),
+    Come(PASS_AT_3, 0),
+    Come(PASS_2, 0),
+    Come(UNSENT_AT_3, 0),
+    EMPTY,
+    Anew(1),
+    Come(PASS_2, 0),
+    EMPTY,
+    Same,
+    // an antimessage leaves another input that is done
+    Begin(1),
+    Come(PASS_AT_3, 0),
+    EMPTY,
+    Process(Ok(AT_1)),
+    Process(Ok(AT_TICK_3)),
+    Come(UNSENT_2, 0),
+    Next(Bound::At(AT_3)),
+    EMPTY,
+    // an antimessage takes its own message alone
+    Begin(1),
+    Come(PASS_2, 0),
+    Come(PASS_SEVEN, 0),
+    Come(UNSENT_2, 0),
+    EMPTY,
+    Anew(1),
+    Come(PASS_SEVEN, 0),
+    EMPTY,
+    Same,
+    // another antimessage leaves a message
+    Begin(1),
+    Come(PASS_SEVEN, 0),
+    Come(PASS_2, 0),
+    Come(UNSENT_SEVEN, 0),
+    EMPTY,
+    Anew(1),
+    Come(PASS_2, 0),
+    EMPTY,
+    Same,
+    // an antimessage leaves another input that is done
+    Begin(1),
+    Come(PASS_SEVEN, 0),
+    EMPTY,
+    Process(Ok(AT_1)),
+    Process(Ok(AT_2)),
+    Come(UNSENT_2, 0),
+    Next(Bound::At(AT_3)),
+    EMPTY,
+];
 
 #[test]
 fn an_antimessage_takes_its_own_message_alone(rt: HostRuntime) -> Result<(), Fail> {
-    for other in others() {
-        let steps = [
-            Come(plus(AT_2), 0),
-            Come(other, 0),
-            Come(minus(AT_2), 0),
-            EMPTY,
-        ];
-        assert_same(&rt, 1, &steps, &[Come(other, 0), EMPTY])?;
-    }
-    Ok(())
-}
-
-#[test]
-fn another_antimessage_leaves_a_message(rt: HostRuntime) -> Result<(), Fail> {
-    for other in others() {
-        let unsent = Pass {
-            sign: Sign::Minus,
-            key: other.key,
-            argument: other.argument,
-        };
-        let steps = [Come(other, 0), Come(plus(AT_2), 0), Come(unsent, 0), EMPTY];
-        assert_same(&rt, 1, &steps, &[Come(plus(AT_2), 0), EMPTY])?;
-    }
-    Ok(())
-}
-
-#[test]
-fn an_antimessage_leaves_another_input_that_is_done(rt: HostRuntime) -> Result<(), Fail> {
-    for other in others() {
-        let steps = [
-            Come(other, 0),
-            EMPTY,
-            Process(Ok(AT_1)),
-            Process(Ok(other.key)),
-            Come(minus(AT_2), 0),
-            Next(Bound::At(AT_3)),
-            EMPTY,
-        ];
-        assert_runs(&rt, 1, &steps)?;
-    }
-    Ok(())
+    Ok(assert_steps(&rt, &APART)?)
 }

@@ -137,6 +137,24 @@ pub(crate) const fn plus(key: Key) -> Pass {
     }
 }
 
+pub(crate) const PASS_2: Pass = Pass {
+    sign: Sign::Plus,
+    key: AT_2,
+    argument: 1,
+};
+
+pub(crate) const UNSENT_2: Pass = Pass {
+    sign: Sign::Minus,
+    key: AT_2,
+    argument: 1,
+};
+
+pub(crate) const PASS_3: Pass = Pass {
+    sign: Sign::Plus,
+    key: AT_3,
+    argument: 0,
+};
+
 pub(crate) const fn minus(key: Key) -> Pass {
     Pass {
         sign: Sign::Minus,

@@ -1,6 +1,6 @@
 //! Calls that are refused their memory, under `rt try --test --fail-alloc N` with each N in turn.
 
-use super::given::{AT_1, AT_2, AT_3, AT_4, Given, NOTHING, bag, key, passes, plus};
+use super::given::{AT_1, AT_2, AT_3, AT_4, Given, NOTHING, PASS_2, bag, key, passes};
 use super::steps::{Bench, Step, at_start, does};
 use antimessage::Bag;
 use event_keys::Key;
@@ -30,7 +30,7 @@ fn posted(alloc: Global) -> Result<Bag, NoMemory> {
 fn ready(alloc: Global, refusal: Refusal) -> Result<Bench, NoMemory> {
     let mut bench = at_start(alloc, refusal.given, refusal.number)?;
     if refusal.number == 1 {
-        does(alloc, &mut bench, Step::Come(plus(AT_2), 0))?;
+        does(alloc, &mut bench, Step::Come(PASS_2, 0))?;
     }
     for _ in 0..refusal.entries {
         if bench.node.process(alloc, &mut bench.out).is_err() {
@@ -100,54 +100,70 @@ fn assert_served_or_kept(
     Ok(())
 }
 
-fn of_ring(number: u16, entries: u32, key: Key) -> Refusal {
+// The first turn of the fan's component 0, which sends to two listeners.
+const FAN_AT_1: Key = Key {
+    tick: 1,
+    component: 0,
+    number: 0,
+};
+
+// A turn that sends, two idle turns, an input, a turn after an input, and turns that send to two, without and with copies.
+const REFUSALS: [Refusal; 7] = [
     Refusal {
         given: Given::Ring,
-        number,
-        entries,
+        number: 0,
+        entries: 0,
         is_copied: false,
-        key,
-    }
-}
-
-// Component 0 of the fan sends to two listeners.
-fn of_fan(is_copied: bool) -> Refusal {
+        key: AT_2,
+    },
+    Refusal {
+        given: Given::Ring,
+        number: 0,
+        entries: 1,
+        is_copied: false,
+        key: AT_4,
+    },
+    Refusal {
+        given: Given::Ring,
+        number: 1,
+        entries: 0,
+        is_copied: false,
+        key: AT_1,
+    },
+    Refusal {
+        given: Given::Ring,
+        number: 1,
+        entries: 1,
+        is_copied: false,
+        key: AT_2,
+    },
+    Refusal {
+        given: Given::Ring,
+        number: 1,
+        entries: 2,
+        is_copied: false,
+        key: AT_3,
+    },
     Refusal {
         given: Given::Fan,
         number: 0,
         entries: 0,
-        is_copied,
-        key: key(1, 0, 0),
+        is_copied: false,
+        key: FAN_AT_1,
+    },
+    Refusal {
+        given: Given::Fan,
+        number: 0,
+        entries: 0,
+        is_copied: true,
+        key: FAN_AT_1,
+    },
+];
+
+#[test]
+fn a_refused_entry_changes_nothing(rt: HostRuntime) -> Result<(), Fail> {
+    for refusal in &REFUSALS {
+        assert_served_or_kept(&rt, *refusal)?;
     }
-}
-
-#[test]
-fn a_refused_turn_that_sends_changes_nothing(rt: HostRuntime) -> Result<(), Fail> {
-    Ok(assert_served_or_kept(&rt, of_ring(0, 0, AT_2))?)
-}
-
-#[test]
-fn a_refused_idle_turn_changes_nothing(rt: HostRuntime) -> Result<(), Fail> {
-    assert_served_or_kept(&rt, of_ring(0, 1, AT_4))?;
-    Ok(assert_served_or_kept(&rt, of_ring(1, 0, AT_1))?)
-}
-
-#[test]
-fn a_refused_input_changes_nothing(rt: HostRuntime) -> Result<(), Fail> {
-    Ok(assert_served_or_kept(&rt, of_ring(1, 1, AT_2))?)
-}
-
-#[test]
-fn a_refused_turn_after_an_input_changes_nothing(rt: HostRuntime) -> Result<(), Fail> {
-    Ok(assert_served_or_kept(&rt, of_ring(1, 2, AT_3))?)
-}
-
-#[test]
-fn a_refused_turn_that_sends_to_two_changes_nothing(rt: HostRuntime) -> Result<(), Fail> {
-    Ok(assert_served_or_kept(&rt, of_fan(false))?)
-}
-
-#[test]
-fn a_refused_turn_that_is_copied_changes_nothing(rt: HostRuntime) -> Result<(), Fail> {
-    Ok(assert_served_or_kept(&rt, of_fan(true))?)
+    Ok(())
 }

@@ -1,18 +1,22 @@
 //! Rows of steps of one component, each with its answer, and what runs them.
 
-use super::given::{Given, Held, NOTHING, Node, Pass, bag, cell, message, plus, start};
+use super::given::{
+    AT_2, AT_3, Given, Held, NOTHING, Node, Pass, bag, cell, message, passes, plus, start,
+};
 use antimessage::Bag;
 use event_keys::{Bound, Key, Outcome, Turned};
 use raw_events::EventList;
 use rollback::{Copies, ProcessRefused, Trip};
 use std::alloc::{AllocGlobal, Global};
+use std::mem;
 use std::process::Abort;
 use terms::{Action, NoMemory};
 
-/// A component with what it posted, the copies of it, and the dropped turns.
+/// A component with what it posted, the copies of it, and the dropped turns; and the component before it.
 #[derive(Drop)]
 pub(crate) struct Bench {
     pub(crate) node: Node,
+    before: Option<Node>,
     pub(crate) out: Bag,
     pub(crate) copies: Copies,
     dropped: EventList<Turned>,
@@ -21,6 +25,7 @@ pub(crate) struct Bench {
 pub(crate) fn at_start(alloc: Global, given: Given, number: u16) -> Result<Bench, NoMemory> {
     Ok(Bench {
         node: start(alloc, given, number)?,
+        before: None,
         out: Bag::new(),
         copies: Copies::new(),
         dropped: EventList::new(),
@@ -33,6 +38,12 @@ pub(crate) const ENDED: Result<Key, ProcessRefused> = Err(ProcessRefused::Nothin
 /// What is done with its answer, or what is seen.
 #[derive(Clone, Copy)]
 pub(crate) enum Step {
+    /// A component of the ring at the start, with nothing posted.
+    Begin(u16),
+    /// The same; the one of the steps before is kept.
+    Anew(u16),
+    /// The component is equal to the one that was kept.
+    Same,
     /// Does the next entry.
     Process(Result<Key, ProcessRefused>),
     /// Does the next entry with copies.
@@ -57,27 +68,33 @@ pub(crate) enum Step {
     Next(Bound),
     /// The bound of the base.
     Base(Bound),
-    /// What was posted.
-    Out(Held, Held),
+    /// What was posted: so many messages of one turn, and so many antimessages.
+    Out(Key, u32, u32),
+    /// A message of each of two turns was posted.
+    OutTwo(Key, Key),
     /// What there is in each of the two bags of copies.
-    Copied(Held, Held),
-    /// Whether these messages were taken, with these in the tray.
-    Taken(Held, Held, bool),
-    /// Whether these messages stand, with these that have not left.
-    Standing(Held, Held, bool),
-}
-
-/// The bag of what was posted.
-pub(crate) const fn out(held: Held) -> Step {
-    Step::Out(held, NOTHING)
+    Copied(Key, u32, u32),
+    /// A message of each of two turns is in each of the two bags of copies.
+    CopiedTwo(Key, Key),
+    /// Whether so many of component 0's first message were taken, with so many of it in the tray and so many antimessages.
+    Taken(u32, u32, u32, bool),
+    /// Whether component 1's second message was taken, with an empty tray.
+    TakenOther(bool),
+    /// Whether so many of component 0's first message stand, with so many of it that have not left and so many antimessages.
+    Standing(u32, u32, u32, bool),
+    /// Whether component 1's second message stands, where all has left.
+    StandingOther(bool),
 }
 
 /// Nothing was posted.
-pub(crate) const EMPTY: Step = Step::Out(NOTHING, NOTHING);
+pub(crate) const EMPTY: Step = Step::Out(AT_2, 0, 0);
 
 /// Whether the step's answer is the one that it says.
 pub(crate) fn does(alloc: Global, bench: &mut Bench, step: Step) -> Result<bool, NoMemory> {
     match step {
+        Step::Begin(number) => begins(alloc, bench, number),
+        Step::Anew(number) => begins_anew(alloc, bench, number),
+        Step::Same => Ok(is_as_before(bench)),
         Step::Process(wanted) => Ok(bench.node.process(alloc, &mut bench.out) == wanted),
         Step::Copy(wanted) => Ok(does_copied(alloc, bench, wanted)),
         Step::Come(pass, taken_back) => comes(alloc, bench, pass, taken_back),
@@ -90,10 +107,77 @@ pub(crate) fn does(alloc: Global, bench: &mut Bench, step: Step) -> Result<bool,
         Step::NoneDropped => Ok(bench.dropped.peek_next().is_none()),
         Step::Next(bound) => Ok(bench.node.next() == bound),
         Step::Base(bound) => Ok(bench.node.base() == bound),
-        Step::Out(first, second) => is_bag(alloc, &bench.out, first, second),
-        Step::Copied(first, second) => is_copied(alloc, &bench.copies, first, second),
-        Step::Taken(known, tray, wanted) => is_taken(alloc, &bench.node, known, tray, wanted),
-        Step::Standing(known, out, wanted) => is_standing(alloc, &bench.node, known, out, wanted),
+        Step::Out(key, pluses, minuses) => is_bag(
+            alloc,
+            &bench.out,
+            passes(key, pluses, minuses),
+            NOTHING,
+        ),
+        Step::OutTwo(first, second) => is_bag(
+            alloc,
+            &bench.out,
+            passes(first, 1, 0),
+            passes(second, 1, 0),
+        ),
+        Step::Copied(key, pluses, minuses) => is_copied(
+            alloc,
+            &bench.copies,
+            passes(key, pluses, minuses),
+            NOTHING,
+        ),
+        Step::CopiedTwo(first, second) => is_copied(
+            alloc,
+            &bench.copies,
+            passes(first, 1, 0),
+            passes(second, 1, 0),
+        ),
+        Step::Taken(known, tray, minuses, wanted) => is_taken(
+            alloc,
+            &bench.node,
+            passes(AT_2, known, 0),
+            passes(AT_2, tray, minuses),
+            wanted,
+        ),
+        Step::TakenOther(wanted) => is_taken(
+            alloc,
+            &bench.node,
+            passes(AT_3, 1, 0),
+            NOTHING,
+            wanted,
+        ),
+        Step::Standing(known, out, minuses, wanted) => is_standing(
+            alloc,
+            &bench.node,
+            passes(AT_2, known, 0),
+            passes(AT_2, out, minuses),
+            wanted,
+        ),
+        Step::StandingOther(wanted) => is_standing(
+            alloc,
+            &bench.node,
+            passes(AT_3, 1, 0),
+            NOTHING,
+            wanted,
+        ),
+    }
+}
+
+fn begins(alloc: Global, bench: &mut Bench, number: u16) -> Result<bool, NoMemory> {
+    *bench = at_start(alloc, Given::Ring, number)?;
+    Ok(true)
+}
+
+fn begins_anew(alloc: Global, bench: &mut Bench, number: u16) -> Result<bool, NoMemory> {
+    let node = start(alloc, Given::Ring, number)?;
+    bench.before = Some(mem::replace(&mut bench.node, node));
+    bench.out = Bag::new();
+    Ok(true)
+}
+
+fn is_as_before(bench: &Bench) -> bool {
+    match &bench.before {
+        Some(before) => bench.node == *before,
+        None => false,
     }
 }
 
@@ -178,43 +262,14 @@ fn is_standing(
     Ok(node.has_standing(&known, &out) == wanted)
 }
 
-fn run(rt: &(impl Abort + AllocGlobal), bench: &mut Bench, steps: &[Step]) -> Result<(), NoMemory> {
+/// The steps have the answers that they say.
+pub(crate) fn assert_steps(
+    rt: &(impl Abort + AllocGlobal),
+    steps: &[Step],
+) -> Result<(), NoMemory> {
+    let mut bench = at_start(rt.alloc(), Given::Ring, 0)?;
     for (k, step) in steps.iter().enumerate() {
-        assert!(rt; does(rt.alloc(), bench, *step)?, "at step {k}");
+        assert!(rt; does(rt.alloc(), &mut bench, *step)?, "at step {k}");
     }
-    Ok(())
-}
-
-/// A component of the ring after these steps.
-pub(crate) fn ran(
-    rt: &(impl Abort + AllocGlobal),
-    number: u16,
-    steps: &[Step],
-) -> Result<Bench, NoMemory> {
-    let mut bench = at_start(rt.alloc(), Given::Ring, number)?;
-    run(rt, &mut bench, steps)?;
-    Ok(bench)
-}
-
-/// A component of the ring takes these steps.
-pub(crate) fn assert_runs(
-    rt: &(impl Abort + AllocGlobal),
-    number: u16,
-    steps: &[Step],
-) -> Result<(), NoMemory> {
-    let _bench = ran(rt, number, steps)?;
-    Ok(())
-}
-
-/// A component of the ring is the same after these steps and after those.
-pub(crate) fn assert_same(
-    rt: &(impl Abort + AllocGlobal),
-    number: u16,
-    steps: &[Step],
-    others: &[Step],
-) -> Result<(), NoMemory> {
-    let first = ran(rt, number, steps)?;
-    let second = ran(rt, number, others)?;
-    assert!(rt; first.node == second.node);
     Ok(())
 }

@@ -1,7 +1,7 @@
 use Rattle.std.proofs.Common.{ℕ, List}
 use Rattle.trace.specs.Puts.{Stops}
 use Rattle.trace.specs.Went.{IsWritten}
-use Rattle.rollback.specs.Held.{machine_of}
+use Rattle.rollback.specs.ComponentView.{machine_of}
 use Rattle.world.specs.Simulation.{world_of}
 use Rattle.commands.proofs.Driven.{driven}
 use Rattle.commands.proofs.driving.drive_world.Goals as goal

@@ -3,7 +3,7 @@ use Rattle.std.proofs.lemmas.Iterator.{YieldsList-from_slice, YieldsList-from_ma
 use Rattle.std.proofs.lemmas.List.{map-id}
 use Rattle.event_keys.specs.declared.key.Bound.{Bound}
 use Rattle.gvt.specs.Least.{IsLeast}
-use Rattle.exchange.specs.Shared.{clear_until}
+use Rattle.exchange.specs.ExchangeView.{clear_until}
 use Rattle.exchange.proofs.exchange.least_clear.Goals as goal
 
 pub returns : goal.returns

@@ -3,7 +3,7 @@ use Rattle.event_keys.specs.Ranks.{rank_of_bound}
 use Rattle.plans.specs.Plans.{composition}
 use Rattle.task_seed.specs.Setups.{system}
 use Rattle.task_seed.specs.Machines.{machine}
-use Rattle.exchange.specs.Shared.{passing, IsPassing}
+use Rattle.exchange.specs.ExchangeView.{passing, IsPassing}
 use Rattle.exchange.proofs.Passing.{passing_here, done_more, rest_more, count_more, passed_more, all_done, all_before, slice_set-length}
 use Rattle.exchange.proofs.Walking.{walk_here, walks_more}
 use Rattle.exchange.proofs.exchange.pass_all.Goals as goal

@@ -3,9 +3,9 @@ use Rattle.std.specs.Prelude.{slice_get, option_map, Some}
 use Rattle.event_keys.specs.Ranks.{rank_of_bound}
 use Rattle.virtual_time.specs.Reference.{point, turns_of}
 use Rattle.task_seed.specs.Setups.{system}
-use Rattle.rollback.specs.Held.{machine_of}
+use Rattle.rollback.specs.ComponentView.{machine_of}
 use Rattle.exchange.specs.declared.stub.Stub.{Stub}
-use Rattle.exchange.specs.Shared.{passing, IsPassing}
+use Rattle.exchange.specs.ExchangeView.{passing, IsPassing}
 use Rattle.exchange.specs.Walks.{AreWalks}
 use Rattle.exchange.proofs.exchange.pass_all.Given as goal
 

@@ -6,8 +6,8 @@ use Rattle.antimessage.specs.Bags.{least_of}
 use Rattle.task_seed.specs.Setups.{system}
 use Rattle.task_seed.specs.Machines.{machine}
 use Rattle.virtual_time.specs.Machine.{Lawful}
-use Rattle.exchange.specs.Holding.{part_of}
-use Rattle.exchange.specs.Shared.{earlier}
+use Rattle.exchange.specs.LeaseView.{part_of}
+use Rattle.exchange.specs.ExchangeView.{earlier}
 use Rattle.exchange.proofs.Lowest.{floor_is}
 use Rattle.exchange.proofs.meeting.floor_of.Goals as goal
 

@@ -1,7 +1,7 @@
 use Rattle.std.proofs.Common.{◌≡◌, length}
 use Rattle.rollback.specs.Falling.{Falls}
 use Rattle.raw_events.specs.Onto.{onto}
-use Rattle.rollback.specs.Kept.{entries_of, is_any_input}
+use Rattle.rollback.specs.ComponentInvariant.{entries_of, is_any_input}
 use Rattle.rollback.proofs.deliver.has_input.Given as goal
 
 abbrev pub invariant-loop-done : goal.invariant-loop-done

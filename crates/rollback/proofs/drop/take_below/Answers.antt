@@ -5,7 +5,7 @@ use Rattle.raw_events.specs.Around.{Around}
 use Rattle.message_balance.specs.declared.done.Done.{Done}
 use Rattle.rollback.specs.Dropped.{dones_below, dones_from, key_in, oldest_below, turn_in, turns_in, without_oldest_below}
 use Rattle.rollback.specs.Falling.{Falls}
-use Rattle.rollback.specs.Kept.{entries_of}
+use Rattle.rollback.specs.ComponentInvariant.{entries_of}
 use Rattle.rollback.proofs.Oldest.{falls_without, few_below, from_stays, length_step, length_whole, newest_none, newest_or, newest_step, none_below, none_stays, turns_none, turns_step}
 use Rattle.rollback.proofs.drop.take_below.Goals as goal
 

@@ -2,7 +2,7 @@ use Rattle.std.proofs.Common.{◌≡◌, ◌+◌, ◌++◌, [], length}
 use Rattle.event_keys.specs.Ranks.{rank_of_bound}
 use Rattle.rollback.specs.Dropped.{dones_below, dones_from, newest_key, turns_in}
 use Rattle.rollback.specs.Falling.{Falls}
-use Rattle.rollback.specs.Kept.{entries_of}
+use Rattle.rollback.specs.ComponentInvariant.{entries_of}
 use Rattle.rollback.proofs.Oldest.{newest_or}
 use Rattle.rollback.proofs.drop.take_below.Given as goal
 

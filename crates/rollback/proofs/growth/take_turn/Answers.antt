@@ -1,7 +1,7 @@
 use Rattle.std.proofs.Common.{◌≡◌, [], ap, ◌∙◌}
 use Rattle.event_keys.specs.declared.message.Sign.TheVariants.{Plus}
 use Rattle.task_seed.specs.Setups.{system}
-use Rattle.rollback.specs.Kept.{signed_by, signed_of}
+use Rattle.rollback.specs.ComponentInvariant.{signed_by, signed_of}
 use Rattle.rollback.proofs.Sending.{posted_turn}
 use Rattle.rollback.proofs.growth.take_turn.Goals as goal
 

@@ -1,6 +1,6 @@
 use Rattle.std.proofs.Common.{◌≡◌, All, sym, subst}
 use Rattle.std.specs.Arc.{arc_value}
-use Rattle.exchange.specs.Holding.{Holding}
+use Rattle.exchange.specs.LeaseView.{LeaseView}
 use Rattle.task_seed.specs.declared.setup.Setup.{Setup}
 use Rattle.workers.specs.Crews.{setup_of}
 use Rattle.workers.proofs.Started.{started_setup}
@@ -11,5 +11,5 @@ returns-clause-leases g c =
     let clone = arc_value c.in_ok-try_clone.field-0 in
     let leases = c.in_ok-new.field-0.1.items in
     let same : clone ≡ arc_value c.args.setup.now = c.in_ok-try_clone.ensures in
-    subst (λ (setup : Setup g.row.T.Denot). All (λ (l : Holding (Setup g.row.T.Denot)). setup_of l ≡ setup) leases) same
-    (subst (All (λ (l : Holding (Setup g.row.T.Denot)). setup_of l ≡ clone)) (sym c.in_ok-new.ensures.leases) (started_setup g.T.Turns.turn_of clone 0 _))
+    subst (λ (setup : Setup g.row.T.Denot). All (λ (l : LeaseView (Setup g.row.T.Denot)). setup_of l ≡ setup) leases) same
+    (subst (All (λ (l : LeaseView (Setup g.row.T.Denot)). setup_of l ≡ clone)) (sym c.in_ok-new.ensures.leases) (started_setup g.T.Turns.turn_of clone 0 _))

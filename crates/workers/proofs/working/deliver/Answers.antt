@@ -1,4 +1,4 @@
-use Rattle.rollback.specs.Held.{machine_of}
+use Rattle.rollback.specs.ComponentView.{machine_of}
 use Rattle.workers.proofs.Settled.{number_stays, setup_stays}
 use Rattle.workers.proofs.working.deliver.Goals as goal
 

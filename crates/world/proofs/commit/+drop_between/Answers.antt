@@ -6,8 +6,8 @@ use Rattle.event_keys.specs.Ranks.{rank_of_bound}
 use Rattle.virtual_time.specs.Entries.{below}
 use Rattle.virtual_time.specs.Records.{cut_of, turns_among}
 use Rattle.virtual_time.specs.Reference.{Falls, Turn, outcome_at}
-use Rattle.rollback.specs.Held.{machine_of}
-use Rattle.world.specs.Dropping.{cut_at}
+use Rattle.rollback.specs.ComponentView.{machine_of}
+use Rattle.rollback.specs.ComponentView.{cut_at}
 use Rattle.world.proofs.Ranges.{dropped_one, given_is, one_all, one_cut, one_there, past_stays}
 use Rattle.world.proofs.commit.+drop_between.Goals as goal
 

@@ -6,10 +6,10 @@ use Rattle.virtual_time.specs.Records.{unsent}
 use Rattle.rollback.specs.Post.{IsPosted}
 use Rattle.virtual_time.specs.Replies as theory
 use Rattle.rollback.specs.Flight.{item_of}
-use Rattle.rollback.specs.Held.{back_by, comes, machine_of}
+use Rattle.rollback.specs.ComponentView.{back_by, comes, machine_of}
 use Rattle.world.specs.Steps.{delivery}
 use Rattle.task_seed.specs.declared.setup.Setup.{Setup}
-use Rattle.rollback.specs.Held.{Held}
+use Rattle.rollback.specs.ComponentView.{ComponentView}
 use Rattle.event_keys.specs.declared.message.Signed.{Signed}
 use Rattle.world.specs.Simulation.{Simulation}
 use Rattle.world.specs.Stepping.{IsStep}
@@ -36,8 +36,8 @@ returns-in-Some-clause-step g c = λ bound committed is.
     let signed = c.args.signed.now in
     let same : c.in-Some.cell ≡ signed = c.take_equal_law.ensures.same signed c.in-Some.cell c.args.flight.now (sym c.take_equal.ensures.taken ∙ c.in-Some.is) in
     let has_it = sym (is_there t w c.laws.ensures is c.order_law.ensures signed.message c.fits.ensures signed.sign) ∙ ap is_some (sym c.take_equal.ensures.taken ∙ c.in-Some.is) in
-    let done = subst₂ (λ (x : Signed) (bag : List Signed). (h : Held (Setup _)) → slice_get c.args.components.now x.message.to ≡ Some h → (c.deliver_at.new.components ≡ slice_set c.args.components.now x.message.to (record h { history = comes (machine_of t h.setup) x.sign (item_of x) h.history })) × IsPosted Minus (unsent (machine_of t h.setup) h.number (back_by (machine_of t h.setup) x.sign (item_of x) h.history)) bag c.deliver_at.new.flight) same c.take_equal.ensures.rest c.deliver_at.ensures.done in
-    let count = subst (λ (x : Signed). (h : Held (Setup _)) → slice_get c.args.components.now x.message.to ≡ Some h → c.deliver_at.result ≡ length (back_by (machine_of t h.setup) x.sign (item_of x) h.history)) same c.deliver_at.ensures.count in
+    let done = subst₂ (λ (x : Signed) (bag : List Signed). (h : ComponentView (Setup _)) → slice_get c.args.components.now x.message.to ≡ Some h → (c.deliver_at.new.components ≡ slice_set c.args.components.now x.message.to (record h { history = comes (machine_of t h.setup) x.sign (item_of x) h.history })) × IsPosted Minus (unsent (machine_of t h.setup) h.number (back_by (machine_of t h.setup) x.sign (item_of x) h.history)) bag c.deliver_at.new.flight) same c.take_equal.ensures.rest c.deliver_at.ensures.done in
+    let count = subst (λ (x : Signed). (h : ComponentView (Setup _)) → slice_get c.args.components.now x.message.to ≡ Some h → c.deliver_at.result ≡ length (back_by (machine_of t h.setup) x.sign (item_of x) h.history)) same c.deliver_at.ensures.count in
     step_delivered t w c.laws.ensures is c.order_law.ensures signed.message c.fits.ensures signed.sign c.deliver_at.result c.deliver_at.new.components c.deliver_at.new.flight has_it done count
 
 pub returns-in-None-clause-step : goal.returns-in-None-clause-step

@@ -14,12 +14,12 @@ use Rattle.plans.specs.Plans.{composition}
 use Rattle.task_seed.specs.Setups.{system, plan_of}
 use Rattle.task_seed.specs.Machines.{machine}
 use Rattle.task_seed.specs.Taken.{turns_of}
-use Rattle.rollback.specs.Held.{Held, machine_of}
+use Rattle.rollback.specs.ComponentView.{ComponentView, machine_of}
 use Rattle.raw_events.specs.Onto.{onto}
 use Rattle.exchange.specs.declared.stub.Stub.{Stub}
-use Rattle.exchange.specs.Holding.{Holding, IsHolding, lease_of, part_of}
+use Rattle.exchange.specs.LeaseView.{LeaseView, IsValidLease, lease_of, part_of}
 use Rattle.exchange.specs.Moving.{IsPassedOn}
-use Rattle.exchange.specs.Shared.{Shared, IsShared, stub_or_start, exchange_of}
+use Rattle.exchange.specs.ExchangeView.{ExchangeView, IsValidExchange, stub_or_start, exchange_of}
 use Rattle.exchange.proofs.Accepting.{accepted}
 use Rattle.exchange.proofs.Receiving.{To}
 use Rattle.exchange.proofs.Chunking.{onto_back}
@@ -33,27 +33,27 @@ merge-requires-clause-falls g c =
     let i = l.component.number in
     let s = system t (arc_value f.setup) in
     let m = machine s in
-    let e : Shared _ = record { setup = arc_value f.setup; stubs = f.stubs.items; bound = f.bound; held = f.held.after; given = f.given } in
-    let h : Holding _ = record { component = l.component; tray = l.tray; out = l.out; copies = l.copies; floor = l.floor } in
-    let same : s ≡ system t l.component.setup = ap (λ (x : Shared _). system t x.setup) c.self.view_is ∙ c.requires.same ∙ sym (ap (λ (x : Holding _). system t x.component.setup) c.lease.view_is) in
+    let e : ExchangeView _ = record { setup = arc_value f.setup; stubs = f.stubs.items; bound = f.bound; held = f.held.after; given = f.given } in
+    let h : LeaseView _ = record { component = l.component; tray = l.tray; out = l.out; copies = l.copies; floor = l.floor } in
+    let same : s ≡ system t l.component.setup = ap (λ (x : ExchangeView _). system t x.setup) c.self.view_is ∙ c.requires.same ∙ sym (ap (λ (x : LeaseView _). system t x.component.setup) c.lease.view_is) in
     let law : Lawful m = subst (λ p. Lawful (machine (system t p))) c.deref.ensures c.machine_is_lawful.ensures.lawful in
-    let is : IsShared s e = c.self.invariant.1 in
-    let holds : IsHolding m (length s.composition) h = subst (λ x. IsHolding (machine x) (length x.composition) h) (sym same) c.lease.invariant in
+    let is : IsValidExchange s e = c.self.invariant.1 in
+    let holds : IsValidLease m (length s.composition) h = subst (λ x. IsValidLease (machine x) (length x.composition) h) (sym same) c.lease.invariant in
     let match : Matches m i (stub_or_start m i (slice_get f.stubs.items i)) (lease_of h)
-    = subst₂ (λ (x : Shared _) (y : Holding _). Matches (machine_of t x.setup) y.component.number (stub_or_start (machine_of t x.setup) y.component.number (slice_get x.stubs y.component.number)) (lease_of y)) (sym c.self.view_is) (sym c.lease.view_is) c.requires.matches in
+    = subst₂ (λ (x : ExchangeView _) (y : LeaseView _). Matches (machine_of t x.setup) y.component.number (stub_or_start (machine_of t x.setup) y.component.number (slice_get x.stubs y.component.number)) (lease_of y)) (sym c.self.view_is) (sym c.lease.view_is) c.requires.matches in
     let dropped : turns_of c.drop_below.result.after ≡ turns_among (below (rank_of_bound f.bound) l.component.history.done)
     = ap (λ ts. onto ts []) c.drop_below.ensures.turns ∙ onto_back (turns_among (below (rank_of_bound f.bound) l.component.history.done)) [] in
     subst Falls (sym dropped) (c.meeting_law.ensures.falls m (length s.composition) i (exchange_of m e) (lease_of h) law is.sound holds.lease match)
 
 pub pass_on-lease-inside-requires-clause-arrived : goal.pass_on-lease-inside-requires-clause-arrived
 pass_on-lease-inside-requires-clause-arrived g c = λ _ _.
-    subst (λ (x : Held _). To x.number c.lease.inside.tray) (sym c.drop_below.ensures.record) c.lease.invariant.arrived
+    subst (λ (x : ComponentView _). To x.number c.lease.inside.tray) (sym c.drop_below.ensures.record) c.lease.invariant.arrived
 
 pub pass_on-lease-inside-requires-clause-inbox : goal.pass_on-lease-inside-requires-clause-inbox
 pass_on-lease-inside-requires-clause-inbox g c = λ _ _.
     let all : (stub : Stub) → slice_get c.deref_mut.result.now c.lease.inside.component.number ≡ Some stub → To c.lease.inside.component.number stub.inbox
     = λ stub there. (c.self.invariant.1.stubs c.lease.inside.component.number stub (ap (λ xs. slice_get xs c.lease.inside.component.number) (sym c.deref_mut.ensures.value) ∙ there)).inbox in
-    subst (λ (x : Held _). (stub : Stub) → slice_get c.deref_mut.result.now x.number ≡ Some stub → To x.number stub.inbox) (sym c.drop_below.ensures.record) all
+    subst (λ (x : ComponentView _). (stub : Stub) → slice_get c.deref_mut.result.now x.number ≡ Some stub → To x.number stub.inbox) (sym c.drop_below.ensures.record) all
 
 pub invariant_of-self : goal.invariant_of-self
 invariant_of-self g c =
@@ -63,14 +63,14 @@ invariant_of-self g c =
     let i = l.component.number in
     let s = system t (arc_value f.setup) in
     let m = machine s in
-    let e : Shared _ = record { setup = arc_value f.setup; stubs = f.stubs.items; bound = f.bound; held = f.held.after; given = f.given } in
-    let h : Holding _ = record { component = l.component; tray = l.tray; out = l.out; copies = l.copies; floor = l.floor } in
-    let same : s ≡ system t l.component.setup = ap (λ (x : Shared _). system t x.setup) c.self.view_is ∙ c.requires.same ∙ sym (ap (λ (x : Holding _). system t x.component.setup) c.lease.view_is) in
+    let e : ExchangeView _ = record { setup = arc_value f.setup; stubs = f.stubs.items; bound = f.bound; held = f.held.after; given = f.given } in
+    let h : LeaseView _ = record { component = l.component; tray = l.tray; out = l.out; copies = l.copies; floor = l.floor } in
+    let same : s ≡ system t l.component.setup = ap (λ (x : ExchangeView _). system t x.setup) c.self.view_is ∙ c.requires.same ∙ sym (ap (λ (x : LeaseView _). system t x.component.setup) c.lease.view_is) in
     let law : Lawful m = subst (λ p. Lawful (machine (system t p))) c.deref.ensures c.machine_is_lawful.ensures.lawful in
-    let is : IsShared s e = c.self.invariant.1 in
-    let holds : IsHolding m (length s.composition) h = subst (λ x. IsHolding (machine x) (length x.composition) h) (sym same) c.lease.invariant in
+    let is : IsValidExchange s e = c.self.invariant.1 in
+    let holds : IsValidLease m (length s.composition) h = subst (λ x. IsValidLease (machine x) (length x.composition) h) (sym same) c.lease.invariant in
     let match : Matches m i (stub_or_start m i (slice_get f.stubs.items i)) (lease_of h)
-    = subst₂ (λ (x : Shared _) (y : Holding _). Matches (machine_of t x.setup) y.component.number (stub_or_start (machine_of t x.setup) y.component.number (slice_get x.stubs y.component.number)) (lease_of y)) (sym c.self.view_is) (sym c.lease.view_is) c.requires.matches in
+    = subst₂ (λ (x : ExchangeView _) (y : LeaseView _). Matches (machine_of t x.setup) y.component.number (stub_or_start (machine_of t x.setup) y.component.number (slice_get x.stubs y.component.number)) (lease_of y)) (sym c.self.view_is) (sym c.lease.view_is) c.requires.matches in
     let dropped : turns_of c.drop_below.result.after ≡ turns_among (below (rank_of_bound f.bound) l.component.history.done)
     = ap (λ ts. onto ts []) c.drop_below.ensures.turns ∙ onto_back (turns_among (below (rank_of_bound f.bound) l.component.history.done)) [] in
     let cut = cut_of m i (rank_of_bound f.bound) l.component.history in
@@ -78,16 +78,16 @@ invariant_of-self g c =
     = c.drop_below.ensures.record ∙ ap (λ x. record l.component { base = f.bound; history = cut_of (machine x) i (rank_of_bound f.bound) l.component.history }) (sym same) in
     let on = c.pass_on-lease-inside in
     let passed : IsPassedOn i f.bound on.result l.out l.copies.of_sender l.copies.of_receiver l.tray on.new.tray f.stubs.items on.new.stubs
-    = subst₂ (λ n stubs. IsPassedOn n f.bound on.result l.out l.copies.of_sender l.copies.of_receiver l.tray on.new.tray stubs on.new.stubs) (ap (λ (x : Held _). x.number) own) c.deref_mut.ensures.value on.ensures.passed in
+    = subst₂ (λ n stubs. IsPassedOn n f.bound on.result l.out l.copies.of_sender l.copies.of_receiver l.tray on.new.tray stubs on.new.stubs) (ap (λ (x : ComponentView _). x.number) own) c.deref_mut.ensures.value on.ensures.passed in
     let lowest : IsFloor m i (rank_of_bound on.result) (part_of i cut on.new.tray)
     = subst (λ x. IsFloor (machine x) i (rank_of_bound on.result) (part_of i cut on.new.tray)) (sym same)
-    (subst (λ (x : Held _). IsFloor (machine_of t x.setup) x.number (rank_of_bound on.result) (part_of x.number x.history on.new.tray)) own on.ensures.floor) in
-    let arrived : To i on.new.tray = subst (λ (x : Held _). To x.number on.new.tray) own on.ensures.arrived in
+    (subst (λ (x : ComponentView _). IsFloor (machine_of t x.setup) x.number (rank_of_bound on.result) (part_of x.number x.history on.new.tray)) own on.ensures.floor) in
+    let arrived : To i on.new.tray = subst (λ (x : ComponentView _). To x.number on.new.tray) own on.ensures.arrived in
     let all = accepted s law e is h holds on.result on.new.tray on.new.stubs passed c.flight_law.ensures.to cut c.merge.new.held.after c.drop_below.result.after c.flight_law.ensures.appended match
     (c.meeting_law.ensures.met m) (c.exchange_is_sound.ensures.meet m) (c.meeting_law.ensures.falls m) (c.meeting_law.ensures.apart m) c.merging_law.ensures.falls c.merging_law.ensures.outcomes
     refl lowest dropped c.merge.ensures.all arrived in
     let items : (with_items f.stubs on.new.stubs).items ≡ on.new.stubs = with_items_is f.stubs on.new.stubs (on.ensures.passed.many ∙ c.deref_mut.ensures.len) in
-    ((c.merge.ensures.front, c.self.invariant.0.1), subst (λ stubs. IsShared s (record e { stubs = stubs; held = c.merge.new.held.after })) (sym items) all.shared)
+    ((c.merge.ensures.front, c.self.invariant.0.1), subst (λ stubs. IsValidExchange s (record e { stubs = stubs; held = c.merge.new.held.after })) (sym items) all.shared)
 
 pub invariant_of-lease : goal.invariant_of-lease
 invariant_of-lease g c =
@@ -97,14 +97,14 @@ invariant_of-lease g c =
     let i = l.component.number in
     let s = system t (arc_value f.setup) in
     let m = machine s in
-    let e : Shared _ = record { setup = arc_value f.setup; stubs = f.stubs.items; bound = f.bound; held = f.held.after; given = f.given } in
-    let h : Holding _ = record { component = l.component; tray = l.tray; out = l.out; copies = l.copies; floor = l.floor } in
-    let same : s ≡ system t l.component.setup = ap (λ (x : Shared _). system t x.setup) c.self.view_is ∙ c.requires.same ∙ sym (ap (λ (x : Holding _). system t x.component.setup) c.lease.view_is) in
+    let e : ExchangeView _ = record { setup = arc_value f.setup; stubs = f.stubs.items; bound = f.bound; held = f.held.after; given = f.given } in
+    let h : LeaseView _ = record { component = l.component; tray = l.tray; out = l.out; copies = l.copies; floor = l.floor } in
+    let same : s ≡ system t l.component.setup = ap (λ (x : ExchangeView _). system t x.setup) c.self.view_is ∙ c.requires.same ∙ sym (ap (λ (x : LeaseView _). system t x.component.setup) c.lease.view_is) in
     let law : Lawful m = subst (λ p. Lawful (machine (system t p))) c.deref.ensures c.machine_is_lawful.ensures.lawful in
-    let is : IsShared s e = c.self.invariant.1 in
-    let holds : IsHolding m (length s.composition) h = subst (λ x. IsHolding (machine x) (length x.composition) h) (sym same) c.lease.invariant in
+    let is : IsValidExchange s e = c.self.invariant.1 in
+    let holds : IsValidLease m (length s.composition) h = subst (λ x. IsValidLease (machine x) (length x.composition) h) (sym same) c.lease.invariant in
     let match : Matches m i (stub_or_start m i (slice_get f.stubs.items i)) (lease_of h)
-    = subst₂ (λ (x : Shared _) (y : Holding _). Matches (machine_of t x.setup) y.component.number (stub_or_start (machine_of t x.setup) y.component.number (slice_get x.stubs y.component.number)) (lease_of y)) (sym c.self.view_is) (sym c.lease.view_is) c.requires.matches in
+    = subst₂ (λ (x : ExchangeView _) (y : LeaseView _). Matches (machine_of t x.setup) y.component.number (stub_or_start (machine_of t x.setup) y.component.number (slice_get x.stubs y.component.number)) (lease_of y)) (sym c.self.view_is) (sym c.lease.view_is) c.requires.matches in
     let dropped : turns_of c.drop_below.result.after ≡ turns_among (below (rank_of_bound f.bound) l.component.history.done)
     = ap (λ ts. onto ts []) c.drop_below.ensures.turns ∙ onto_back (turns_among (below (rank_of_bound f.bound) l.component.history.done)) [] in
     let cut = cut_of m i (rank_of_bound f.bound) l.component.history in
@@ -112,18 +112,18 @@ invariant_of-lease g c =
     = c.drop_below.ensures.record ∙ ap (λ x. record l.component { base = f.bound; history = cut_of (machine x) i (rank_of_bound f.bound) l.component.history }) (sym same) in
     let on = c.pass_on-lease-inside in
     let passed : IsPassedOn i f.bound on.result l.out l.copies.of_sender l.copies.of_receiver l.tray on.new.tray f.stubs.items on.new.stubs
-    = subst₂ (λ n stubs. IsPassedOn n f.bound on.result l.out l.copies.of_sender l.copies.of_receiver l.tray on.new.tray stubs on.new.stubs) (ap (λ (x : Held _). x.number) own) c.deref_mut.ensures.value on.ensures.passed in
+    = subst₂ (λ n stubs. IsPassedOn n f.bound on.result l.out l.copies.of_sender l.copies.of_receiver l.tray on.new.tray stubs on.new.stubs) (ap (λ (x : ComponentView _). x.number) own) c.deref_mut.ensures.value on.ensures.passed in
     let lowest : IsFloor m i (rank_of_bound on.result) (part_of i cut on.new.tray)
     = subst (λ x. IsFloor (machine x) i (rank_of_bound on.result) (part_of i cut on.new.tray)) (sym same)
-    (subst (λ (x : Held _). IsFloor (machine_of t x.setup) x.number (rank_of_bound on.result) (part_of x.number x.history on.new.tray)) own on.ensures.floor) in
-    let arrived : To i on.new.tray = subst (λ (x : Held _). To x.number on.new.tray) own on.ensures.arrived in
+    (subst (λ (x : ComponentView _). IsFloor (machine_of t x.setup) x.number (rank_of_bound on.result) (part_of x.number x.history on.new.tray)) own on.ensures.floor) in
+    let arrived : To i on.new.tray = subst (λ (x : ComponentView _). To x.number on.new.tray) own on.ensures.arrived in
     let all = accepted s law e is h holds on.result on.new.tray on.new.stubs passed c.flight_law.ensures.to cut c.merge.new.held.after c.drop_below.result.after c.flight_law.ensures.appended match
     (c.meeting_law.ensures.met m) (c.exchange_is_sound.ensures.meet m) (c.meeting_law.ensures.falls m) (c.meeting_law.ensures.apart m) c.merging_law.ensures.falls c.merging_law.ensures.outcomes
     refl lowest dropped c.merge.ensures.all arrived in
-    let settled : Holding _ = record h { component = record l.component { base = f.bound; history = cut }; tray = on.new.tray; out = []; copies = record { of_sender = []; of_receiver = [] }; floor = on.result } in
-    let final : Holding _ = record { component = c.drop_below.new.self; tray = on.new.tray; out = c.new.result; copies = c.new-2.result; floor = on.result } in
+    let settled : LeaseView _ = record h { component = record l.component { base = f.bound; history = cut }; tray = on.new.tray; out = []; copies = record { of_sender = []; of_receiver = [] }; floor = on.result } in
+    let final : LeaseView _ = record { component = c.drop_below.new.self; tray = on.new.tray; out = c.new.result; copies = c.new-2.result; floor = on.result } in
     let ends : settled ≡ final = λ v. record { component = sym own v; tray = on.new.tray; out = sym c.new.ensures v; copies = sym c.new-2.ensures v; floor = on.result } in
-    subst (λ (x : Holding _). IsHolding (machine_of t x.component.setup) (length (composition (plan_of x.component.setup))) x) ends (subst (λ x. IsHolding (machine x) (length x.composition) settled) same all.holding)
+    subst (λ (x : LeaseView _). IsValidLease (machine_of t x.component.setup) (length (composition (plan_of x.component.setup))) x) ends (subst (λ x. IsValidLease (machine x) (length x.composition) settled) same all.holding)
 
 pub returns-clause-met : goal.returns-clause-met
 returns-clause-met g c =
@@ -133,14 +133,14 @@ returns-clause-met g c =
     let i = l.component.number in
     let s = system t (arc_value f.setup) in
     let m = machine s in
-    let e : Shared _ = record { setup = arc_value f.setup; stubs = f.stubs.items; bound = f.bound; held = f.held.after; given = f.given } in
-    let h : Holding _ = record { component = l.component; tray = l.tray; out = l.out; copies = l.copies; floor = l.floor } in
-    let same : s ≡ system t l.component.setup = ap (λ (x : Shared _). system t x.setup) c.self.view_is ∙ c.requires.same ∙ sym (ap (λ (x : Holding _). system t x.component.setup) c.lease.view_is) in
+    let e : ExchangeView _ = record { setup = arc_value f.setup; stubs = f.stubs.items; bound = f.bound; held = f.held.after; given = f.given } in
+    let h : LeaseView _ = record { component = l.component; tray = l.tray; out = l.out; copies = l.copies; floor = l.floor } in
+    let same : s ≡ system t l.component.setup = ap (λ (x : ExchangeView _). system t x.setup) c.self.view_is ∙ c.requires.same ∙ sym (ap (λ (x : LeaseView _). system t x.component.setup) c.lease.view_is) in
     let law : Lawful m = subst (λ p. Lawful (machine (system t p))) c.deref.ensures c.machine_is_lawful.ensures.lawful in
-    let is : IsShared s e = c.self.invariant.1 in
-    let holds : IsHolding m (length s.composition) h = subst (λ x. IsHolding (machine x) (length x.composition) h) (sym same) c.lease.invariant in
+    let is : IsValidExchange s e = c.self.invariant.1 in
+    let holds : IsValidLease m (length s.composition) h = subst (λ x. IsValidLease (machine x) (length x.composition) h) (sym same) c.lease.invariant in
     let match : Matches m i (stub_or_start m i (slice_get f.stubs.items i)) (lease_of h)
-    = subst₂ (λ (x : Shared _) (y : Holding _). Matches (machine_of t x.setup) y.component.number (stub_or_start (machine_of t x.setup) y.component.number (slice_get x.stubs y.component.number)) (lease_of y)) (sym c.self.view_is) (sym c.lease.view_is) c.requires.matches in
+    = subst₂ (λ (x : ExchangeView _) (y : LeaseView _). Matches (machine_of t x.setup) y.component.number (stub_or_start (machine_of t x.setup) y.component.number (slice_get x.stubs y.component.number)) (lease_of y)) (sym c.self.view_is) (sym c.lease.view_is) c.requires.matches in
     let dropped : turns_of c.drop_below.result.after ≡ turns_among (below (rank_of_bound f.bound) l.component.history.done)
     = ap (λ ts. onto ts []) c.drop_below.ensures.turns ∙ onto_back (turns_among (below (rank_of_bound f.bound) l.component.history.done)) [] in
     let cut = cut_of m i (rank_of_bound f.bound) l.component.history in
@@ -148,17 +148,17 @@ returns-clause-met g c =
     = c.drop_below.ensures.record ∙ ap (λ x. record l.component { base = f.bound; history = cut_of (machine x) i (rank_of_bound f.bound) l.component.history }) (sym same) in
     let on = c.pass_on-lease-inside in
     let passed : IsPassedOn i f.bound on.result l.out l.copies.of_sender l.copies.of_receiver l.tray on.new.tray f.stubs.items on.new.stubs
-    = subst₂ (λ n stubs. IsPassedOn n f.bound on.result l.out l.copies.of_sender l.copies.of_receiver l.tray on.new.tray stubs on.new.stubs) (ap (λ (x : Held _). x.number) own) c.deref_mut.ensures.value on.ensures.passed in
+    = subst₂ (λ n stubs. IsPassedOn n f.bound on.result l.out l.copies.of_sender l.copies.of_receiver l.tray on.new.tray stubs on.new.stubs) (ap (λ (x : ComponentView _). x.number) own) c.deref_mut.ensures.value on.ensures.passed in
     let lowest : IsFloor m i (rank_of_bound on.result) (part_of i cut on.new.tray)
     = subst (λ x. IsFloor (machine x) i (rank_of_bound on.result) (part_of i cut on.new.tray)) (sym same)
-    (subst (λ (x : Held _). IsFloor (machine_of t x.setup) x.number (rank_of_bound on.result) (part_of x.number x.history on.new.tray)) own on.ensures.floor) in
-    let arrived : To i on.new.tray = subst (λ (x : Held _). To x.number on.new.tray) own on.ensures.arrived in
+    (subst (λ (x : ComponentView _). IsFloor (machine_of t x.setup) x.number (rank_of_bound on.result) (part_of x.number x.history on.new.tray)) own on.ensures.floor) in
+    let arrived : To i on.new.tray = subst (λ (x : ComponentView _). To x.number on.new.tray) own on.ensures.arrived in
     let all = accepted s law e is h holds on.result on.new.tray on.new.stubs passed c.flight_law.ensures.to cut c.merge.new.held.after c.drop_below.result.after c.flight_law.ensures.appended match
     (c.meeting_law.ensures.met m) (c.exchange_is_sound.ensures.meet m) (c.meeting_law.ensures.falls m) (c.meeting_law.ensures.apart m) c.merging_law.ensures.falls c.merging_law.ensures.outcomes
     refl lowest dropped c.merge.ensures.all arrived in
     let items : (with_items f.stubs on.new.stubs).items ≡ on.new.stubs = with_items_is f.stubs on.new.stubs (on.ensures.passed.many ∙ c.deref_mut.ensures.len) in
-    let settled : Holding _ = record h { component = record l.component { base = f.bound; history = cut }; tray = on.new.tray; out = []; copies = record { of_sender = []; of_receiver = [] }; floor = on.result } in
-    let final : Holding _ = record { component = c.drop_below.new.self; tray = on.new.tray; out = c.new.result; copies = c.new-2.result; floor = on.result } in
+    let settled : LeaseView _ = record h { component = record l.component { base = f.bound; history = cut }; tray = on.new.tray; out = []; copies = record { of_sender = []; of_receiver = [] }; floor = on.result } in
+    let final : LeaseView _ = record { component = c.drop_below.new.self; tray = on.new.tray; out = c.new.result; copies = c.new-2.result; floor = on.result } in
     let ends : settled ≡ final = λ v. record { component = sym own v; tray = on.new.tray; out = sym c.new.ensures v; copies = sym c.new-2.ensures v; floor = on.result } in
-    let met = subst₂ (λ stubs (x : Holding _). Met m i (exchange_of m e) (lease_of h) (exchange_of m (record e { stubs = stubs; held = c.merge.new.held.after })) (lease_of x)) (sym items) ends all.met in
-    subst₂ (λ (x : Shared _) (y : Holding _). Met (machine_of t x.setup) y.component.number (exchange_of (machine_of t x.setup) x) (lease_of y) (exchange_of (machine_of t x.setup) (record e { stubs = (with_items f.stubs on.new.stubs).items; held = c.merge.new.held.after })) (lease_of final)) c.self.view_is c.lease.view_is met
+    let met = subst₂ (λ stubs (x : LeaseView _). Met m i (exchange_of m e) (lease_of h) (exchange_of m (record e { stubs = stubs; held = c.merge.new.held.after })) (lease_of x)) (sym items) ends all.met in
+    subst₂ (λ (x : ExchangeView _) (y : LeaseView _). Met (machine_of t x.setup) y.component.number (exchange_of (machine_of t x.setup) x) (lease_of y) (exchange_of (machine_of t x.setup) (record e { stubs = (with_items f.stubs on.new.stubs).items; held = c.merge.new.held.after })) (lease_of final)) c.self.view_is c.lease.view_is met

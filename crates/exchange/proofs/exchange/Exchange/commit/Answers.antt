@@ -2,8 +2,8 @@ use Rattle.std.proofs.Common.{length, subst}
 use Rattle.plans.specs.Plans.{composition}
 use Rattle.task_seed.specs.Setups.{plan_of}
 use Rattle.virtual_time.specs.Machine.{Lawful}
-use Rattle.rollback.specs.Held.{machine_of}
-use Rattle.exchange.specs.Shared.{exchange_of}
+use Rattle.rollback.specs.ComponentView.{machine_of}
+use Rattle.exchange.specs.ExchangeView.{exchange_of}
 use Rattle.exchange.proofs.Core.{commit_leads}
 use Rattle.exchange.proofs.exchange.Exchange.commit.Goals as goal
 

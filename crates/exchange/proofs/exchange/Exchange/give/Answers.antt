@@ -7,9 +7,9 @@ use Rattle.plans.specs.Plans.{composition}
 use Rattle.task_seed.specs.Setups.{system, plan_of}
 use Rattle.task_seed.specs.Machines.{machine}
 use Rattle.task_seed.specs.Taken.{turns_of}
-use Rattle.rollback.specs.Held.{machine_of}
+use Rattle.rollback.specs.ComponentView.{machine_of}
 use Rattle.gvt.specs.Least.{IsLeast}
-use Rattle.exchange.specs.Shared.{Shared, IsShared, exchange_of}
+use Rattle.exchange.specs.ExchangeView.{ExchangeView, IsValidExchange, exchange_of}
 use Rattle.exchange.specs.Chunks.{base_of, first_below, first_from, IsGiven}
 use Rattle.exchange.proofs.Chunking.{after, chunk, kept, few, reversed_back}
 use Rattle.exchange.proofs.exchange.Exchange.give.Goals as goal
@@ -22,7 +22,7 @@ take_below-taken-requires-clause-few g c =
     let s = system t p in
     let bound = c.least_base-bound.result in
     let b = rank_of_bound bound in
-    let e : Shared _ = record { setup = p; stubs = f.stubs.items; bound = f.bound; held = f.held.after; given = f.given } in
+    let e : ExchangeView _ = record { setup = p; stubs = f.stubs.items; bound = f.bound; held = f.held.after; given = f.given } in
     let is = c.self.invariant.1 in
     let law : Lawful (machine s) = subst (λ x. Lawful (machine (system t x))) c.deref.ensures c.machine_is_lawful.ensures.lawful in
     let counted : HasCount (machine s) (length s.composition) = subst (λ x. HasCount (machine (system t x)) (length (composition (plan_of x)))) c.deref.ensures c.machine_is_lawful.ensures.counted in
@@ -41,7 +41,7 @@ overflow_add-self g c =
     let s = system t p in
     let bound = c.least_base-bound.result in
     let b = rank_of_bound bound in
-    let e : Shared _ = record { setup = p; stubs = f.stubs.items; bound = f.bound; held = f.held.after; given = f.given } in
+    let e : ExchangeView _ = record { setup = p; stubs = f.stubs.items; bound = f.bound; held = f.held.after; given = f.given } in
     let is = c.self.invariant.1 in
     let law : Lawful (machine s) = subst (λ x. Lawful (machine (system t x))) c.deref.ensures c.machine_is_lawful.ensures.lawful in
     let counted : HasCount (machine s) (length s.composition) = subst (λ x. HasCount (machine (system t x)) (length (composition (plan_of x)))) c.deref.ensures c.machine_is_lawful.ensures.counted in
@@ -61,7 +61,7 @@ invariant_of-self g c =
     let s = system t p in
     let bound = c.least_base-bound.result in
     let b = rank_of_bound bound in
-    let e : Shared _ = record { setup = p; stubs = f.stubs.items; bound = f.bound; held = f.held.after; given = f.given } in
+    let e : ExchangeView _ = record { setup = p; stubs = f.stubs.items; bound = f.bound; held = f.held.after; given = f.given } in
     let is = c.self.invariant.1 in
     let law : Lawful (machine s) = subst (λ x. Lawful (machine (system t x))) c.deref.ensures c.machine_is_lawful.ensures.lawful in
     let counted : HasCount (machine s) (length s.composition) = subst (λ x. HasCount (machine (system t x)) (length (composition (plan_of x)))) c.deref.ensures c.machine_is_lawful.ensures.counted in
@@ -70,8 +70,8 @@ invariant_of-self g c =
     let given = c.exchange_is_sound.ensures.chunk (machine s) (length s.composition) (exchange_of (machine s) e) (exchange_of (machine s) (after s e is bound least end)) b (turns_of (first_below b f.held.after)) law counted is.sound (chunk s e is bound least end) in
     let made = kept s e is bound least end given.0 in (
       (ap (λ l. l.before) c.take_below-taken.ensures.rest, c.self.invariant.0.1),
-      subst (λ l. IsShared s (record e { held = l; given = f.given + c.take_below-taken.result.count })) (sym (ap (λ l. l.after) c.take_below-taken.ensures.rest))
-          (subst (λ n. IsShared s (record e { held = first_from b f.held.after; given = f.given + n })) (sym c.take_below-taken.ensures.count) made),
+      subst (λ l. IsValidExchange s (record e { held = l; given = f.given + c.take_below-taken.result.count })) (sym (ap (λ l. l.after) c.take_below-taken.ensures.rest))
+          (subst (λ n. IsValidExchange s (record e { held = first_from b f.held.after; given = f.given + n })) (sym c.take_below-taken.ensures.count) made),
     )
 
 pub returns-clause-chunk : goal.returns-clause-chunk
@@ -82,7 +82,7 @@ returns-clause-chunk g c =
     let s = system t p in
     let bound = c.least_base-bound.result in
     let b = rank_of_bound bound in
-    let e : Shared _ = record { setup = p; stubs = f.stubs.items; bound = f.bound; held = f.held.after; given = f.given } in
+    let e : ExchangeView _ = record { setup = p; stubs = f.stubs.items; bound = f.bound; held = f.held.after; given = f.given } in
     let is = c.self.invariant.1 in
     let law : Lawful (machine s) = subst (λ x. Lawful (machine (system t x))) c.deref.ensures c.machine_is_lawful.ensures.lawful in
     let counted : HasCount (machine s) (length s.composition) = subst (λ x. HasCount (machine (system t x)) (length (composition (plan_of x)))) c.deref.ensures c.machine_is_lawful.ensures.counted in
@@ -93,7 +93,7 @@ returns-clause-chunk g c =
     = ap (λ l. l.after) c.append_all.ensures.rest ∙ ap (λ l. (l.after ++ reverse c.take_below-taken.result.turns.before) ++ c.take_below-taken.result.turns.after) c.new-turns.ensures
     ∙ ap (λ l. reverse l.before ++ l.after) c.take_below-taken.ensures.turns ∙ reversed_back (first_below b f.held.after) in
     let made = chunk s e is bound least end in
-    subst (λ (old : Shared _). (x : ℕ) × IsChunk (machine_of t old.setup) (length (composition (plan_of old.setup))) (exchange_of (machine_of t old.setup) old) x (exchange_of (machine_of t old.setup) (record e { held = c.take_below-taken.new.held.after; given = f.given + c.take_below-taken.result.count })) (turns_of c.append_all.new.self.after) × IsGiven (machine_of t old.setup) f.given x (turns_of c.append_all.new.self.after)) c.self.view_is (
+    subst (λ (old : ExchangeView _). (x : ℕ) × IsChunk (machine_of t old.setup) (length (composition (plan_of old.setup))) (exchange_of (machine_of t old.setup) old) x (exchange_of (machine_of t old.setup) (record e { held = c.take_below-taken.new.held.after; given = f.given + c.take_below-taken.result.count })) (turns_of c.append_all.new.self.after) × IsGiven (machine_of t old.setup) f.given x (turns_of c.append_all.new.self.after)) c.self.view_is (
       b,
       subst (λ l. IsChunk (machine s) (length s.composition) (exchange_of (machine s) e) b (exchange_of (machine s) (record e { held = c.take_below-taken.new.held.after; given = f.given + c.take_below-taken.result.count })) (turns_of l)) (sym turns)
           (subst (λ l. IsChunk (machine s) (length s.composition) (exchange_of (machine s) e) b (exchange_of (machine s) (record e { held = l; given = f.given + c.take_below-taken.result.count })) (turns_of (first_below b f.held.after))) (sym (ap (λ l. l.after) c.take_below-taken.ensures.rest))

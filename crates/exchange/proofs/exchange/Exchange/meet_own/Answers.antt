@@ -2,9 +2,9 @@ use Rattle.std.proofs.Common.{length, subst}
 use Rattle.plans.specs.Plans.{composition}
 use Rattle.virtual_time.specs.Machine.{Lawful}
 use Rattle.task_seed.specs.Setups.{plan_of}
-use Rattle.rollback.specs.Held.{machine_of}
-use Rattle.exchange.specs.Holding.{lease_of}
-use Rattle.exchange.specs.Shared.{exchange_of}
+use Rattle.rollback.specs.ComponentView.{machine_of}
+use Rattle.exchange.specs.LeaseView.{lease_of}
+use Rattle.exchange.specs.ExchangeView.{exchange_of}
 use Rattle.exchange.proofs.Core.{meet_leads}
 use Rattle.exchange.proofs.exchange.Exchange.meet_own.Goals as goal
 

@@ -4,7 +4,7 @@ use Rattle.plans.specs.Plans.{composition}
 use Rattle.task_seed.specs.Setups.{plan_of}
 use Rattle.virtual_time.specs.Machine.{HasCount, Lawful}
 use Rattle.virtual_time.specs.Worlds.{start_world}
-use Rattle.rollback.specs.Held.{machine_of}
+use Rattle.rollback.specs.ComponentView.{machine_of}
 use Rattle.exchange.proofs.Core.{ok_both}
 use Rattle.exchange.proofs.Starting.{stand_first}
 use Rattle.exchange.proofs.exchange.Exchange.new.Goals as goal

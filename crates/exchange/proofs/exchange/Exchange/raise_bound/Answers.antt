@@ -9,10 +9,10 @@ use Rattle.virtual_time.specs.Exchange.Meetings.{IsCommit}
 use Rattle.plans.specs.Plans.{composition}
 use Rattle.task_seed.specs.Setups.{system, plan_of}
 use Rattle.task_seed.specs.Machines.{machine}
-use Rattle.rollback.specs.Held.{machine_of}
+use Rattle.rollback.specs.ComponentView.{machine_of}
 use Rattle.gvt.specs.Least.{IsLeast}
 use Rattle.exchange.specs.declared.stub.Stub.{Stub}
-use Rattle.exchange.specs.Shared.{Shared, IsShared, IsPassing, exchange_of, clear_until, passing}
+use Rattle.exchange.specs.ExchangeView.{ExchangeView, IsValidExchange, IsPassing, exchange_of, clear_until, passing}
 use Rattle.exchange.specs.Walks.{AreWalks}
 use Rattle.exchange.proofs.Committing.{committed, kept, passing_before}
 use Rattle.exchange.proofs.exchange.Exchange.raise_bound.Goals as goal
@@ -22,7 +22,7 @@ pass_all-count-requires-clause-passing g c = λ _ _.
     let t = g.T.Turns.turn_of in
     let f = c.self.inside in
     let s = system t (arc_value f.setup) in
-    let e : Shared _ = record { setup = arc_value f.setup; stubs = f.stubs.items; bound = f.bound; held = f.held.after; given = f.given } in
+    let e : ExchangeView _ = record { setup = arc_value f.setup; stubs = f.stubs.items; bound = f.bound; held = f.held.after; given = f.given } in
     let law : Lawful (machine s) = subst (λ p. Lawful (machine (system t p))) c.deref.ensures c.machine_is_lawful.ensures.lawful in
     let counted : HasCount (machine s) (length s.composition) = subst (λ p. HasCount (machine (system t p)) (length (composition (plan_of p)))) c.deref.ensures c.machine_is_lawful.ensures.counted in
     let least : IsLeast (map clear_until f.stubs.items) c.least_clear-bound.result = subst (λ l. IsLeast (map clear_until l) c.least_clear-bound.result) c.deref-2.ensures.value c.least_clear-bound.ensures in
@@ -36,7 +36,7 @@ invariant_of-self g c =
     let f = c.self.inside in
     let s = system t (arc_value f.setup) in
     let bound = c.least_clear-bound.result in
-    let e : Shared _ = record { setup = arc_value f.setup; stubs = f.stubs.items; bound = f.bound; held = f.held.after; given = f.given } in
+    let e : ExchangeView _ = record { setup = arc_value f.setup; stubs = f.stubs.items; bound = f.bound; held = f.held.after; given = f.given } in
     let law : Lawful (machine s) = subst (λ p. Lawful (machine (system t p))) c.deref.ensures c.machine_is_lawful.ensures.lawful in
     let counted : HasCount (machine s) (length s.composition) = subst (λ p. HasCount (machine (system t p)) (length (composition (plan_of p)))) c.deref.ensures c.machine_is_lawful.ensures.counted in
     let least : IsLeast (map clear_until f.stubs.items) bound = subst (λ l. IsLeast (map clear_until l) bound) c.deref-2.ensures.value c.least_clear-bound.ensures in
@@ -53,7 +53,7 @@ invariant_of-self g c =
     let read : AreWalks g.T.Turns.stands (arc_value f.setup) (with_items f.walks all.new.walks).items
     = subst (λ l. AreWalks g.T.Turns.stands (arc_value f.setup) l) (sym (with_items_is f.walks all.new.walks (all.ensures.items ∙ c.deref_mut-2.ensures.len)))
     (subst (λ p. AreWalks g.T.Turns.stands p all.new.walks) c.deref-3.ensures all.ensures.walks) in
-    ((c.self.invariant.0.0, read), subst (λ l. IsShared s (record e { bound = bound; stubs = l })) (sym items) (kept s e c.self.invariant.1 counted bound least c.is_bounded.ensures all.new.stubs passed sound many passing_all))
+    ((c.self.invariant.0.0, read), subst (λ l. IsValidExchange s (record e { bound = bound; stubs = l })) (sym items) (kept s e c.self.invariant.1 counted bound least c.is_bounded.ensures all.new.stubs passed sound many passing_all))
 
 pub returns-clause-commit : goal.returns-clause-commit
 returns-clause-commit g c =
@@ -61,7 +61,7 @@ returns-clause-commit g c =
     let f = c.self.inside in
     let s = system t (arc_value f.setup) in
     let bound = c.least_clear-bound.result in
-    let e : Shared _ = record { setup = arc_value f.setup; stubs = f.stubs.items; bound = f.bound; held = f.held.after; given = f.given } in
+    let e : ExchangeView _ = record { setup = arc_value f.setup; stubs = f.stubs.items; bound = f.bound; held = f.held.after; given = f.given } in
     let law : Lawful (machine s) = subst (λ p. Lawful (machine (system t p))) c.deref.ensures c.machine_is_lawful.ensures.lawful in
     let counted : HasCount (machine s) (length s.composition) = subst (λ p. HasCount (machine (system t p)) (length (composition (plan_of p)))) c.deref.ensures c.machine_is_lawful.ensures.counted in
     let least : IsLeast (map clear_until f.stubs.items) bound = subst (λ l. IsLeast (map clear_until l) bound) c.deref-2.ensures.value c.least_clear-bound.ensures in
@@ -71,5 +71,5 @@ returns-clause-commit g c =
     ∙ ap (λ l. option_map (passing s (rank_of_bound bound) j) (slice_get l j)) c.deref_mut.ensures.value in
     let made = committed s e c.self.invariant.1 counted bound least c.is_bounded.ensures all.new.stubs passed in
     let items : (with_items f.stubs all.new.stubs).items ≡ all.new.stubs = with_items_is f.stubs all.new.stubs (all.ensures.many ∙ c.deref_mut.ensures.len) in
-    subst (λ (old : Shared _). IsCommit (machine_of t old.setup) (exchange_of (machine_of t old.setup) old) (exchange_of (machine_of t old.setup) (record e { bound = bound; stubs = (with_items f.stubs all.new.stubs).items }))) c.self.view_is
+    subst (λ (old : ExchangeView _). IsCommit (machine_of t old.setup) (exchange_of (machine_of t old.setup) old) (exchange_of (machine_of t old.setup) (record e { bound = bound; stubs = (with_items f.stubs all.new.stubs).items }))) c.self.view_is
     (subst (λ l. IsCommit (machine s) (exchange_of (machine s) e) (exchange_of (machine s) (record e { bound = bound; stubs = l }))) (sym items) made)

@@ -1,3 +1,4 @@
+use Rattle.rollback.specs.ComponentView.{lowest_bound}
 use Rattle.std.proofs.Common.{◌≡◌, None, [], ◌∷◌, ◌++◌, map, length, refl, sym, ap, subst, ◌∙◌, arith}
 use Rattle.std.proofs.lemmas.List.FromFn.{map-range_with_len_more}
 use Rattle.std.specs.Arc.{arc_value}
@@ -6,8 +7,8 @@ use Rattle.plans.specs.Plans.{composition}
 use Rattle.task_seed.specs.Setups.{system, plan_of}
 use Rattle.task_seed.specs.Machines.{machine}
 use Rattle.virtual_time.specs.Machine.{Lawful}
-use Rattle.exchange.specs.Shared.{Shared}
-use Rattle.exchange.specs.Start.{first, start_stub, start_holding}
+use Rattle.exchange.specs.ExchangeView.{ExchangeView}
+use Rattle.exchange.specs.Start.{start_stub, start_holding}
 use Rattle.exchange.proofs.Starting.{shared_kept}
 use Rattle.exchange.proofs.Walking.{none_more, none_walks}
 use Rattle.exchange.proofs.exchange.Exchange.start.Goals as goal
@@ -22,7 +23,7 @@ invariant_of-exchange g c =
     let count = c.components-i-end.ensures ∙ ap (λ plan. length (composition plan)) c.plan.ensures ∙ ap (λ x. length (composition (plan_of x))) c.deref-2.ensures in
     let all : c.loop-i.i ≡ length s.composition = omega (arith, c.loop-i-test.false, count, c.loop-i.auto.i-end) in
     let stubs = c.loop-i.invariant.stubs ∙ ap (λ n. map (start_stub s) (range_with_len 0 n)) all in
-    let e : Shared _ = record { setup = p; stubs = c.loop-i.stubs.items; bound = first; held = c.new.result.after; given = 0 } in
+    let e : ExchangeView _ = record { setup = p; stubs = c.loop-i.stubs.items; bound = lowest_bound; held = c.new.result.after; given = 0 } in
     let walks = none_walks g.T.Turns.stands p c.loop-i.walks.items c.loop-i.i c.loop-i.invariant.walks all in
     ((ap (λ l. l.before) c.new.ensures, walks), shared_kept s e stubs refl (ap (λ l. l.after) c.new.ensures) refl start.0)
 

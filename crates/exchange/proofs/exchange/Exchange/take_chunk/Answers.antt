@@ -3,8 +3,8 @@ use Rattle.plans.specs.Plans.{composition}
 use Rattle.task_seed.specs.Setups.{plan_of}
 use Rattle.task_seed.specs.Taken.{turns_of}
 use Rattle.virtual_time.specs.Machine.{Lawful}
-use Rattle.rollback.specs.Held.{machine_of}
-use Rattle.exchange.specs.Shared.{exchange_of}
+use Rattle.rollback.specs.ComponentView.{machine_of}
+use Rattle.exchange.specs.ExchangeView.{exchange_of}
 use Rattle.exchange.proofs.Core.{chunk_leads}
 use Rattle.exchange.proofs.exchange.Exchange.take_chunk.Goals as goal
 

@@ -1,6 +1,6 @@
 use Rattle.std.proofs.Common.{refl, sym, ap, subst, ◌∙◌}
-use Rattle.rollback.specs.Held.{machine_of}
-use Rattle.exchange.specs.Holding.{Holding, AllDelivered, IsCount, IsDelivered}
+use Rattle.rollback.specs.ComponentView.{machine_of}
+use Rattle.exchange.specs.LeaseView.{LeaseView, AllDelivered, IsCount, IsDelivered}
 use Rattle.exchange.proofs.Delivering.{rest_after, count_after}
 use Rattle.exchange.proofs.lease.Lease.deliver_all.Goals as goal
 
@@ -14,7 +14,7 @@ loop-count-preserved g c =
     let same = c.loop-count.invariant.setup in
     let is : IsDelivered (machine_of t own.component.setup) old mid found.0 = subst (λ p. IsDelivered (machine_of t p) old mid found.0) same found.1 in
     record {
-      setup = ap (λ (h : Holding _). h.component.setup) found.1.rest ∙ same;
+      setup = ap (λ (h : LeaseView _). h.component.setup) found.1.rest ∙ same;
       rest = rest_after (machine_of t own.component.setup) own old mid found.0 is c.loop-count.invariant.rest;
       count = subst (IsCount own.tray mid.tray) (sym c.saturating_add-count.ensures) (count_after (machine_of t own.component.setup) own old mid found.0 is c.loop-count.count c.loop-count.invariant.count);
     }

@@ -1,6 +1,6 @@
 use Rattle.std.proofs.Common.{◌≡◌, length}
-use Rattle.rollback.specs.Held.{machine_of}
-use Rattle.exchange.specs.Holding.{Holding, AllDelivered, IsCount}
+use Rattle.rollback.specs.ComponentView.{machine_of}
+use Rattle.exchange.specs.LeaseView.{LeaseView, AllDelivered, IsCount}
 use Rattle.exchange.proofs.lease.Lease.deliver_all.Given as goal
 
 abbrev pub invariant-loop-count : goal.invariant-loop-count
@@ -8,7 +8,7 @@ invariant-loop-count g l =
     let m = machine_of g.T.Turns.turn_of l.initial.self.component.setup in
     record {
       setup : l.self.component.setup ≡ l.initial.self.component.setup;
-      rest : (end : Holding _) → AllDelivered m l.self l.self.tray end → AllDelivered m l.initial.self l.initial.self.tray end;
+      rest : (end : LeaseView _) → AllDelivered m l.self l.self.tray end → AllDelivered m l.initial.self l.initial.self.tray end;
       count : IsCount l.initial.self.tray l.self.tray l.count;
     }
 

@@ -7,8 +7,8 @@ use Rattle.virtual_time.specs.Machine.{Lawful, HasCount}
 use Rattle.plans.specs.Plans.{composition}
 use Rattle.task_seed.specs.Setups.{plan_of}
 use Rattle.rollback.specs.Flight.{item_of}
-use Rattle.rollback.specs.Held.{Held, machine_of, comes}
-use Rattle.exchange.specs.Holding.{Holding, IsHolding, IsDelivered}
+use Rattle.rollback.specs.ComponentView.{ComponentView, machine_of, comes}
+use Rattle.exchange.specs.LeaseView.{LeaseView, IsValidLease, IsDelivered}
 use Rattle.exchange.proofs.Delivering.{none_to, first_to, deliver_kept}
 use Rattle.exchange.proofs.lease.Lease.deliver_next.Goals as goal
 
@@ -18,7 +18,7 @@ invariant_of-self g c =
     let i = f.component.number in
     let empty : f.tray ≡ [] = none_to i f.tray c.self.invariant.arrived (ap (λ n. first_where (is_to n) f.tray) (sym c.number.ensures.number) ∙ sym c.in_default.ensures.taken) in
     let left : c.take.new.self ≡ f.tray = c.in_default.ensures.rest ∙ ap (without_where (is_to c.number.result)) empty ∙ sym empty in
-    subst (λ t. IsHolding (machine_of g.T.Turns.turn_of f.component.setup) (length (composition (plan_of f.component.setup))) (record { component = f.component; tray = t; out = f.out; copies = f.copies; floor = f.floor })) (sym left) c.self.invariant
+    subst (λ t. IsValidLease (machine_of g.T.Turns.turn_of f.component.setup) (length (composition (plan_of f.component.setup))) (record { component = f.component; tray = t; out = f.out; copies = f.copies; floor = f.floor })) (sym left) c.self.invariant
 
 pub returns-in_default-clause-none : goal.returns-in_default-clause-none
 returns-in_default-clause-none g c = λ no.
@@ -26,7 +26,7 @@ returns-in_default-clause-none g c = λ no.
     let i = f.component.number in
     let empty : f.tray ≡ [] = none_to i f.tray c.self.invariant.arrived (ap (λ n. first_where (is_to n) f.tray) (sym c.number.ensures.number) ∙ sym c.in_default.ensures.taken) in
     let left : c.take.new.self ≡ f.tray = c.in_default.ensures.rest ∙ ap (without_where (is_to c.number.result)) empty ∙ sym empty in
-    (ap (λ (h : Holding _). h.tray) (sym c.self.view_is) ∙ empty, ap (λ t. record { component = f.component; tray = t; out = f.out; copies = f.copies; floor = f.floor }) left ∙ c.self.view_is)
+    (ap (λ (h : LeaseView _). h.tray) (sym c.self.view_is) ∙ empty, ap (λ t. record { component = f.component; tray = t; out = f.out; copies = f.copies; floor = f.floor }) left ∙ c.self.view_is)
 
 pub deliver-requires-after_bounds : goal.deliver-requires-after_bounds
 deliver-requires-after_bounds g c = λ _ _.
@@ -50,8 +50,8 @@ invariant_of-self-2 g c =
     let there : f.tray ≡ s ∷ without_where (is_to i) f.tray
     = first_to i f.tray s c.self.invariant.arrived (ap (λ n. first_where (is_to n) f.tray) (sym c.number.ensures.number) ∙ sym c.in-Some.ensures.taken) in
     let left : c.take.new.self ≡ without_where (is_to i) f.tray = c.in-Some.ensures.rest ∙ ap (λ n. without_where (is_to n) f.tray) c.number.ensures.number in
-    subst (λ (x : Held _). IsHolding (machine_of t x.setup) (length (composition (plan_of x.setup))) (record { component = x; tray = c.take.new.self; out = c.deliver.new.out; copies = f.copies; floor = f.floor })) (sym c.deliver.ensures.record)
-    (subst (λ tray. IsHolding m n (record { component = record f.component { history = comes m s.sign (item_of s) f.component.history }; tray = tray; out = c.deliver.new.out; copies = f.copies; floor = f.floor })) (sym left)
+    subst (λ (x : ComponentView _). IsValidLease (machine_of t x.setup) (length (composition (plan_of x.setup))) (record { component = x; tray = c.take.new.self; out = c.deliver.new.out; copies = f.copies; floor = f.floor })) (sym c.deliver.ensures.record)
+    (subst (λ tray. IsValidLease m n (record { component = record f.component { history = comes m s.sign (item_of s) f.component.history }; tray = tray; out = c.deliver.new.out; copies = f.copies; floor = f.floor })) (sym left)
     (deliver_kept m law n counted (record { component = f.component; tray = f.tray; out = f.out; copies = f.copies; floor = f.floor }) c.self.invariant (c.exchange_is_sound.ensures.alone m) (c.lease_law.ensures.message m) (c.lease_law.ensures.antimessage m) s (without_where (is_to i) f.tray) there s.sign refl c.deliver.new.out
     c.deliver.ensures.sent))
 
@@ -65,8 +65,8 @@ returns-clause-delivered g c = λ yes.
     let there : f.tray ≡ s ∷ without_where (is_to i) f.tray
     = first_to i f.tray s c.self.invariant.arrived (ap (λ n. first_where (is_to n) f.tray) (sym c.number.ensures.number) ∙ sym c.in-Some.ensures.taken) in
     let left : c.take.new.self ≡ without_where (is_to i) f.tray = c.in-Some.ensures.rest ∙ ap (λ n. without_where (is_to n) f.tray) c.number.ensures.number in
-    let came : c.deliver.new.self.history ≡ comes m s.sign (item_of s) f.component.history = ap (λ (x : Held _). x.history) c.deliver.ensures.record in
-    subst (λ (old : Holding _). (x : Signed) × IsDelivered (machine_of t old.component.setup) old (record { component = c.deliver.new.self; tray = c.take.new.self; out = c.deliver.new.out; copies = f.copies; floor = f.floor }) x) c.self.view_is (
+    let came : c.deliver.new.self.history ≡ comes m s.sign (item_of s) f.component.history = ap (λ (x : ComponentView _). x.history) c.deliver.ensures.record in
+    subst (λ (old : LeaseView _). (x : Signed) × IsDelivered (machine_of t old.component.setup) old (record { component = c.deliver.new.self; tray = c.take.new.self; out = c.deliver.new.out; copies = f.copies; floor = f.floor }) x) c.self.view_is (
       s,
       record {
         tray = there ∙ ap (λ l. s ∷ l) (sym left);

@@ -5,8 +5,8 @@ use Rattle.plans.specs.Plans.{composition}
 use Rattle.task_seed.specs.Setups.{plan_of}
 use Rattle.virtual_time.specs.Entries.{entry_key}
 use Rattle.virtual_time.specs.Records.{next_of}
-use Rattle.rollback.specs.Held.{Held, machine_of}
-use Rattle.exchange.specs.Holding.{IsHolding}
+use Rattle.rollback.specs.ComponentView.{ComponentView, machine_of}
+use Rattle.exchange.specs.LeaseView.{IsValidLease}
 use Rattle.exchange.proofs.Leasing.{next_kept}
 use Rattle.exchange.proofs.lease.Lease.process_next.Goals as goal
 
@@ -19,6 +19,6 @@ invariant_of-self-2 g c =
     let n = length (composition (plan_of f.component.setup)) in
     let counted : HasCount m n = subst (λ p. HasCount (machine_of t p) (length (composition (plan_of p)))) c.setup.ensures c.machine_is_lawful.ensures.counted in
     let next = next_of m f.component.number f.component.history in
-    subst (λ (x : Held _). IsHolding (machine_of t x.setup) (length (composition (plan_of x.setup))) (record { component = x; tray = f.tray; out = c.process_copied.new.out; copies = c.process_copied.new.copies; floor = f.floor })) (sym c.in_ok-key.ensures.record)
+    subst (λ (x : ComponentView _). IsValidLease (machine_of t x.setup) (length (composition (plan_of x.setup))) (record { component = x; tray = f.tray; out = c.process_copied.new.out; copies = c.process_copied.new.copies; floor = f.floor })) (sym c.in_ok-key.ensures.record)
     (next_kept m law n counted (record { component = f.component; tray = f.tray; out = f.out; copies = f.copies; floor = f.floor }) c.self.invariant (c.exchange_is_sound.ensures.alone m) (c.lease_law.ensures.process m)
     (λ entry. entry_key entry ≡ rank c.in_ok-key.key) next refl c.in_ok-key.ensures.key c.process_copied.new.out c.process_copied.new.copies c.in_ok-key.ensures.sent c.in_ok-key.ensures.of_sender c.in_ok-key.ensures.of_receiver)

@@ -1,6 +1,6 @@
 use Rattle.std.proofs.Common.{◌≡◌}
-use Rattle.rollback.specs.Held.{machine_of}
-use Rattle.exchange.specs.Holding.{IsAhead}
+use Rattle.rollback.specs.ComponentView.{machine_of}
+use Rattle.exchange.specs.LeaseView.{IsAhead}
 use Rattle.exchange.proofs.lease.Lease.process_some.Given as goal
 
 abbrev pub invariant-loop-count : goal.invariant-loop-count

@@ -2,7 +2,7 @@ use Rattle.std.proofs.Common.{length, subst}
 use Rattle.plans.specs.Plans.{composition}
 use Rattle.task_seed.specs.Setups.{plan_of}
 use Rattle.virtual_time.specs.Machine.{HasCount, Lawful}
-use Rattle.rollback.specs.Held.{machine_of}
+use Rattle.rollback.specs.ComponentView.{machine_of}
 use Rattle.exchange.proofs.Doing.{all_known, all_moves}
 use Rattle.exchange.proofs.lease.Lease.settle.Goals as goal
 

@@ -3,7 +3,7 @@ use Rattle.std.specs.Prelude.{nat_lt}
 use Rattle.virtual_time.specs.Bags.{inputs}
 use Rattle.virtual_time.specs.Records.{back_until, before_last}
 use Rattle.rollback.specs.Flight.{item_of}
-use Rattle.rollback.specs.Held.{Held, machine_of}
+use Rattle.rollback.specs.ComponentView.{ComponentView, machine_of}
 use Rattle.rollback.proofs.Unwinding.{by_antimessage, until_length}
 use Rattle.rollback.proofs.component.Component.deliver_antimessage.Goals as goal
 
@@ -12,7 +12,7 @@ overflow_sub-count g c =
     let r = c.has_done.new.self in
     let m = machine_of g.T.Turns.turn_of r.setup in
     let x = item_of c.value-2.result.now in
-    let after : c.depth.result ≡ length (before_last m x r.history.done) = c.depth.ensures ∙ ap (λ (h : Held _). length h.history.done) c.unwind_until.ensures.record in
+    let after : c.depth.result ≡ length (before_last m x r.history.done) = c.depth.ensures ∙ ap (λ (h : ComponentView _). length h.history.done) c.unwind_until.ensures.record in
     let all = until_length m 0 x r.history.done in
     omega (arith, c.depth-before.ensures, after, all)
 
@@ -21,7 +21,7 @@ returns-clause-count g c =
     let r = c.has_done.new.self in
     let m = machine_of g.T.Turns.turn_of r.setup in
     let x = item_of c.value-2.result.now in
-    let after : c.depth.result ≡ length (before_last m x r.history.done) = c.depth.ensures ∙ ap (λ (h : Held _). length h.history.done) c.unwind_until.ensures.record in
+    let after : c.depth.result ≡ length (before_last m x r.history.done) = c.depth.ensures ∙ ap (λ (h : ComponentView _). length h.history.done) c.unwind_until.ensures.record in
     let all = until_length m 0 x r.history.done in
     let count : c.depth-before.result - c.depth.result ≡ length (back_until m x r.history.done) = omega (arith, c.depth-before.ensures, after, all) in
     let first = c.take_pending.ensures.kept c.if-take_pending.false in

@@ -9,8 +9,8 @@ use Rattle.task_seed.specs.Turning.{key_of}
 use Rattle.virtual_time.specs.Entries.{by_own}
 use Rattle.virtual_time.specs.Records.{next_of, sent}
 use Rattle.message_balance.specs.declared.done.Done.TheVariants.{Turn}
-use Rattle.rollback.specs.Held.{Held, machine_of, processed}
-use Rattle.rollback.specs.Kept.{record_of, signed_of}
+use Rattle.rollback.specs.ComponentView.{ComponentView, machine_of, processed}
+use Rattle.rollback.specs.ComponentInvariant.{record_of, signed_of}
 use Rattle.rollback.specs.Post.{IsPosted}
 use Rattle.rollback.specs.Reading.{IsRead}
 use Rattle.rollback.specs.Stepped.{IsComingTurn, IsNextTurn, IsNextSent, stepped}
@@ -24,11 +24,11 @@ returns-clause-record g c =
     let s = system g.T.Turns.turn_of (arc_value f.setup) in
     let turned = c.args.turned in
     let old = record_of f.store f.first f.done f.pending f.owed in
-    let comes : IsComingTurn s f.number old turned = subst (λ (h : Held _). IsNextTurn g.T.Turns.turn_of h turned) (sym c.self.view_is) c.requires.next in
+    let comes : IsComingTurn s f.number old turned = subst (λ (h : ComponentView _). IsNextTurn g.T.Turns.turn_of h turned) (sym c.self.view_is) c.requires.next in
     let is : record_of c.take_turn.new.store f.first c.take_turn.new.done f.pending f.owed ≡ processed (next_of (machine s) f.number old) old
     = rw (c.in_ok-take_turn.ensures.state, c.in_ok-take_turn.ensures.done)
     (turn_record s f.number f.first f.store f.done f.pending f.owed f.coming c.self.invariant.0 turned (record { before = signed_of s Minus f.number turned.key turned.outcome; after = [] }) comes) in
-    subst (λ (h : Held _). ◌≡◌ {A = Held _} (record { setup = arc_value f.setup; number = f.number; base = f.base; history = record_of c.take_turn.new.store f.first c.take_turn.new.done f.pending f.owed }) (stepped g.T.Turns.turn_of h)) c.self.view_is
+    subst (λ (h : ComponentView _). ◌≡◌ {A = ComponentView _} (record { setup = arc_value f.setup; number = f.number; base = f.base; history = record_of c.take_turn.new.store f.first c.take_turn.new.done f.pending f.owed }) (stepped g.T.Turns.turn_of h)) c.self.view_is
     (ap (λ r. record { setup = arc_value f.setup; number = f.number; base = f.base; history = r }) is)
 
 pub returns-clause-sent : goal.returns-clause-sent
@@ -37,8 +37,8 @@ returns-clause-sent g c =
     let s = system g.T.Turns.turn_of (arc_value f.setup) in
     let turned = c.args.turned in
     let old = record_of f.store f.first f.done f.pending f.owed in
-    let comes : IsComingTurn s f.number old turned = subst (λ (h : Held _). IsNextTurn g.T.Turns.turn_of h turned) (sym c.self.view_is) c.requires.next in
-    subst (λ (h : Held _). IsNextSent g.T.Turns.turn_of h c.args.out.now c.take_turn.new.out) c.self.view_is
+    let comes : IsComingTurn s f.number old turned = subst (λ (h : ComponentView _). IsNextTurn g.T.Turns.turn_of h turned) (sym c.self.view_is) c.requires.next in
+    subst (λ (h : ComponentView _). IsNextSent g.T.Turns.turn_of h c.args.out.now c.take_turn.new.out) c.self.view_is
     (turn_sent s f.number old turned c.args.out.now c.take_turn.new.out comes
     (subst (λ u. IsPosted Plus (sent (machine_of g.T.Turns.turn_of u) f.number (rank turned.key) (action_of turned.outcome)) c.args.out.now c.take_turn.new.out) c.deref.ensures c.in_ok-take_turn.ensures.sent))
 
@@ -48,7 +48,7 @@ invariant_of-self-2 g c =
     let s = system g.T.Turns.turn_of (arc_value f.setup) in
     let turned = c.args.turned in
     let comes : IsComingTurn s f.number (record_of f.store f.first f.done f.pending f.owed) turned
-    = subst (λ (h : Held _). IsNextTurn g.T.Turns.turn_of h turned) (sym c.self.view_is) c.requires.next in
+    = subst (λ (h : ComponentView _). IsNextTurn g.T.Turns.turn_of h turned) (sym c.self.view_is) c.requires.next in
     let next : c.read_on-self-inside.result ≡ key_of s f.number (turned.key.number + 1)
     = subst (λ u. c.read_on-self-inside.result ≡ key_of (system g.T.Turns.turn_of u) f.number (turned.key.number + 1)) c.deref-2.ensures c.read_on-self-inside.ensures.key in
     let state : c.take_turn.new.store ≡ record { current = by_own (machine s) f.number (action_of turned.outcome) f.store.current; below = f.store.current ∷ f.store.below }

@@ -10,8 +10,8 @@ use Rattle.task_seed.specs.Setups.{system}
 use Rattle.task_seed.specs.Machines.{machine}
 use Rattle.task_seed.specs.Taken.{turn_of}
 use Rattle.rollback.specs.Dropped.{dones_below, dones_from, number_after, turns_in}
-use Rattle.rollback.specs.Held.{Held, machine_of}
-use Rattle.rollback.specs.Kept.{entries_of, record_of}
+use Rattle.rollback.specs.ComponentView.{ComponentView, machine_of}
+use Rattle.rollback.specs.ComponentInvariant.{entries_of, record_of}
 use Rattle.rollback.proofs.Keeping.{depth_is}
 use Rattle.rollback.proofs.Dropping.{dropped_record, dropped_turns, few_dropped, kept_dropped, length_entries, newest_number, newest_small, ready_below}
 use Rattle.rollback.proofs.Oldest.{onto_reverse}
@@ -28,7 +28,7 @@ take_below-dropped-requires-clause-few g c =
     let f = c.self.inside in
     let s = system g.T.Turns.turn_of (arc_value f.setup) in
     let own = depth_is s f.number f.store f.done.before c.self.invariant.0.replayed in
-    let all = ap (λ (h : Held _). length h.history.done) c.self.view_is in
+    let all = ap (λ (h : ComponentView _). length h.history.done) c.self.view_is in
     let count = length_entries f.done.before in
     omega (arith, own, all, count, c.depth-depth.ensures, c.depth-depth.type_inv)
 
@@ -71,7 +71,7 @@ returns-clause-record g c =
     let left : c.take_below-dropped.new.done ≡ record { before = dones_from b ds; after = [] } = c.take_below-dropped.ensures.rest in
     let cut : record_of c.forget_first.new.self c.number_after-self-inside.result c.take_below-dropped.new.done f.pending f.owed ≡ cut_of (machine s) f.number b (record_of f.store f.first f.done f.pending f.owed)
     = rw (states, first, left) (dropped_record s f.number f.first b f.store f.done f.pending f.owed f.coming c.self.invariant.0) in
-    subst (λ (h : Held _). ◌≡◌ {A = Held _} (record { setup = arc_value f.setup; number = f.number; base = c.args.bound; history = record_of c.forget_first.new.self c.number_after-self-inside.result c.take_below-dropped.new.done f.pending f.owed }) (record h { base = c.args.bound; history = cut_of (machine_of g.T.Turns.turn_of h.setup) h.number b h.history })) c.self.view_is
+    subst (λ (h : ComponentView _). ◌≡◌ {A = ComponentView _} (record { setup = arc_value f.setup; number = f.number; base = c.args.bound; history = record_of c.forget_first.new.self c.number_after-self-inside.result c.take_below-dropped.new.done f.pending f.owed }) (record h { base = c.args.bound; history = cut_of (machine_of g.T.Turns.turn_of h.setup) h.number b h.history })) c.self.view_is
     (ap (λ r. record { setup = arc_value f.setup; number = f.number; base = c.args.bound; history = r }) cut)
 
 pub returns-clause-turns : goal.returns-clause-turns
@@ -83,7 +83,7 @@ returns-clause-turns g c =
     ∙ ap (λ (t : Around _). map turn_of (reverse t.before ++ t.after)) c.take_below-dropped.ensures.turns
     ∙ ap (map turn_of) (onto_reverse (turns_in (dones_below b ds)))
     ∙ dropped_turns b ds
-    ∙ ap (λ (h : Held _). onto (turns_among (below b h.history.done)) []) c.self.view_is
+    ∙ ap (λ (h : ComponentView _). onto (turns_among (below b h.history.done)) []) c.self.view_is
 
 pub returns-clause-front : goal.returns-clause-front
 returns-clause-front g c = ap (λ (t : Around _). t.before) c.from_front.ensures

@@ -4,8 +4,8 @@ use Rattle.event_keys.specs.Entries.{action_of}
 use Rattle.task_seed.specs.Machines.{machine, turn_outcome}
 use Rattle.task_seed.specs.Setups.{system}
 use Rattle.virtual_time.specs.Records.{next_of}
-use Rattle.rollback.specs.Held.{Held, machine_of, is_turning}
-use Rattle.rollback.specs.Kept.{record_of}
+use Rattle.rollback.specs.ComponentView.{ComponentView, machine_of, is_turning}
+use Rattle.rollback.specs.ComponentInvariant.{record_of}
 use Rattle.rollback.specs.Stepped.{IsNextTurn}
 use Rattle.rollback.proofs.Stepping.{turned_is}
 use Rattle.rollback.proofs.component.Component.next_turned.Goals as goal
@@ -17,8 +17,8 @@ returns g c =
     let key = c.in-Some.key in
     let outcome = c.in_ok-outcome.outcome in
     let turns : is_turning (next_of (machine s) f.number (record_of f.store f.first f.done f.pending f.owed)) ≡ true
-    = subst (λ (h : Held _). is_turning (next_of (machine_of g.T.Turns.turn_of h.setup) h.number h.history) ≡ true) (sym c.self.view_is) c.requires in
+    = subst (λ (h : ComponentView _). is_turning (next_of (machine_of g.T.Turns.turn_of h.setup) h.number h.history) ≡ true) (sym c.self.view_is) c.requires in
     let came : action_of outcome ≡ turn_outcome s f.number key.number f.store.current
     = subst (λ u. action_of outcome ≡ turn_outcome (system g.T.Turns.turn_of u) f.number key.number f.store.current) c.deref-2.ensures c.in_ok-outcome.ensures in
-    subst (λ (h : Held _). IsNextTurn g.T.Turns.turn_of h (record { key = key; outcome = outcome })) c.self.view_is
+    subst (λ (h : ComponentView _). IsNextTurn g.T.Turns.turn_of h (record { key = key; outcome = outcome })) c.self.view_is
     (turned_is s f.number f.first f.store f.done f.pending f.owed f.coming c.self.invariant.0 (record { key = key; outcome = outcome }) c.in-Some.is turns came)

@@ -9,8 +9,8 @@ use Rattle.task_seed.specs.Setups.{system, plan_of}
 use Rattle.task_seed.specs.Machines.{machine}
 use Rattle.virtual_time.specs.Records.{next_of}
 use Rattle.message_balance.specs.declared.done.Done.TheVariants.{Input}
-use Rattle.rollback.specs.Held.{Held, machine_of, is_receiving}
-use Rattle.rollback.specs.Kept.{record_of}
+use Rattle.rollback.specs.ComponentView.{ComponentView, machine_of, is_receiving}
+use Rattle.rollback.specs.ComponentInvariant.{record_of}
 use Rattle.rollback.proofs.Keeping.{kept_input}
 use Rattle.rollback.proofs.Stepping.{receiving_by, receiving_is}
 use Rattle.rollback.proofs.component.Component.process_input.Goals as goal
@@ -20,7 +20,7 @@ invariant_of-self-2 g c =
     let f = c.self.inside in
     let s = system g.T.Turns.turn_of (arc_value f.setup) in
     let comes : is_receiving (next_of (machine s) f.number (record_of f.store f.first f.done f.pending f.owed)) ≡ true
-    = subst (λ (h : Held _). is_receiving (next_of (machine_of g.T.Turns.turn_of h.setup) h.number h.history) ≡ true) (sym c.self.view_is) c.requires in
+    = subst (λ (h : ComponentView _). is_receiving (next_of (machine_of g.T.Turns.turn_of h.setup) h.number h.history) ≡ true) (sym c.self.view_is) c.requires in
     let found = receiving_is s f.number f.first f.store f.done f.pending f.owed f.coming c.self.invariant.0 comes in
     let x = found.0 in
     let there : f.pending.after ≡ x ∷ found.1 = found.2 in

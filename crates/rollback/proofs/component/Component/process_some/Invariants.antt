@@ -1,5 +1,5 @@
 use Rattle.std.proofs.Common.{◌≡◌}
-use Rattle.rollback.specs.Held.{machine_of}
+use Rattle.rollback.specs.ComponentView.{machine_of}
 use Rattle.rollback.specs.Runs.{IsRun}
 use Rattle.rollback.proofs.component.Component.process_some.Given as goal
 

@@ -1,8 +1,8 @@
 use Rattle.std.proofs.Common.{◌≡◌, [], ap, subst, ◌∙◌}
 use Rattle.event_keys.specs.declared.message.Sign.TheVariants.{Plus}
 use Rattle.task_seed.specs.Setups.{system}
-use Rattle.rollback.specs.Held.{Held}
-use Rattle.rollback.specs.Kept.{signed_by, signed_of, turn_receivers}
+use Rattle.rollback.specs.ComponentView.{ComponentView}
+use Rattle.rollback.specs.ComponentInvariant.{signed_by, signed_of, turn_receivers}
 use Rattle.rollback.proofs.Sending.{posted_turn}
 use Rattle.rollback.proofs.Stepping.{turn_sent}
 use Rattle.rollback.proofs.component.Component.process_turn_copied.Goals as goal
@@ -14,7 +14,7 @@ returns-clause-of_sender g c =
     let turned = c.in_ok-turned.turned in
     let cells = c.in_ok-of_sender.of_sender in
     let receivers : c.deref-2.result.now ≡ turn_receivers (system t own.setup) own.number turned.outcome
-    = c.deref-2.ensures.value ∙ subst (λ (h : Held _). c.in_ok-receivers.receivers.items ≡ turn_receivers (system t h.setup) h.number turned.outcome) c.self.view_is
+    = c.deref-2.ensures.value ∙ subst (λ (h : ComponentView _). c.in_ok-receivers.receivers.items ≡ turn_receivers (system t h.setup) h.number turned.outcome) c.self.view_is
     (subst (λ u. c.in_ok-receivers.receivers.items ≡ turn_receivers (system t u) c.self.inside.number turned.outcome) c.deref.ensures c.in_ok-receivers.ensures) in
     let old = c.args.copies.now.of_sender in
     let ready : cells ≡ record { before = signed_of (system t own.setup) Plus own.number turned.key turned.outcome; after = [] }
@@ -29,7 +29,7 @@ returns-clause-of_receiver g c =
     let turned = c.in_ok-turned.turned in
     let cells = c.in_ok-of_receiver.of_receiver in
     let receivers : c.deref-3.result.now ≡ turn_receivers (system t own.setup) own.number turned.outcome
-    = c.deref-3.ensures.value ∙ subst (λ (h : Held _). c.in_ok-receivers.receivers.items ≡ turn_receivers (system t h.setup) h.number turned.outcome) c.self.view_is
+    = c.deref-3.ensures.value ∙ subst (λ (h : ComponentView _). c.in_ok-receivers.receivers.items ≡ turn_receivers (system t h.setup) h.number turned.outcome) c.self.view_is
     (subst (λ u. c.in_ok-receivers.receivers.items ≡ turn_receivers (system t u) c.self.inside.number turned.outcome) c.deref.ensures c.in_ok-receivers.ensures) in
     let old = c.args.copies.now.of_receiver in
     let ready : cells ≡ record { before = signed_of (system t own.setup) Plus own.number turned.key turned.outcome; after = [] }

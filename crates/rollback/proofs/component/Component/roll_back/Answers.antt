@@ -8,8 +8,8 @@ use Rattle.task_seed.specs.Setups.{system}
 use Rattle.task_seed.specs.Machines.{machine}
 use Rattle.virtual_time.specs.Records.{roll_back_of, unsent}
 use Rattle.message_balance.specs.declared.done.Done.TheVariants.{Turn, Input}
-use Rattle.rollback.specs.Held.{Held, machine_of, last_of}
-use Rattle.rollback.specs.Kept.{record_of}
+use Rattle.rollback.specs.ComponentView.{ComponentView, machine_of, last_of}
+use Rattle.rollback.specs.ComponentInvariant.{record_of}
 use Rattle.rollback.specs.Post.{IsPosted}
 use Rattle.rollback.proofs.Keeping.{kept_back_input, kept_back_turn}
 use Rattle.rollback.proofs.Stepping.{back_input_record, back_turn_sent, head_tail}
@@ -37,7 +37,7 @@ returns-in-Input-clause-record g c =
     let is : record_of c.undo.new.self f.first c.take_last.new.self c.insert_sorted.new.self f.owed ≡ roll_back_of (machine s) (record_of f.store f.first f.done f.pending f.owed)
     = rw (c.undo.ensures.state, c.take_last.ensures.rest, c.insert_sorted.ensures)
     (back_input_record s f.number f.first f.store f.done f.pending f.owed f.coming c.self.invariant.0 x (tail f.done.before) there) in
-    subst (λ (h : Held _). ◌≡◌ {A = Held _} (record { setup = arc_value f.setup; number = f.number; base = f.base; history = record_of c.undo.new.self f.first c.take_last.new.self c.insert_sorted.new.self f.owed }) (record h { history = roll_back_of (machine_of g.T.Turns.turn_of h.setup) h.history })) c.self.view_is
+    subst (λ (h : ComponentView _). ◌≡◌ {A = ComponentView _} (record { setup = arc_value f.setup; number = f.number; base = f.base; history = record_of c.undo.new.self f.first c.take_last.new.self c.insert_sorted.new.self f.owed }) (record h { history = roll_back_of (machine_of g.T.Turns.turn_of h.setup) h.history })) c.self.view_is
     (ap (λ r. record { setup = arc_value f.setup; number = f.number; base = f.base; history = r }) is)
 
 pub returns-in-Turn-clause-sent : goal.returns-in-Turn-clause-sent
@@ -50,7 +50,7 @@ returns-in-Turn-clause-sent g c =
     = head_tail (Turn turned minuses) f.done.before (ap Some (sym c.in-Turn.is ∙ c.into_value.ensures) ∙ sym c.in-Some.is ∙ c.take_last.ensures.taken) in
     let sent = back_turn_sent s f.number f.first f.store f.done f.pending f.owed f.coming c.self.invariant.0 turned minuses (tail f.done.before) c.args.out.now there
     (subst (λ t. KeyFits t.key) c.value.ensures c.fits.ensures.numbers) c.receivers_law.ensures.once c.receivers_law.ensures.all c.post_all.ensures.order in
-    subst (λ (h : Held _). IsPosted Minus (unsent (machine_of g.T.Turns.turn_of h.setup) h.number (last_of h.history.done)) c.args.out.now c.post_all.new.out) c.self.view_is
+    subst (λ (h : ComponentView _). IsPosted Minus (unsent (machine_of g.T.Turns.turn_of h.setup) h.number (last_of h.history.done)) c.args.out.now c.post_all.new.out) c.self.view_is
     (subst (λ (bag : List Signed). IsPosted Minus (unsent (machine s) f.number (last_of (record_of f.store f.first f.done f.pending f.owed).done)) c.args.out.now bag) (sym c.post_all.ensures.posted) sent)
 
 pub invariant_of-self-in-Turn : goal.invariant_of-self-in-Turn

@@ -2,7 +2,7 @@ use Rattle.std.proofs.Common.{◌≡◌, ◌-◌, ℕ, take}
 use Rattle.event_keys.specs.declared.message.Sign.TheVariants.{Plus, Minus}
 use Rattle.virtual_time.specs.Records.{roll_back_times, unsent}
 use Rattle.rollback.specs.Flight.{in_flight}
-use Rattle.rollback.specs.Held.{machine_of}
+use Rattle.rollback.specs.ComponentView.{machine_of}
 use Rattle.rollback.proofs.component.Component.roll_back_some.Given as goal
 
 abbrev pub invariant-loop-k : goal.invariant-loop-k

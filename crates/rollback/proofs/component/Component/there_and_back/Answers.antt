@@ -1,5 +1,5 @@
 use Rattle.std.proofs.Common.{◌≡◌, subst}
-use Rattle.rollback.specs.Held.{Held, machine_of}
+use Rattle.rollback.specs.ComponentView.{ComponentView, machine_of}
 use Rattle.event_keys.specs.declared.message.Sign.TheVariants.{Minus}
 use Rattle.virtual_time.specs.Records.{unsent}
 use Rattle.std.specs.Prelude.{take}
@@ -17,4 +17,4 @@ returns-clause-trip g c =
     let same : h ≡ record own { history = h.history } = came.ensures.rest in
     run_back m own.number (c.record_law.ensures.done m own.number) own.history h.history c.args.out.now came.new.out c.roll_back_some.new.out came.result.entries c.args.most came.result.stopped
     came.ensures.run came.ensures.end
-    (subst (λ (x : Held _). IsPosted Minus (unsent (machine_of t x.setup) x.number (take came.result.entries h.history.done)) came.new.out c.roll_back_some.new.out) same c.roll_back_some.ensures.sent)
+    (subst (λ (x : ComponentView _). IsPosted Minus (unsent (machine_of t x.setup) x.number (take came.result.entries h.history.done)) came.new.out c.roll_back_some.new.out) same c.roll_back_some.ensures.sent)

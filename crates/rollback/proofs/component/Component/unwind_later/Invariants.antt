@@ -2,7 +2,7 @@ use Rattle.std.proofs.Common.{◌≡◌, ℕ, length}
 use Rattle.event_keys.specs.declared.message.Sign.TheVariants.{Plus, Minus}
 use Rattle.virtual_time.specs.Records.{later, unsent}
 use Rattle.rollback.specs.Flight.{item_of, in_flight}
-use Rattle.rollback.specs.Held.{machine_of}
+use Rattle.rollback.specs.ComponentView.{machine_of}
 use Rattle.rollback.proofs.Unwinding.{unwound}
 use Rattle.rollback.proofs.component.Component.unwind_later.Given as goal
 

@@ -6,7 +6,7 @@ use Rattle.antimessage.specs.Counts.{is_same}
 use Rattle.undo_records.specs.First.{same_state}
 use Rattle.task_seed.specs.Setups.{system}
 use Rattle.task_seed.specs.contracts.setup.SetupPartialEq.TheImpl as setup_eq
-use Rattle.rollback.specs.Kept.{base_state}
+use Rattle.rollback.specs.ComponentInvariant.{base_state}
 use Rattle.message_balance.specs.Same.{same_done}
 use Rattle.rollback.specs.Same.{same_held}
 use Rattle.rollback.proofs.Equality.{and_then, and_else, held_same}

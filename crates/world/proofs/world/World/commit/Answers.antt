@@ -9,7 +9,7 @@ use Rattle.virtual_time.specs.Worlds.{Commit}
 use Rattle.task_seed.specs.declared.setup.Setup.{Setup}
 use Rattle.task_seed.specs.Setups.{plan_of, system}
 use Rattle.task_seed.specs.Taken.{turns_of}
-use Rattle.rollback.specs.Held.{Held, machine_of}
+use Rattle.rollback.specs.ComponentView.{ComponentView, machine_of}
 use Rattle.world.specs.MachineLaws.{Laws}
 use Rattle.world.specs.Simulation.{IsSimulation, Simulation, world_of}
 use Rattle.world.specs.Keeping.{Keeps}
@@ -79,7 +79,7 @@ invariant_of-self g c =
     let items : (with_items f.components cs).items ≡ cs = with_items_is f.components cs (d.ensures.many ∙ c.deref_mut.ensures.len) in
     let before = ap (λ (l : Around Turned). l.before) c.append.ensures.all in (
       ap (λ (l : Around Turned). l.after) c.append.ensures.all,
-      subst₂ (λ (xs : List (Held (Setup _))) (cm : List Turned). IsSimulation s (record { setup = arc_value f.setup; components = xs; flight = f.flight; bound = c.args.bound; committed = cm })) (sym items) (sym before) (kept s laws w is c.args.bound behind (rank_of_bound c.gvt.result) time ahead cs many d.result.after cuts d.ensures.falls given),
+      subst₂ (λ (xs : List (ComponentView (Setup _))) (cm : List Turned). IsSimulation s (record { setup = arc_value f.setup; components = xs; flight = f.flight; bound = c.args.bound; committed = cm })) (sym items) (sym before) (kept s laws w is c.args.bound behind (rank_of_bound c.gvt.result) time ahead cs many d.result.after cuts d.ensures.falls given),
     )
 
 pub returns-clause-answers : goal.returns-clause-answers
@@ -104,7 +104,7 @@ returns-clause-answers g c =
     let many : length cs ≡ length f.components.items = d.ensures.many ∙ ap length c.deref_mut.ensures.value in
     let items : (with_items f.components cs).items ≡ cs = with_items_is f.components cs (d.ensures.many ∙ c.deref_mut.ensures.len) in
     let before = ap (λ (l : Around Turned). l.before) c.append.ensures.all in
-    let here = subst₂ (λ (xs : List (Held (Setup _))) (cm : List Turned). Answers m (length (composition (plan_of w.setup))) (world_of m w) (Commit (rank_of_bound c.args.bound)) (theory.Committed (length d.result.after)) (world_of m (record { setup = arc_value f.setup; components = xs; flight = f.flight; bound = c.args.bound; committed = cm }))) (sym items) (sym before) (answers s laws w is c.args.bound behind (rank_of_bound c.gvt.result) time ahead cs many d.result.after cuts d.ensures.falls given) in
+    let here = subst₂ (λ (xs : List (ComponentView (Setup _))) (cm : List Turned). Answers m (length (composition (plan_of w.setup))) (world_of m w) (Commit (rank_of_bound c.args.bound)) (theory.Committed (length d.result.after)) (world_of m (record { setup = arc_value f.setup; components = xs; flight = f.flight; bound = c.args.bound; committed = cm }))) (sym items) (sym before) (answers s laws w is c.args.bound behind (rank_of_bound c.gvt.result) time ahead cs many d.result.after cuts d.ensures.falls given) in
     subst₂ (λ (v : Simulation _) (n : ℕ). Answers (machine_of t v.setup) (length (composition (plan_of v.setup))) (world_of (machine_of t v.setup) v) (Commit (rank_of_bound c.args.bound)) (theory.Committed n) (world_of (machine_of t v.setup) (record { setup = arc_value f.setup; components = (with_items f.components cs).items; flight = f.flight; bound = c.args.bound; committed = c.append.new.committed.before })))
     c.self.view_is (sym c.append.ensures.count) here
 
@@ -120,4 +120,4 @@ returns-clause-keeps g c =
     let new : Simulation _ = record { setup = arc_value f.setup; components = cs; flight = f.flight; bound = c.args.bound; committed = onto d.result.after f.committed.before } in
     let keeps : Keeps old new = record { rises = behind; bound = λ same. sym (c.bound_law.ensures.same (c.bound_rank_law.ensures ∙ level (rank_of_bound f.bound) (rank_of_bound c.args.bound) (sym same))); committed = (onto d.result.after [], onto_append d.result.after [] f.committed.before) } in
     subst (λ (v : Simulation _). Keeps v (record { setup = arc_value f.setup; components = (with_items f.components cs).items; flight = f.flight; bound = c.args.bound; committed = c.append.new.committed.before })) c.self.view_is
-    (subst₂ (λ (xs : List (Held (Setup _))) (cm : List Turned). Keeps old (record { setup = arc_value f.setup; components = xs; flight = f.flight; bound = c.args.bound; committed = cm })) (sym items) (sym before) keeps)
+    (subst₂ (λ (xs : List (ComponentView (Setup _))) (cm : List Turned). Keeps old (record { setup = arc_value f.setup; components = xs; flight = f.flight; bound = c.args.bound; committed = cm })) (sym items) (sym before) keeps)

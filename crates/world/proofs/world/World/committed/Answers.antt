@@ -4,7 +4,7 @@ use Rattle.event_keys.specs.Ranks.{rank_of_bound}
 use Rattle.virtual_time.specs.Reference.{IsReference}
 use Rattle.task_seed.specs.Setups.{system}
 use Rattle.task_seed.specs.Taken.{turn_of}
-use Rattle.rollback.specs.Held.{machine_of}
+use Rattle.rollback.specs.ComponentView.{machine_of}
 use Rattle.world.specs.MachineLaws.{Laws}
 use Rattle.world.specs.Simulation.{Simulation, world_of}
 use Rattle.world.proofs.world.World.committed.Goals as goal

@@ -3,14 +3,15 @@ use Rattle.std.specs.Arc.{arc_value}
 use Rattle.plans.specs.Plans.{composition}
 use Rattle.task_seed.specs.declared.setup.Setup.{Setup}
 use Rattle.task_seed.specs.Setups.{plan_of, system}
-use Rattle.rollback.specs.Held.{machine_of}
-use Rattle.world.specs.Simulation.{IsSimulation, Simulation, start_held, world_of}
+use Rattle.rollback.specs.ComponentView.{machine_of}
+use Rattle.world.specs.Simulation.{IsSimulation, Simulation, world_of}
+use Rattle.rollback.specs.ComponentView.{lowest_bound, start_held}
 use Rattle.std.proofs.Common.{[], ◌∷◌, ◌++◌}
 use Rattle.std.specs.List.{range_with_len}
 use Rattle.std.proofs.lemmas.List.FromFn.{map-range_with_len_more}
 use Rattle.event_keys.specs.declared.outcome.Turned.{Turned}
 use Rattle.raw_events.specs.Around.{Around}
-use Rattle.world.specs.Simulation.{first, start_simulation}
+use Rattle.world.specs.Simulation.{start_simulation}
 use Rattle.world.proofs.Starting.{start_is, start_kept}
 use Rattle.world.proofs.world.World.new.Goals as goal
 
@@ -30,8 +31,8 @@ invariant_of-result g c =
     let all : c.loop-i.i ≡ length (composition (plan_of p)) = omega (arith, c.loop-i-test.false, count, c.loop-i.auto.i-end) in
     let items = c.loop-i.invariant ∙ ap (λ n. map (start_held t p) (range_with_len 0 n)) all in
     let before = ap (λ (l : Around Turned). l.before) c.new-3.ensures in
-    let same : ◌≡◌ {A = Simulation (Setup _)} (record { setup = p; components = c.loop-i.components.items; flight = c.new-2.result; bound = first; committed = c.new-3.result.before }) (start_simulation t p)
-    = λ v. record { setup = p; components = items v; flight = c.new-2.ensures v; bound = first; committed = before v } in
+    let same : ◌≡◌ {A = Simulation (Setup _)} (record { setup = p; components = c.loop-i.components.items; flight = c.new-2.result; bound = lowest_bound; committed = c.new-3.result.before }) (start_simulation t p)
+    = λ v. record { setup = p; components = items v; flight = c.new-2.ensures v; bound = lowest_bound; committed = before v } in
     (ap (λ (l : Around Turned). l.after) c.new-3.ensures, subst (IsSimulation (system t p)) (sym same) (start_kept t p refl))
 
 pub returns-clause-start : goal.returns-clause-start
@@ -42,6 +43,6 @@ returns-clause-start g c =
     let all : c.loop-i.i ≡ length (composition (plan_of p)) = omega (arith, c.loop-i-test.false, count, c.loop-i.auto.i-end) in
     let items = c.loop-i.invariant ∙ ap (λ n. map (start_held t p) (range_with_len 0 n)) all in
     let before = ap (λ (l : Around Turned). l.before) c.new-3.ensures in
-    let same : ◌≡◌ {A = Simulation (Setup _)} (record { setup = p; components = c.loop-i.components.items; flight = c.new-2.result; bound = first; committed = c.new-3.result.before }) (start_simulation t p)
-    = λ v. record { setup = p; components = items v; flight = c.new-2.ensures v; bound = first; committed = before v } in
+    let same : ◌≡◌ {A = Simulation (Setup _)} (record { setup = p; components = c.loop-i.components.items; flight = c.new-2.result; bound = lowest_bound; committed = c.new-3.result.before }) (start_simulation t p)
+    = λ v. record { setup = p; components = items v; flight = c.new-2.ensures v; bound = lowest_bound; committed = before v } in
     ap (world_of (machine_of t p)) same ∙ start_is t p

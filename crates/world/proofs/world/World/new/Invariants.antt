@@ -1,7 +1,7 @@
 use Rattle.std.proofs.Common.{◌≡◌, map}
 use Rattle.std.specs.Arc.{arc_value}
 use Rattle.std.specs.List.{range_with_len}
-use Rattle.world.specs.Simulation.{start_held}
+use Rattle.rollback.specs.ComponentView.{start_held}
 use Rattle.world.proofs.world.World.new.Given as goal
 
 abbrev pub invariant-loop-i : goal.invariant-loop-i

@@ -7,7 +7,7 @@ use Rattle.virtual_time.specs.Replies.{Answers}
 use Rattle.virtual_time.specs.Worlds.{Process}
 use Rattle.task_seed.specs.declared.setup.Setup.{Setup}
 use Rattle.task_seed.specs.Setups.{plan_of, system}
-use Rattle.rollback.specs.Held.{Held, machine_of}
+use Rattle.rollback.specs.ComponentView.{ComponentView, machine_of}
 use Rattle.world.specs.declared.step.Reply.TheVariants as reply
 use Rattle.world.specs.Simulation.{IsSimulation, Simulation, world_of}
 use Rattle.world.specs.Keeping.{Keeps}
@@ -22,7 +22,7 @@ invariant_of-self g c =
     let f = c.self.inside in
     let cs = c.process.new.components in
     let items : (with_items f.components cs).items ≡ cs = with_items_is f.components cs (c.process.ensures.many ∙ c.deref_mut.ensures.len) in
-    let steps = subst₂ (λ (p : Setup _) (old : List (Held (Setup _))). Steps t p old f.flight cs c.process.new.flight (Process c.args.i) (answer_by reply.Processed c.process.result)) c.deref.ensures c.deref_mut.ensures.value c.process.ensures.step in
+    let steps = subst₂ (λ (p : Setup _) (old : List (ComponentView (Setup _))). Steps t p old f.flight cs c.process.new.flight (Process c.args.i) (answer_by reply.Processed c.process.result)) c.deref.ensures c.deref_mut.ensures.value c.process.ensures.step in
     (c.self.invariant.0, subst (λ xs. IsSimulation (system t (arc_value f.setup)) (record { setup = arc_value f.setup; components = xs; flight = c.process.new.flight; bound = f.bound; committed = f.committed.before })) (sym items) (steps f.bound f.committed.before c.self.invariant.1).kept)
 
 pub returns-clause-answers : goal.returns-clause-answers
@@ -31,9 +31,9 @@ returns-clause-answers g c =
     let f = c.self.inside in
     let cs = c.process.new.components in
     let items : (with_items f.components cs).items ≡ cs = with_items_is f.components cs (c.process.ensures.many ∙ c.deref_mut.ensures.len) in
-    let steps = subst₂ (λ (p : Setup _) (old : List (Held (Setup _))). Steps t p old f.flight cs c.process.new.flight (Process c.args.i) (answer_by reply.Processed c.process.result)) c.deref.ensures c.deref_mut.ensures.value c.process.ensures.step in
+    let steps = subst₂ (λ (p : Setup _) (old : List (ComponentView (Setup _))). Steps t p old f.flight cs c.process.new.flight (Process c.args.i) (answer_by reply.Processed c.process.result)) c.deref.ensures c.deref_mut.ensures.value c.process.ensures.step in
     let answers = (steps f.bound f.committed.before c.self.invariant.1).answers in
-    subst₂ (λ (v : Simulation _) (xs : List (Held (Setup _))). Answers (machine_of t v.setup) (length (composition (plan_of v.setup))) (world_of (machine_of t v.setup) v) (Process c.args.i) (answer_by reply.Processed c.process.result) (world_of (machine_of t v.setup) (record { setup = arc_value f.setup; components = xs; flight = c.process.new.flight; bound = f.bound; committed = f.committed.before })))
+    subst₂ (λ (v : Simulation _) (xs : List (ComponentView (Setup _))). Answers (machine_of t v.setup) (length (composition (plan_of v.setup))) (world_of (machine_of t v.setup) v) (Process c.args.i) (answer_by reply.Processed c.process.result) (world_of (machine_of t v.setup) (record { setup = arc_value f.setup; components = xs; flight = c.process.new.flight; bound = f.bound; committed = f.committed.before })))
     c.self.view_is (sym items) answers
 
 pub returns-clause-keeps : goal.returns-clause-keeps
@@ -43,4 +43,4 @@ returns-clause-keeps g c =
     let items : (with_items f.components cs).items ≡ cs = with_items_is f.components cs (c.process.ensures.many ∙ c.deref_mut.ensures.len) in
     let old : Simulation _ = record { setup = arc_value f.setup; components = f.components.items; flight = f.flight; bound = f.bound; committed = f.committed.before } in
     let new : Simulation _ = record { setup = arc_value f.setup; components = cs; flight = c.process.new.flight; bound = f.bound; committed = f.committed.before } in
-    subst₂ (λ (v : Simulation _) (xs : List (Held (Setup _))). Keeps v (record { setup = arc_value f.setup; components = xs; flight = c.process.new.flight; bound = f.bound; committed = f.committed.before })) c.self.view_is (sym items) (keeps_same old new refl refl)
+    subst₂ (λ (v : Simulation _) (xs : List (ComponentView (Setup _))). Keeps v (record { setup = arc_value f.setup; components = xs; flight = c.process.new.flight; bound = f.bound; committed = f.committed.before })) c.self.view_is (sym items) (keeps_same old new refl refl)

@@ -4,7 +4,7 @@ use Rattle.plans.specs.Plans.{composition}
 use Rattle.virtual_time.specs.Machine.{Lawful}
 use Rattle.virtual_time.specs.Replies.{Answers, Runs}
 use Rattle.task_seed.specs.Setups.{plan_of, system}
-use Rattle.rollback.specs.Held.{machine_of}
+use Rattle.rollback.specs.ComponentView.{machine_of}
 use Rattle.world.proofs.Keeping.{keeps_then, same_simulation}
 use Rattle.world.specs.Simulation.{IsSimulation, world_of}
 use Rattle.world.specs.Steps.{answer_of, step_of}

@@ -3,7 +3,7 @@ use Rattle.std.specs.Vec.{vec_capacity, vec_len}
 use Rattle.plans.specs.Plans.{composition}
 use Rattle.task_seed.specs.Setups.{plan_of}
 use Rattle.virtual_time.specs.Replies.{Runs}
-use Rattle.rollback.specs.Held.{machine_of}
+use Rattle.rollback.specs.ComponentView.{machine_of}
 use Rattle.world.specs.Keeping.{Keeps}
 use Rattle.world.specs.Simulation.{world_of}
 use Rattle.world.specs.Steps.{answer_of, step_of}

@@ -3,7 +3,7 @@ use Rattle.std.specs.Arc.{arc_value}
 use Rattle.plans.specs.Plans.{composition}
 use Rattle.virtual_time.specs.Replies.{IsReached}
 use Rattle.task_seed.specs.Setups.{plan_of, system}
-use Rattle.rollback.specs.Held.{machine_of}
+use Rattle.rollback.specs.ComponentView.{machine_of}
 use Rattle.world.specs.MachineLaws.{Laws}
 use Rattle.world.specs.Simulation.{Simulation, world_of}
 use Rattle.virtual_time.specs.Rules.{IsWorld}

@@ -2,7 +2,7 @@ use Rattle.std.proofs.Common.{[], ◌∷◌, length, refl, subst}
 use Rattle.plans.specs.Plans.{composition}
 use Rattle.virtual_time.specs.Machine.{Lawful}
 use Rattle.task_seed.specs.Setups.{plan_of}
-use Rattle.rollback.specs.Held.{machine_of}
+use Rattle.rollback.specs.ComponentView.{machine_of}
 use Rattle.world.specs.Simulation.{world_of}
 use Rattle.world.specs.Steps.{answer_of, step_of}
 use Rattle.world.proofs.world.World.step.Goals as goal

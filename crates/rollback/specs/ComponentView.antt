@@ -3,18 +3,20 @@ use Rattle.std.specs.Prelude.{ℕ, Bool, true, false, is_some, not, List, [], �
 use Rattle.terms.specs.Datum.{Datum}
 use Rattle.terms.specs.Named.{Named}
 use Rattle.event_keys.specs.declared.key.Bound.{Bound}
+use Rattle.event_keys.specs.declared.key.Bound.TheVariants.{At}
+use Rattle.event_keys.specs.Ranks.{rank_of_bound}
 use Rattle.event_keys.specs.declared.message.Sign.{Sign}
 use Rattle.event_keys.specs.declared.message.Sign.TheVariants.{Plus, Minus}
 use Rattle.virtual_time.specs.Machine.{Machine}
 use Rattle.virtual_time.specs.Entries.{Entry, Own, Input, Item, entry_key}
-use Rattle.virtual_time.specs.Records.{Record, after_entry, sent_by, message_comes, antimessage_comes, back_by_message, back_by_antimessage, stays, is_input}
+use Rattle.virtual_time.specs.Records.{Record, after_entry, cut_of, sent_by, message_comes, antimessage_comes, back_by_message, back_by_antimessage, stays, is_input}
 use Rattle.task_seed.specs.declared.turns.Turn.{Turn}
 use Rattle.task_seed.specs.declared.setup.Setup.{Setup}
 use Rattle.task_seed.specs.Setups.{system}
 use Rattle.task_seed.specs.Machines.{machine}
 
 -- a component of a setup: its number, the bound of its base, and its record
-pub record Held (P : Type 0) : Type 0 where
+pub record ComponentView (P : Type 0) : Type 0 where
   pub setup : P
   pub number : ℕ
   pub base : Bound
@@ -93,3 +95,15 @@ module _ {S A : Type 0} where
   abbrev pub is_last_another : Machine S A → Item A → List (Entry A) → Bool
   is_last_another m x [] = false
   is_last_another m x (e ∷ es) = not (is_input m x e)
+
+-- below it there is no key
+abbrev pub lowest_bound : Bound
+lowest_bound = At (record { tick = 0; component = 0; number = 0 })
+
+-- component i of a setup at the start
+abbrev pub start_held : {T : Type 0} → (T → ℕ → ℕ → Option Turn) → Setup T → ℕ → ComponentView (Setup T)
+start_held turn_of setup i = record { setup = setup; number = i; base = lowest_bound; history = start_record (machine_of turn_of setup) i }
+
+-- a component whose entries below a bound are dropped, with the bound as its base
+abbrev pub cut_at : {P : Type 0} → Machine (List Datum) Named → Bound → ComponentView P → ComponentView P
+cut_at m bound c = record c { base = bound; history = cut_of m c.number (rank_of_bound bound) c.history }

@@ -1,5 +1,5 @@
 -- What workers share, and the exchange of the theory that it is.
-use Rattle.std.specs.Prelude.{◌≡◌, ℕ, ◌<◌, ◌≤◌, ◌⊎◌, Bool, true, false, Option, None, Some, List, IfSome, if◌then◌else◌, nat_lt, length, slice_get}
+use Rattle.std.specs.Prelude.{◌≡◌, ℕ, ◌<◌, ◌≤◌, ◌⊎◌, Bool, true, false, Option, None, Some, List, IfSome, if◌then◌else◌, nat_lt, length, option_map, slice_get}
 use Rattle.terms.specs.Datum.{Datum}
 use Rattle.terms.specs.Named.{Named}
 use Rattle.event_keys.specs.declared.key.Bound.{Bound}
@@ -24,7 +24,7 @@ use Rattle.exchange.specs.declared.stub.Stub.{Stub}
 
 -- a setup, a stub for each component, the committed bound, the turns taken in and not given in a chunk, the first one first,
 -- and how many were given
-pub record Shared (P : Type 0) : Type 0 where
+pub record ExchangeView (P : Type 0) : Type 0 where
   pub setup : P
   pub stubs : List Stub
   pub bound : Bound
@@ -48,7 +48,7 @@ abbrev pub stub_or_start : Machine (List Datum) Named → ℕ → Option Stub �
 stub_or_start m j None = start_stub m j
 stub_or_start m j (Some s) = stub_of m j s
 
-abbrev pub exchange_of : {P : Type 0} → Machine (List Datum) Named → Shared P → ExchangeSeen Named
+abbrev pub exchange_of : {P : Type 0} → Machine (List Datum) Named → ExchangeView P → ExchangeSeen Named
 exchange_of m e = record { stub = λ j. stub_or_start m j (slice_get e.stubs j); bound = rank_of_bound e.bound; held = turns_of e.held; given = e.given }
 
 -- the inbox of component i goes to it, holds no message with its antimessage, and has a copy of each message; its turns below the bound are counted, and the key of the one after them is there
@@ -64,7 +64,7 @@ pub record IsStub (s : System) (bound i : ℕ) (stub : Stub) : Type 0 where
   pub few : stub.passed ≤ 4294967296
 
 -- sound, with a stub for each component
-pub record IsShared {P : Type 0} (s : System) (e : Shared P) : Type 0 where
+pub record IsValidExchange {P : Type 0} (s : System) (e : ExchangeView P) : Type 0 where
   pub sound : IsSound (machine s) (length s.composition) (exchange_of (machine s) e)
   pub many : length e.stubs ≡ length s.composition
   pub stubs : (j : ℕ) (stub : Stub) → slice_get e.stubs j ≡ Some stub → IsStub s (rank_of_bound e.bound) j stub
@@ -105,3 +105,11 @@ is_end End = true
 -- the base of the stub is the end
 abbrev pub is_ended : Stub → Bool
 is_ended stub = is_end stub.base
+
+-- of each stub the turns below a bound are counted
+abbrev pub HavePassed : System → Bound → List Stub → List Stub → Type 0
+HavePassed s bound old new = (j : ℕ) → slice_get new j ≡ option_map (passing s (rank_of_bound bound) j) (slice_get old j)
+
+-- each stub counts turns below a bound
+abbrev pub ArePassing : System → Bound → List Stub → Type 0
+ArePassing s bound stubs = (j : ℕ) (stub : Stub) → slice_get stubs j ≡ Some stub → IsPassing s (rank_of_bound bound) j stub

@@ -15,14 +15,14 @@ use Rattle.virtual_time.specs.Records.{Record, unsent}
 use Rattle.virtual_time.specs.Worlds.{Part}
 use Rattle.rollback.specs.declared.copied.Copies.{Copies}
 use Rattle.rollback.specs.Flight.{in_flight, item_of}
-use Rattle.rollback.specs.Held.{Held, comes, back_by}
+use Rattle.rollback.specs.ComponentView.{ComponentView, comes, back_by}
 use Rattle.rollback.specs.Post.{IsPosted}
 use Rattle.rollback.specs.Runs.{IsRun}
 
 -- a component, its tray of messages that came and are not delivered yet, its outgoing messages with their copies, and the floor of its
 -- last meeting
-pub record Holding (P : Type 0) : Type 0 where
-  pub component : Held P
+pub record LeaseView (P : Type 0) : Type 0 where
+  pub component : ComponentView P
   pub tray : List Signed
   pub out : List Signed
   pub copies : Copies
@@ -34,7 +34,7 @@ part_of i r tray = record { base = r.base; first = r.first; done = r.done; pendi
 
 module _ {P : Type 0} where
   -- as the theory sees it
-  abbrev pub lease_of : Holding P → Lease (List Datum) Named
+  abbrev pub lease_of : LeaseView P → Lease (List Datum) Named
   lease_of h =
       record {
         base = rank_of_bound h.component.base;
@@ -45,7 +45,7 @@ module _ {P : Type 0} where
       }
 
   -- it has what each lease of the theory has, and matches some stub; there are so many components
-  pub record IsHolding (m : Machine (List Datum) Named) (count : ℕ) (h : Holding P) : Type 0 where
+  pub record IsValidLease (m : Machine (List Datum) Named) (count : ℕ) (h : LeaseView P) : Type 0 where
     pub lease : IsLease m h.component.number (lease_of h)
     pub stub : Stub Named
     pub match : Matches m h.component.number stub (lease_of h)
@@ -56,22 +56,30 @@ module _ {P : Type 0} where
     pub of_receiver : (j : ℕ) → in_flight Plus j h.copies.of_receiver ≡ in_flight Plus j h.out
     pub inside : (sign : Sign) (j : ℕ) → count ≤ j → in_flight sign j h.out ≡ []
 
+  -- only its record, its outgoing messages and their copies changed
+  abbrev pub IsOnlyAhead : LeaseView P → LeaseView P → Type 0
+  IsOnlyAhead old new = new ≡ record old { component = record old.component { history = new.component.history }; out = new.out; copies = new.copies }
+
+  -- its component is of the same setup and number
+  abbrev pub KeepsComponent : LeaseView P → LeaseView P → Type 0
+  KeepsComponent old new = (new.component.setup ≡ old.component.setup) × (new.component.number ≡ old.component.number)
+
   -- so many entries are processed, and what they send is among the outgoing messages
-  pub record IsAhead (m : Machine (List Datum) Named) (old new : Holding P) (count : ℕ) : Type 0 where
+  pub record IsAhead (m : Machine (List Datum) Named) (old new : LeaseView P) (count : ℕ) : Type 0 where
     pub run : IsRun m old.component.number old.component.history new.component.history old.out new.out count
-    pub rest : new ≡ record old { component = record old.component { history = new.component.history }; out = new.out; copies = new.copies }
+    pub rest : IsOnlyAhead old new
 
   -- the least signed message of the tray comes to the component; an antimessage of each message that is taken back goes out
-  pub record IsDelivered (m : Machine (List Datum) Named) (old new : Holding P) (s : Signed) : Type 0 where
+  pub record IsDelivered (m : Machine (List Datum) Named) (old new : LeaseView P) (s : Signed) : Type 0 where
     pub tray : old.tray ≡ s ∷ new.tray
     pub history : new.component.history ≡ comes m s.sign (item_of s) old.component.history
     pub sent : IsPosted Minus (unsent m old.component.number (back_by m s.sign (item_of s) old.component.history)) old.out new.out
     pub rest : new ≡ record old { component = record old.component { history = new.component.history }; tray = new.tray; out = new.out }
 
   -- these come, one after the other
-  abbrev pub AllDelivered : Machine (List Datum) Named → Holding P → List Signed → Holding P → Type 0
+  abbrev pub AllDelivered : Machine (List Datum) Named → LeaseView P → List Signed → LeaseView P → Type 0
   AllDelivered m old [] new = new ≡ old
-  AllDelivered m old (s ∷ ss) new = (mid : Holding P) × IsDelivered m old mid s × AllDelivered m mid ss new
+  AllDelivered m old (s ∷ ss) new = (mid : LeaseView P) × IsDelivered m old mid s × AllDelivered m mid ss new
 
 -- so many left a list of which these are left, up to the greatest u64
 pub record IsCount {A : Type 0} (old new : List A) (answer : ℕ) : Type 0 where

@@ -88,7 +88,7 @@ pub record IsQueue (sign : Sign) (i : ℕ) (queue : Around Signed) : Type 0 wher
   pub timed : Each IsTimed queue.after
 
 -- what the fields of component i of a setup keep
-pub record IsKept (s : System) (i first : ℕ) (states : States) (done : Around Done) (pending owed : Around Signed) (coming : Option Key) : Type 0 where
+pub record IsValidComponent (s : System) (i first : ℕ) (states : States) (done : Around Done) (pending owed : Around Signed) (coming : Option Key) : Type 0 where
   pub there : i < length s.composition
   pub replayed : IsReplayed s i states done.before
   pub ready : AllReady s i first done.before
