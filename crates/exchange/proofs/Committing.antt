@@ -4,11 +4,8 @@ use Rattle.std.specs.Prelude.{if◌then◌else◌, nat_lt, slice_get, slice_inde
 use Rattle.std.specs.List.{Contains}
 use Rattle.std.proofs.lemmas.Bool.{ltb-true, ltb-false, eq-eqb}
 use Rattle.std.proofs.lemmas.List.{length-map}
-use Rattle.std.proofs.lemmas.Bool.Decides.{nat_tests}
 use Rattle.std.proofs.lemmas.Option.{slice_get_within}
-use Rattle.std.specs.declared.cmp.Ordering.{Ordering}
-use Rattle.std.specs.declared.cmp.Ordering.TheVariants.{Less, Equal, Greater}
-use Rattle.std.specs.Ordering.{is_gt, nat_cmp, ordering_then}
+use Rattle.std.specs.Ordering.{is_gt}
 use Rattle.terms.specs.Datum.{Datum}
 use Rattle.terms.specs.Named.{Named}
 use Rattle.event_keys.specs.declared.key.Bound.{Bound}
@@ -16,8 +13,6 @@ use Rattle.event_keys.specs.declared.key.Bound.TheVariants.{End}
 use Rattle.event_keys.specs.declared.message.Sign.{Sign}
 use Rattle.event_keys.specs.declared.message.Sign.TheVariants.{Plus, Minus}
 use Rattle.event_keys.specs.declared.message.Signed.{Signed}
-use Rattle.event_keys.specs.Orders.{key_order, signed_order, message_order}
-use Rattle.event_keys.specs.Ranked.{key_rank}
 use Rattle.event_keys.specs.Ranks.{rank, rank_of_bound}
 use Rattle.antimessage.specs.Bags.{least_of}
 use Rattle.antimessage.specs.Counts.{Each, signed_cmp}
@@ -31,27 +26,13 @@ use Rattle.rollback.specs.Flight.{in_flight, item_of, goes}
 use Rattle.gvt.specs.Least.{IsLeast}
 use Rattle.task_seed.specs.Turning.{System}
 use Rattle.task_seed.specs.Machines.{machine, turn_rank, end_rank}
+use Rattle.rollback.proofs.Lowest.{key_after}
 use Rattle.exchange.specs.declared.stub.Stub.{Stub}
 use Rattle.exchange.specs.ExchangeView.{ExchangeView, IsValidExchange, IsStub, IsPassing, stub_of, stub_or_start, exchange_of, earlier, clear_until, passing}
 
 pub end_is : end_rank ≡ 2 ^ 144
 unfolding end_rank
 end_is = refl
-
-not_greater_first : (a b : Ordering) → is_gt (ordering_then a b) ≡ false → is_gt a ≡ false
-not_greater_first Less b h = refl
-not_greater_first Equal b h = refl
-not_greater_first Greater b h = h
-
-not_greater : (a b : ℕ) → is_gt (nat_cmp a b) ≡ false → a ≤ b
-not_greater a b h = grind (arith, nat_tests)
-
--- of messages in order the first has the least key
-key_after : (x y : Signed) → Fits x → Fits y → is_gt (signed_cmp x y) ≡ false → rank x.message.key ≤ rank y.message.key
-key_after x y f g h =
-    let order : signed_cmp x y ≡ signed_order x y = search rules in
-    let by_keys : is_gt (key_order x.message.key y.message.key) ≡ false = not_greater_first (key_order x.message.key y.message.key) _ (not_greater_first (message_order x.message y.message) _ (ap is_gt (sym order) ∙ h)) in
-    not_greater (rank x.message.key) (rank y.message.key) (ap is_gt (sym (key_rank x.message.key y.message.key f.0 f.1 g.0 g.1)) ∙ by_keys)
 
 keys_after : (x : Signed) (ys : List Signed) → Fits x → Each Fits ys → Each (λ y. is_gt (signed_cmp x y) ≡ false) ys → Each (λ y. rank x.message.key ≤ rank y.message.key) ys
 keys_after x [] f g h = tt

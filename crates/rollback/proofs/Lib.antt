@@ -1,7 +1,7 @@
 pub mod Flight
 mod Posts
 mod Replays
-mod Sending
+pub mod Sending
 mod Falling
 mod Keeping
 mod Stepping
@@ -16,6 +16,6 @@ mod Levels
 mod Flights
 mod Taken
 mod Standing
-mod Lowest
+pub mod Lowest
 mod Leaving
 mod Even

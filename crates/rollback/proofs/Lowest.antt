@@ -98,7 +98,7 @@ not_greater : (a b : ℕ) → is_gt (nat_cmp a b) ≡ false → a ≤ b
 not_greater a b h = grind (arith, nat_tests)
 
 -- of messages in order the first has the least key
-key_after : (x y : Signed) → Fits x → Fits y → is_gt (signed_cmp x y) ≡ false → rank x.message.key ≤ rank y.message.key
+pub key_after : (x y : Signed) → Fits x → Fits y → is_gt (signed_cmp x y) ≡ false → rank x.message.key ≤ rank y.message.key
 key_after x y f g h =
     let order : signed_cmp x y ≡ signed_order x y = search rules in
     let by_keys : is_gt (key_order x.message.key y.message.key) ≡ false = not_greater_first (key_order x.message.key y.message.key) _ (not_greater_first (message_order x.message y.message) _ (ap is_gt (sym order) ∙ h)) in
