@@ -1,8 +1,7 @@
 -- What one walk along both sides shows of the messages that a component sent.
-use Rattle.std.proofs.Common.{◌≡◌, ℕ, zero, suc, ◌+◌, ◌<◌, ◌≤◌, ◌==◌, ◌&&◌, ◌||◌, not, Bool, true, false, cond, List, [], ◌∷◌, map, reverse, refl, ap, sym, subst, ◌∙◌, arith}
+use Rattle.std.proofs.Common.{◌≡◌, ℕ, zero, suc, ◌+◌, ◌<◌, ◌≤◌, Bool, true, false, cond, List, [], ◌∷◌, map, reverse, refl, ap, sym, subst, ◌∙◌, arith}
 use Rattle.std.specs.Prelude.{count_by, nat_lt}
 use mathlib.Core.List.{reverse_aux}
-use Rattle.std.specs.List.{list_all}
 use Rattle.std.proofs.lemmas.Bool.{eq-eqb}
 use Rattle.terms.specs.Named.{Named}
 use Rattle.event_keys.specs.declared.key.Key.{Key}
@@ -25,7 +24,7 @@ use Rattle.message_balance.specs.declared.done.Done.{Done}
 use Rattle.message_balance.specs.declared.done.Done.TheVariants.{Turn, Input}
 use Rattle.message_balance.specs.declared.sent.Sent.{Sent}
 use Rattle.rollback.specs.ComponentInvariant.{AllReady, IsReady, entries_of, signed_of}
-use Rattle.message_balance.specs.Balance.{all_of, count_as, count_standing, is_all_sent, is_all_taken, is_input_balanced, is_sending_of, is_sent_if_from, is_sent_balanced, is_taken_if_to, is_taken_balanced, is_turn_balanced}
+use Rattle.message_balance.specs.Balance.{all_of, count_as, count_standing, is_all_sent, is_sending_of}
 use Rattle.rollback.specs.Post.{signed_to}
 use Rattle.message_balance.specs.Walks.{count_turns}
 use Rattle.message_balance.proofs.AllBalanced.{all_sent}
