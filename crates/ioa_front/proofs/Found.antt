@@ -15,20 +15,20 @@ use Rattle.ioa_front.specs.declared.fault.ReadError.{ReadError}
 use Rattle.ioa_front.specs.declared.fault.ReadError.TheVariants as fault
 use Rattle.ioa_trees.specs.Nodes.{Node, make}
 use Rattle.ioa_trees.specs.Grammar.{IsText}
-use Rattle.ioa_front.specs.Machine.{Frames, Bottom, In, State, Want, At, Done, Step, Verdict, Read, Syntax, Deep, nullable, finish, ending, move, on, go, start}
+use Rattle.ioa_phrases.specs.Machine.{Frames, Bottom, In, State, Want, At, Done, Step, Verdict, Read, Syntax, Deep, nullable, finish, ending, move, on, go, start}
 use Rattle.ioa_trees.specs.Trees.{PlainSource}
 use Rattle.ioa_trees.specs.Spelling.{source_node, spell}
 use Rattle.ioa_trees.specs.Views.{view_source}
 use Rattle.ioa_front.specs.Reading.{Gets, IsReadable, IsRefusal, IsSyntaxAt, IsTooDeep, Spells, Stuck, first_at, lifted, most_bytes, toks}
 use Rattle.ioa_front.specs.Theorem.{IsFound, left_at}
-use Rattle.ioa_front.proofs.Prefix.{go_left, left}
-use Rattle.ioa_front.proofs.Sound.{read_formed}
-use Rattle.ioa_front.proofs.Spelled.{read_spells}
-use Rattle.ioa_front.proofs.Complete.{read_again}
-use Rattle.ioa_front.proofs.Viable.{begins, deep_begins}
-use Rattle.ioa_front.proofs.Refused.{ends, short}
-use Rattle.ioa_front.proofs.Faults.{first_deep, first_syntax}
-use Rattle.ioa_front.proofs.Once.{same_source}
+use Rattle.ioa_phrases.proofs.Prefix.{go_left, left}
+use Rattle.ioa_phrases.proofs.Sound.{read_formed}
+use Rattle.ioa_phrases.proofs.Spelled.{read_spells}
+use Rattle.ioa_phrases.proofs.Complete.{read_again}
+use Rattle.ioa_phrases.proofs.Viable.{begins, deep_begins}
+use Rattle.ioa_phrases.proofs.Refused.{ends, short}
+use Rattle.ioa_phrases.proofs.Faults.{first_deep, first_syntax}
+use Rattle.ioa_phrases.proofs.Once.{same_source}
 
 pub toks_placed : (ts : List Token) → toks (placed ts) ≡ toks_of ts
 toks_placed [] = refl

@@ -1,9 +1,3 @@
-pub mod Machine
-pub mod Reads
-pub mod Items
 pub mod Reading
 pub mod Refusals
 pub mod Theorem
-pub mod Lists
-pub mod Blocks
-pub mod Depths

@@ -12,7 +12,7 @@ use Rattle.ioa_front.specs.declared.fault.ReadError.{ReadError}
 use Rattle.ioa_front.specs.declared.fault.ReadError.TheVariants as fault
 use Rattle.ioa_trees.specs.Nodes.{Node, source as any_source, yield}
 use Rattle.ioa_trees.specs.Grammar.{Is, IsText}
-use Rattle.ioa_front.specs.Depths.{depths, WithinLimit}
+use Rattle.ioa_phrases.specs.Depths.{depths, WithinLimit}
 use Rattle.ioa_trees.specs.Trees.{PlainSource}
 use Rattle.ioa_trees.specs.Spelling.{IsSource, spell}
 use Rattle.ioa_trees.specs.Views.{view_source}

@@ -4,17 +4,15 @@ ghost use Rattle.ioa_tokens.specs.declared.Word.TheVariants as w;
 ghost use Rattle.ioa_tokens.specs.Tokens.{toks_of};
 ghost use Rattle.ioa_trees.specs.Nodes.{basic, further};
 ghost use Rattle.ioa_trees.specs.Grammar.{after_signature};
-ghost use Rattle.ioa_front.specs.Machine.{want};
+ghost use Rattle.ioa_phrases.specs.Machine.{want};
 ghost use Rattle.ioa_trees.specs.Spelling.{automata_nodes, basic_node, key, named, states_node, tasks_node};
 ghost use Rattle.ioa_trees.specs.Views.{view_automaton, view_variable};
-ghost use Rattle.ioa_front.specs.Lists.{entry_item, transition_item};
-ghost use Rattle.ioa_front.specs.Blocks.{BasicThen, Goes, ReadsParts, after_states, automata_parts, component_parts, further_parts};
-ghost use Rattle.ioa_front.specs.Reads.{GivesLow, front_starts};
+ghost use Rattle.ioa_phrases.specs.Lists.{entry_item, transition_item};
+ghost use Rattle.ioa_phrases.specs.Blocks.{BasicThen, Goes, ReadsParts, after_states, automata_parts, component_parts, further_parts};
+ghost use Rattle.ioa_phrases.specs.Reads.{GivesLow, front_starts};
 
-use crate::blocks::{read_head, read_states, read_tasks};
-use crate::front::{expect, expect_name};
 use crate::lists::{read_entries, read_transitions};
-use crate::stop::Stop;
+use ioa_phrases::{Stop, expect, expect_name, read_head, read_states, read_tasks};
 use ioa_tokens::{Kind, Token, Word};
 use ioa_trees::tree::{Automaton, Entry, Transition, Variable};
 use std::alloc::Global;
@@ -33,7 +31,7 @@ fn read_signature<'a, 'b>(
 }
 
 // The transitions and the tasks.
-#[tactic(auto, using(crate::proofs::Moves::no_word))]
+#[tactic(auto, using(ioa_phrases::proofs::Moves::no_word))]
 fn read_behaviour<'a, 'b>(
     alloc: Global,
     tokens: &'b [Token<'a>],
@@ -74,7 +72,7 @@ fn read_basic<'a, 'b>(
 }
 
 /// Reads what follows the name of an automaton, up to the name of the next.
-#[tactic(auto, using(crate::proofs::Moves::no_word, crate::proofs::Moves::no_name))]
+#[tactic(auto, using(ioa_phrases::proofs::Moves::no_word, ioa_phrases::proofs::Moves::no_name))]
 fn read_then<'a, 'b>(
     alloc: Global,
     name: String,
@@ -91,7 +89,7 @@ fn read_then<'a, 'b>(
 }
 
 // The first automaton, up to the name of the next.
-#[tactic(auto, using(crate::proofs::Moves::no_word, crate::proofs::Moves::no_name))]
+#[tactic(auto, using(ioa_phrases::proofs::Moves::no_word, ioa_phrases::proofs::Moves::no_name))]
 fn read_first<'a, 'b>(
     alloc: Global,
     tokens: &'b [Token<'a>],

@@ -4,20 +4,18 @@ ghost use Rattle.ioa_tokens.specs.declared.Word.TheVariants as w;
 ghost use Rattle.ioa_tokens.specs.Tokens.{toks_of};
 ghost use Rattle.ioa_trees.specs.Nodes.{arguments, component};
 ghost use Rattle.ioa_trees.specs.Grammar.{arguments_parts, outside};
-ghost use Rattle.ioa_front.specs.Machine.{want, at};
+ghost use Rattle.ioa_phrases.specs.Machine.{want, at};
 ghost use Rattle.ioa_trees.specs.Spelling.{arguments_node, arguments_tree, component_node, key};
 ghost use Rattle.ioa_trees.specs.Views.{view, view_component};
-ghost use Rattle.ioa_front.specs.Reads.{Gives, GivesLow, Perhaps};
+ghost use Rattle.ioa_phrases.specs.Reads.{Gives, GivesLow, Perhaps};
 
-use crate::front::{expect, expect_name, past};
-use crate::stop::Stop;
-use crate::term::read_term;
+use ioa_phrases::{Stop, expect, expect_name, past, read_term};
 use ioa_tokens::{Token, Word};
 use ioa_trees::tree::{ComponentTree, Term};
 use std::alloc::Global;
 
 // What follows `(`.
-#[tactic(auto, using(crate::proofs::Items::listed_push, crate::proofs::Moves::no_argument_part, crate::proofs::Moves::no_word))]
+#[tactic(auto, using(ioa_phrases::proofs::Items::listed_push, ioa_phrases::proofs::Moves::no_argument_part, ioa_phrases::proofs::Moves::no_word))]
 fn read_argument_list<'a, 'b>(
     alloc: Global,
     tokens: &'b [Token<'a>],
@@ -39,7 +37,7 @@ fn read_argument_list<'a, 'b>(
 }
 
 // The arguments, where there are some.
-#[tactic(auto, using(crate::proofs::Moves::no_arguments, crate::proofs::Items::arguments_some))]
+#[tactic(auto, using(ioa_phrases::proofs::Moves::no_arguments, ioa_phrases::proofs::Items::arguments_some))]
 fn read_arguments<'a, 'b>(
     alloc: Global,
     tokens: &'b [Token<'a>],
@@ -55,7 +53,7 @@ fn read_arguments<'a, 'b>(
 }
 
 /// Reads a component, inside of no pair.
-#[tactic(auto, using(crate::proofs::Moves::component_stops))]
+#[tactic(auto, using(ioa_phrases::proofs::Moves::component_stops))]
 pub(crate) fn read_component<'a, 'b>(
     alloc: Global,
     tokens: &'b [Token<'a>],

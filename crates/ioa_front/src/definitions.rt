@@ -4,21 +4,18 @@ ghost use Rattle.ioa_tokens.specs.declared.Word.TheVariants as w;
 ghost use Rattle.ioa_tokens.specs.Tokens.{toks_of};
 ghost use Rattle.ioa_trees.specs.Nodes.{type, type_body, type_definition};
 ghost use Rattle.ioa_trees.specs.Grammar.{definition_parts, enumeration_parts};
-ghost use Rattle.ioa_front.specs.Machine.{want, at};
+ghost use Rattle.ioa_phrases.specs.Machine.{want, at};
 ghost use Rattle.ioa_trees.specs.Spelling.{key, type_body_node, type_definition_node};
 ghost use Rattle.ioa_trees.specs.Views.{view_type_body, view_type_definition};
-ghost use Rattle.ioa_front.specs.Reads.{Gives, GivesLow};
+ghost use Rattle.ioa_phrases.specs.Reads.{Gives, GivesLow};
 
-use crate::front::{expect, expect_name, past};
-use crate::names::read_names;
-use crate::stop::Stop;
-use crate::types::read_type;
+use ioa_phrases::{Stop, expect, expect_name, past, read_names, read_type};
 use ioa_tokens::{Token, Word};
 use ioa_trees::tree::{TypeBody, TypeDefinition};
 use std::alloc::Global;
 
 // What follows `enumeration`.
-#[tactic(auto, using(crate::proofs::Items::enumeration_made))]
+#[tactic(auto, using(ioa_phrases::proofs::Items::enumeration_made))]
 fn read_enumeration<'a, 'b>(
     alloc: Global,
     tokens: &'b [Token<'a>],
@@ -42,7 +39,7 @@ fn read_same<'a, 'b>(
     Ok((TypeBody::Same(of), rest))
 }
 
-#[tactic(auto, using(crate::proofs::Moves::body_gives))]
+#[tactic(auto, using(ioa_phrases::proofs::Moves::body_gives))]
 fn read_type_body<'a, 'b>(
     alloc: Global,
     tokens: &'b [Token<'a>],

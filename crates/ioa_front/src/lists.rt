@@ -2,12 +2,10 @@
 ghost use Rattle.std.specs.Prelude.{◌≡◌, ◌≤◌, length, map, IfOk};
 ghost use Rattle.ioa_tokens.specs.Tokens.{toks_of};
 ghost use Rattle.ioa_trees.specs.Nodes.{entry, transition};
-ghost use Rattle.ioa_front.specs.Lists.{SomeOf, entry_item, transition_item};
-ghost use Rattle.ioa_front.specs.Reads.{front_starts};
+ghost use Rattle.ioa_phrases.specs.Lists.{SomeOf, entry_item, transition_item};
+ghost use Rattle.ioa_phrases.specs.Reads.{front_starts};
 
-use crate::entries::read_entry;
-use crate::stop::Stop;
-use crate::transitions::read_transition;
+use ioa_phrases::{Stop, read_entry, read_transition};
 use ioa_tokens::{Kind, Token, Word};
 use ioa_trees::tree::{Entry, Transition};
 use std::alloc::Global;
@@ -26,7 +24,7 @@ fn starts_entry(tokens: &[Token]) -> bool
 }
 
 /// Reads an entry and those that follow it.
-#[tactic(auto, using(crate::proofs::Rows::many_enters, crate::proofs::Rows::some_push))]
+#[tactic(auto, using(ioa_phrases::proofs::Rows::many_enters, ioa_phrases::proofs::Rows::some_push))]
 pub(crate) fn read_entries<'a, 'b>(
     alloc: Global,
     tokens: &'b [Token<'a>],
@@ -46,7 +44,7 @@ pub(crate) fn read_entries<'a, 'b>(
 }
 
 /// Reads a transition and those that follow it.
-#[tactic(auto, using(crate::proofs::Rows::many_enters, crate::proofs::Rows::some_push))]
+#[tactic(auto, using(ioa_phrases::proofs::Rows::many_enters, ioa_phrases::proofs::Rows::some_push))]
 pub(crate) fn read_transitions<'a, 'b>(
     alloc: Global,
     tokens: &'b [Token<'a>],

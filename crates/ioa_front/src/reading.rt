@@ -11,7 +11,7 @@ ghost use Rattle.ioa_front.specs.Theorem.{IsFound, left_at};
 use crate::fault::ReadError;
 use crate::readable::Source;
 use crate::source::read_all;
-use crate::stop::Stop;
+use ioa_phrases::Stop;
 use ioa_tokens::laws::{one_reading_law, read_back_law};
 use ioa_tokens::{Token, tokens};
 use ioa_trees::tree::SourceTree;

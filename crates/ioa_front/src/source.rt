@@ -6,19 +6,18 @@ ghost use Rattle.ioa_trees.specs.Grammar.{whole};
 ghost use Rattle.ioa_trees.specs.Spelling.{components_nodes, key, source_nodes};
 ghost use Rattle.ioa_trees.specs.Views.{view_component, view_source};
 ghost use Rattle.ioa_front.specs.Theorem.{Exact};
-ghost use Rattle.ioa_front.specs.Blocks.{Goes, SomeTypes, automata_parts, component_parts, definition_item};
+ghost use Rattle.ioa_phrases.specs.Blocks.{Goes, SomeTypes, automata_parts, component_parts, definition_item};
 
 use crate::automata::read_automata;
 use crate::components::read_component;
 use crate::definitions::read_definition;
-use crate::front::{expect, past};
-use crate::stop::Stop;
+use ioa_phrases::{Stop, expect, past};
 use ioa_tokens::{Token, Word};
 use ioa_trees::tree::{ComponentTree, Composed, SourceTree, TypeDefinition};
 use std::alloc::Global;
 
 // What follows the first `type`.
-#[tactic(auto, using(crate::proofs::Rows::some_push, crate::proofs::Moves::no_type_definition))]
+#[tactic(auto, using(ioa_phrases::proofs::Rows::some_push, ioa_phrases::proofs::Moves::no_type_definition))]
 fn read_some_types<'a, 'b>(
     alloc: Global,
     tokens: &'b [Token<'a>],
@@ -38,7 +37,7 @@ fn read_some_types<'a, 'b>(
 }
 
 // The definitions of types, where there are some.
-#[tactic(auto, using(crate::proofs::Moves::no_type_definition))]
+#[tactic(auto, using(ioa_phrases::proofs::Moves::no_type_definition))]
 fn read_types<'a, 'b>(
     alloc: Global,
     tokens: &'b [Token<'a>],
@@ -54,7 +53,7 @@ fn read_types<'a, 'b>(
 }
 
 // The components of the composed automaton.
-#[tactic(auto, using(crate::proofs::Moves::no_word, crate::proofs::Items::listed_push))]
+#[tactic(auto, using(ioa_phrases::proofs::Moves::no_word, ioa_phrases::proofs::Items::listed_push))]
 fn read_components<'a, 'b>(
     alloc: Global,
     tokens: &'b [Token<'a>],

@@ -4,10 +4,10 @@ ghost use Rattle.std.specs.Prelude.{◌≡◌, ◌<◌, ℕ, ◌+◌, Bool, true
 ghost use Rattle.ioa_tokens.specs.Tokens.{Tok};
 ghost use Rattle.ioa_trees.specs.Nodes.{Node, source, yield};
 ghost use Rattle.ioa_trees.specs.Grammar.{Is, IsText};
-ghost use Rattle.ioa_front.specs.Machine.{start, go, Read, Syntax, Deep};
+ghost use Rattle.ioa_phrases.specs.Machine.{start, go, Read, Syntax, Deep};
 ghost use Rattle.ioa_trees.specs.Trees.{PlainSource};
 ghost use Rattle.ioa_trees.specs.Spelling.{spell, IsSource};
-ghost use Rattle.ioa_front.specs.Depths.{depths, WithinLimit};
+ghost use Rattle.ioa_phrases.specs.Depths.{depths, WithinLimit};
 
 /// A text of the grammar has one tree.
 pub fn one_tree_law()

@@ -16,9 +16,31 @@ const WHOLE: &str =
 
 const BEFORE: &str = "automaton C signature internal up transitions internal up pre ";
 
-fn printed(alloc: Global, source: &[u8]) -> Result<Vec<u8>, Fail> {
-    Ok(print(alloc, &read(alloc, source)?)?)
-}
+// Sources, and their layouts.
+const LAID_OUT: [(&str, &str); 3] = [
+    (RING, RING),
+    (WHOLE, WHOLE),
+    (
+        "automaton C signature internal up states n: Int := 09223372036854775807 % all of it\ntransitions internal up eff n:=n+1 tasks{up}automaton S components c:C",
+        "automaton C\nsignature\ninternal up\nstates n: Int := 9223372036854775807\ntransitions\ninternal up\neff n := n + 1\ntasks { up }\nautomaton S\ncomponents c: C\n",
+    ),
+];
+
+const REFUSED: [(&[u8], ReadError); 13] = [
+    (b"", ReadError::Syntax(0)),
+    (b"ty", ReadError::Syntax(0)),
+    (b"type Id = 0", ReadError::Syntax(11)),
+    (b"type Id = 0.", ReadError::BadToken(11)),
+    (b"type Id = 0..", ReadError::Syntax(13)),
+    (b"type Id = 0..1\n", ReadError::Syntax(15)),
+    (b" \n% end", ReadError::Syntax(7)),
+    (b"type A = enumeration of a, b", ReadError::Syntax(28)),
+    (b"type A = B = C", ReadError::Syntax(11)),
+    (b"type A = hidden", ReadError::Syntax(9)),
+    (b"type A % \xc8", ReadError::NotAscii(9)),
+    (b"type A ? \xc8", ReadError::NotAscii(9)),
+    (b"type A B ?", ReadError::BadToken(9)),
+];
 
 // The front of a precondition that begins with so many parentheses.
 fn opened(alloc: Global, open: usize) -> Result<String, Fail> {
@@ -40,18 +62,6 @@ fn nested(alloc: Global, open: usize, close: usize) -> Result<String, Fail> {
     Ok(text)
 }
 
-#[test]
-fn layouts_are_given_back(rt: HostRuntime) -> Result<(), Fail> {
-    let alloc = rt.alloc();
-    for text in [RING, WHOLE] {
-        assert_eq!(rt;
-            printed(alloc, text.as_bytes())?.as_slice(),
-            text.as_bytes()
-        );
-    }
-    Ok(())
-}
-
 // What is read of the text that is printed of a source.
 fn read_again(alloc: Global, source: &Source) -> Result<Source, Fail>
     ensures { IfOk result (λ again. view_source again ≡ view_source source.now) }
@@ -62,110 +72,76 @@ fn read_again(alloc: Global, source: &Source) -> Result<Source, Fail>
 }
 
 #[test]
-fn what_is_printed_is_read_again(rt: HostRuntime) -> Result<(), Fail> {
+fn layouts_are_printed_and_read_again(rt: HostRuntime) -> Result<(), Fail> {
     let alloc = rt.alloc();
-    for text in [RING, WHOLE] {
+    for (text, wanted) in LAID_OUT {
         let source = read(alloc, text.as_bytes())?;
+        assert_eq!(rt; print(alloc, &source)?.as_slice(), wanted.as_bytes());
         let again = read_again(alloc, &source)?;
-        assert_eq!(rt; print(alloc, &again)?.as_slice(), text.as_bytes());
+        assert_eq!(rt; print(alloc, &again)?.as_slice(), wanted.as_bytes());
     }
     Ok(())
 }
 
-#[test]
-fn a_source_in_its_lines(rt: HostRuntime) -> Result<(), Fail> {
-    let alloc = rt.alloc();
-    let source =
-        "automaton C signature internal up states n: Int := 09223372036854775807 % all of it\ntransitions internal up eff n:=n+1 tasks{up}automaton S components c:C";
-    let wanted =
-        "automaton C\nsignature\ninternal up\nstates n: Int := 9223372036854775807\ntransitions\ninternal up\neff n := n + 1\ntasks { up }\nautomaton S\ncomponents c: C\n";
-    assert_eq!(rt;
-        printed(alloc, source.as_bytes())?.as_slice(),
-        wanted.as_bytes()
-    );
-    Ok(())
+// Why a source is refused; nothing where it is read.
+fn refusal(alloc: Global, source: &[u8]) -> Option<ReadError> {
+    read(alloc, source).err()
 }
 
 #[test]
-fn refusals(rt: HostRuntime) -> Result<(), Fail> {
-    let alloc = rt.alloc();
+fn refusals(rt: HostRuntime) {
+    for (source, wanted) in REFUSED {
+        assert_eq!(rt; refusal(rt.alloc(), source), Some(wanted));
+    }
     let cut = WHOLE.find(" fi\n").unwrap_or(0);
-    let rows: [(&[u8], ReadError); 14] = [
-        (b"", ReadError::Syntax(0)),
-        (&RING.as_bytes()[..2], ReadError::Syntax(0)),
-        (&RING.as_bytes()[..11], ReadError::Syntax(11)),
-        (&RING.as_bytes()[..12], ReadError::BadToken(11)),
-        (&RING.as_bytes()[..13], ReadError::Syntax(13)),
-        (&RING.as_bytes()[..15], ReadError::Syntax(15)),
-        (b" \n% end", ReadError::Syntax(7)),
-        (b"type A = enumeration of a, b", ReadError::Syntax(28)),
-        (&WHOLE.as_bytes()[..cut], ReadError::Syntax(cut)),
-        (b"type A = B = C", ReadError::Syntax(11)),
-        (b"type A = hidden", ReadError::Syntax(9)),
-        (b"type A % \xc8", ReadError::NotAscii(9)),
-        (b"type A ? \xc8", ReadError::NotAscii(9)),
-        (b"type A B ?", ReadError::BadToken(9)),
-    ];
-    for (source, wanted) in rows {
-        match read(alloc, source) {
-            Err(refused) => assert_eq!(rt; refused, wanted),
-            Ok(_) => assert!(rt; false, "{wanted:?}"),
-        }
-    }
-    Ok(())
+    assert_eq!(rt;
+        refusal(rt.alloc(), &WHOLE.as_bytes()[..cut]),
+        Some(ReadError::Syntax(cut))
+    );
 }
 
 #[test]
 fn the_depth_of_a_number(rt: HostRuntime) -> Result<(), Fail> {
     let alloc = rt.alloc();
-    assert!(rt; read(alloc, nested(alloc, 64, 64)?.as_bytes()).is_ok());
-    let deep = nested(alloc, 65, 65)?;
-    let short = opened(alloc, 65)?;
-    let open = nested(alloc, 64, 63)?;
     let at = BEFORE.len() + 65;
-    let rows: [(&[u8], ReadError); 3] = [
-        (deep.as_bytes(), ReadError::TooDeep),
-        (short.as_bytes(), ReadError::Syntax(at)),
-        (open.as_bytes(), ReadError::Syntax(at + 64)),
+    let rows = [
+        (nested(alloc, 64, 64)?, None),
+        (nested(alloc, 65, 65)?, Some(ReadError::TooDeep)),
+        (opened(alloc, 65)?, Some(ReadError::Syntax(at))),
+        (nested(alloc, 64, 63)?, Some(ReadError::Syntax(at + 64))),
     ];
     for (source, wanted) in rows {
-        match read(alloc, source) {
-            Err(refused) => assert_eq!(rt; refused, wanted),
-            Ok(_) => assert!(rt; false, "{wanted:?}"),
-        }
+        assert_eq!(rt; refusal(alloc, source.as_bytes()), wanted);
     }
     Ok(())
 }
 
 #[test]
 fn the_size_of_a_source(rt: HostRuntime) -> Result<(), Fail> {
-    let alloc = rt.alloc();
-    let mut blanks = Vec::new(alloc);
+    let mut blanks = Vec::new(rt.alloc());
     blanks.resize(MOST_BYTES, b' ')?;
-    match read(alloc, blanks.as_slice()) {
-        Err(refused) => assert_eq!(rt; refused, ReadError::Syntax(65_536)),
-        Ok(_) => assert!(rt; false),
-    }
+    assert_eq!(rt;
+        refusal(rt.alloc(), blanks.as_slice()),
+        Some(ReadError::Syntax(65_536))
+    );
     blanks.push(200)?;
-    match read(alloc, blanks.as_slice()) {
-        Err(refused) => assert_eq!(rt; refused, ReadError::TooLarge),
-        Ok(_) => assert!(rt; false),
-    }
+    assert_eq!(rt;
+        refusal(rt.alloc(), blanks.as_slice()),
+        Some(ReadError::TooLarge)
+    );
     Ok(())
 }
 
 #[test]
-fn every_beginning_of_the_ring(rt: HostRuntime) -> Result<(), Fail> {
-    let alloc = rt.alloc();
+fn every_beginning_of_the_ring(rt: HostRuntime) {
     let mut whole: u32 = 0;
     for end in 0..RING.len() {
-        match read(alloc, &RING.as_bytes()[..end]) {
-            Err(ReadError::Syntax(at) | ReadError::BadToken(at)) => assert!(rt; at <= end),
-            Err(refused) => assert!(rt; false, "{refused:?}"),
-            Ok(_) => whole = whole.saturating_add(1),
+        match refusal(rt.alloc(), &RING.as_bytes()[..end]) {
+            Some(ReadError::Syntax(at) | ReadError::BadToken(at)) => assert!(rt; at <= end),
+            Some(refused) => assert!(rt; false, "{refused:?}"),
+            None => whole = whole.saturating_add(1),
         }
     }
     // Up to a letter of `Node` behind either colon, and up to either closing parenthesis behind it.
     assert_eq!(rt; whole, 10);
-    Ok(())
 }

@@ -3,7 +3,7 @@ use Rattle.std.proofs.Common.{◌≡◌, ℕ, true, List, [], ◌∷◌, ◌≤�
 use Rattle.std.specs.Fmt.{digits}
 use Rattle.ioa_tokens.specs.Layout.{layout, AreProper}
 use Rattle.ioa_trees.specs.Spelling.{source_node, spell}
-use Rattle.ioa_front.specs.Machine.{start, go, Read}
+use Rattle.ioa_phrases.specs.Machine.{start, go, Read}
 use Rattle.ioa_check.specs.Refusals.{IsRefused}
 use Rattle.ioa_check.specs.declared.fault.CheckError.{CheckError}
 use Rattle.ioa_check.specs.declared.fault.CheckError.TheVariants as fault

@@ -2,13 +2,13 @@ use Rattle.std.proofs.Common.{List, ◌∙◌, ◌∷◌, ◌++◌, [], ap, sym,
 use Rattle.ioa_tokens.specs.Tokens.{toks_of}
 use Rattle.ioa_trees.specs.Nodes.{Node, source, further}
 use Rattle.ioa_trees.specs.Grammar.{outside}
-use Rattle.ioa_front.specs.Machine.{Bottom, In, At, go}
+use Rattle.ioa_phrases.specs.Machine.{Bottom, In, At, go}
 use Rattle.ioa_trees.specs.Spelling.{automata_nodes}
 use Rattle.ioa_trees.specs.Views.{view_automaton}
-use Rattle.ioa_front.specs.Blocks.{automata_parts, component_parts, further_parts}
-use Rattle.ioa_front.proofs.Joins.{automata_push, further_node}
-use Rattle.ioa_front.proofs.Moves.{no_many, stops_along}
-use Rattle.ioa_front.proofs.Rows.{goes_stops, many_enters}
+use Rattle.ioa_phrases.specs.Blocks.{automata_parts, component_parts, further_parts}
+use Rattle.ioa_phrases.proofs.Joins.{automata_push, further_node}
+use Rattle.ioa_phrases.proofs.Moves.{no_many, stops_along}
+use Rattle.ioa_phrases.proofs.Rows.{goes_stops, many_enters}
 use Rattle.ioa_front.proofs.automata.read_automata.Goals as goal
 
 pub loop-alloc-preserved : goal.loop-alloc-preserved

@@ -1,10 +1,10 @@
 use Rattle.std.proofs.Common.{◌≡◌, ◌≤◌, ◌<◌, length, List, ◌++◌, map, true, string_bytes}
 use Rattle.ioa_tokens.specs.Tokens.{toks_of}
 use Rattle.ioa_trees.specs.Nodes.{Node, source}
-use Rattle.ioa_front.specs.Machine.{Bottom, At, go}
+use Rattle.ioa_phrases.specs.Machine.{Bottom, At, go}
 use Rattle.ioa_trees.specs.Spelling.{automata_nodes}
 use Rattle.ioa_trees.specs.Views.{view_automaton}
-use Rattle.ioa_front.specs.Blocks.{automata_parts, further_parts}
+use Rattle.ioa_phrases.specs.Blocks.{automata_parts, further_parts}
 use Rattle.ioa_front.proofs.automata.read_automata.Given as goal
 
 abbrev pub invariant-loop-alloc : goal.invariant-loop-alloc

@@ -2,12 +2,12 @@ use Rattle.std.proofs.Common.{◌∙◌, List, ◌++◌, ◌∷◌, ap, sym, map
 use Rattle.ioa_tokens.specs.declared.Word.TheVariants as w
 use Rattle.ioa_tokens.specs.Tokens.{toks_of}
 use Rattle.ioa_trees.specs.Nodes.{Node, basic}
-use Rattle.ioa_front.specs.Machine.{Verdict, go, have}
+use Rattle.ioa_phrases.specs.Machine.{Verdict, go, have}
 use Rattle.ioa_trees.specs.Spelling.{branch, entry_node, formals_nodes, key, states_node, tasks_node}
 use Rattle.ioa_trees.specs.Views.{view_declared, view_entry, view_variable}
-use Rattle.ioa_front.specs.Lists.{entry_item, transition_item}
-use Rattle.ioa_front.specs.Blocks.{head_nodes}
-use Rattle.ioa_front.proofs.Joins.{body_made, entry_items, transition_items}
+use Rattle.ioa_phrases.specs.Lists.{entry_item, transition_item}
+use Rattle.ioa_phrases.specs.Blocks.{head_nodes}
+use Rattle.ioa_phrases.proofs.Joins.{body_made, entry_items, transition_items}
 use Rattle.ioa_front.proofs.automata.read_basic.Goals as goal
 
 pub returns-clause-gives : goal.returns-clause-gives

@@ -3,11 +3,11 @@ use Rattle.ioa_tokens.specs.declared.Word.TheVariants as w
 use Rattle.ioa_tokens.specs.Tokens.{toks_of}
 use Rattle.ioa_trees.specs.Nodes.{basic, tasks}
 use Rattle.ioa_trees.specs.Grammar.{maybe, outside}
-use Rattle.ioa_front.specs.Machine.{go, at, At}
+use Rattle.ioa_phrases.specs.Machine.{go, at, At}
 use Rattle.ioa_trees.specs.Spelling.{key, tasks_node}
-use Rattle.ioa_front.specs.Lists.{transition_item}
-use Rattle.ioa_front.specs.Blocks.{after_states}
-use Rattle.ioa_front.proofs.Moves.{low_depth}
+use Rattle.ioa_phrases.specs.Lists.{transition_item}
+use Rattle.ioa_phrases.specs.Blocks.{after_states}
+use Rattle.ioa_phrases.proofs.Moves.{low_depth}
 use Rattle.ioa_front.proofs.automata.read_behaviour.Goals as goal
 
 pub returns-clause-leads : goal.returns-clause-leads

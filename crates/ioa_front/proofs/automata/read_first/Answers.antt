@@ -3,10 +3,10 @@ use Rattle.ioa_tokens.specs.declared.Word.TheVariants as w
 use Rattle.ioa_tokens.specs.Tokens.{toks_of}
 use Rattle.ioa_trees.specs.Nodes.{source, basic}
 use Rattle.ioa_trees.specs.Grammar.{token, name, one, outside}
-use Rattle.ioa_front.specs.Machine.{Bottom, At, go, at}
+use Rattle.ioa_phrases.specs.Machine.{Bottom, At, go, at}
 use Rattle.ioa_trees.specs.Spelling.{basic_node, key, named}
 use Rattle.ioa_trees.specs.Views.{view_automaton}
-use Rattle.ioa_front.specs.Blocks.{automata_parts, further_parts, next_parts}
+use Rattle.ioa_phrases.specs.Blocks.{automata_parts, further_parts, next_parts}
 use Rattle.ioa_front.proofs.automata.read_first.Goals as goal
 
 pub returns-clause-goes : goal.returns-clause-goes

@@ -2,12 +2,12 @@ use Rattle.std.proofs.Common.{◌∙◌, ◌++◌, ◌∷◌, ap, map, true, app
 use Rattle.ioa_tokens.specs.Tokens.{toks_of}
 use Rattle.ioa_trees.specs.Nodes.{basic, states}
 use Rattle.ioa_trees.specs.Grammar.{maybe, outside}
-use Rattle.ioa_front.specs.Machine.{go, at}
+use Rattle.ioa_phrases.specs.Machine.{go, at}
 use Rattle.ioa_trees.specs.Spelling.{states_node}
 use Rattle.ioa_trees.specs.Views.{view_variable}
-use Rattle.ioa_front.specs.Lists.{entry_item}
-use Rattle.ioa_front.specs.Blocks.{after_states}
-use Rattle.ioa_front.proofs.Moves.{low_depth}
+use Rattle.ioa_phrases.specs.Lists.{entry_item}
+use Rattle.ioa_phrases.specs.Blocks.{after_states}
+use Rattle.ioa_phrases.proofs.Moves.{low_depth}
 use Rattle.ioa_front.proofs.automata.read_signature.Goals as goal
 
 pub returns-clause-leads : goal.returns-clause-leads

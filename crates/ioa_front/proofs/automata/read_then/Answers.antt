@@ -2,12 +2,12 @@ use Rattle.std.proofs.Common.{◌∙◌, ◌++◌, ◌∷◌, [], ap, true, arit
 use Rattle.ioa_tokens.specs.declared.Word.TheVariants as w
 use Rattle.ioa_tokens.specs.Tokens.{toks_of}
 use Rattle.ioa_trees.specs.Grammar.{token, name, outside}
-use Rattle.ioa_front.specs.Machine.{In, At, go, at}
+use Rattle.ioa_phrases.specs.Machine.{In, At, go, at}
 use Rattle.ioa_trees.specs.Spelling.{basic_node, key, named}
 use Rattle.ioa_trees.specs.Views.{view_automaton}
-use Rattle.ioa_front.specs.Blocks.{next_parts}
-use Rattle.ioa_front.proofs.Moves.{low_depth}
-use Rattle.ioa_front.proofs.Joins.{three_made}
+use Rattle.ioa_phrases.specs.Blocks.{next_parts}
+use Rattle.ioa_phrases.proofs.Moves.{low_depth}
+use Rattle.ioa_phrases.proofs.Joins.{three_made}
 use Rattle.ioa_front.proofs.automata.read_then.Goals as goal
 
 pub returns-clause-gives : goal.returns-clause-gives

@@ -3,11 +3,11 @@ use Rattle.ioa_tokens.specs.declared.Word.TheVariants as w
 use Rattle.ioa_tokens.specs.Tokens.{toks_of}
 use Rattle.ioa_trees.specs.Nodes.{arguments}
 use Rattle.ioa_trees.specs.Grammar.{token, word, inside, outside}
-use Rattle.ioa_front.specs.Machine.{At, go, have}
+use Rattle.ioa_phrases.specs.Machine.{At, go, have}
 use Rattle.ioa_trees.specs.Spelling.{branch, key}
-use Rattle.ioa_front.specs.Items.{listed, term_item, argument_item}
-use Rattle.ioa_front.proofs.Moves.{no_argument_part}
-use Rattle.ioa_front.proofs.Items.{arguments_listed}
+use Rattle.ioa_phrases.specs.Items.{listed, term_item, argument_item}
+use Rattle.ioa_phrases.proofs.Moves.{no_argument_part}
+use Rattle.ioa_phrases.proofs.Items.{arguments_listed}
 use Rattle.ioa_front.proofs.components.read_argument_list.Goals as goal
 
 pub returns-clause-gives : goal.returns-clause-gives

@@ -3,9 +3,9 @@ use Rattle.ioa_tokens.specs.declared.Word.TheVariants as w
 use Rattle.ioa_tokens.specs.Tokens.{toks_of}
 use Rattle.ioa_trees.specs.Nodes.{arguments, argument_part}
 use Rattle.ioa_trees.specs.Grammar.{token, word, many, inside, outside, arguments_parts}
-use Rattle.ioa_front.specs.Machine.{Frames, depth, at, At, go}
+use Rattle.ioa_phrases.specs.Machine.{Frames, depth, at, At, go}
 use Rattle.ioa_trees.specs.Spelling.{key}
-use Rattle.ioa_front.specs.Items.{listed, term_item, argument_item}
+use Rattle.ioa_phrases.specs.Items.{listed, term_item, argument_item}
 use Rattle.ioa_front.proofs.components.read_argument_list.Given as goal
 
 abbrev pub invariant-loop-after : goal.invariant-loop-after

@@ -2,10 +2,10 @@ use Rattle.std.proofs.Common.{◌∙◌, ◌++◌, [], ap, sym, map, true, appen
 use Rattle.ioa_tokens.specs.Tokens.{toks_of}
 use Rattle.ioa_trees.specs.Nodes.{component, make}
 use Rattle.ioa_trees.specs.Grammar.{outside}
-use Rattle.ioa_front.specs.Machine.{go, have}
+use Rattle.ioa_phrases.specs.Machine.{go, have}
 use Rattle.ioa_trees.specs.Spelling.{arguments_node}
 use Rattle.ioa_trees.specs.Views.{view}
-use Rattle.ioa_front.proofs.Moves.{no_arguments}
+use Rattle.ioa_phrases.proofs.Moves.{no_arguments}
 use Rattle.ioa_front.proofs.components.read_arguments.Goals as goal
 
 pub returns-in_default-clause-perhaps : goal.returns-in_default-clause-perhaps

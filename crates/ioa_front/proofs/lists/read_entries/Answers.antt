@@ -2,10 +2,10 @@ use Rattle.std.proofs.Common.{◌∙◌, ◌∷◌, ◌++◌, ap, sym, map, true
 use Rattle.ioa_tokens.specs.Tokens.{toks_of}
 use Rattle.ioa_trees.specs.Nodes.{entry}
 use Rattle.ioa_trees.specs.Grammar.{many, outside}
-use Rattle.ioa_front.specs.Machine.{In, At, go}
-use Rattle.ioa_front.specs.Lists.{entry_item}
-use Rattle.ioa_front.proofs.Moves.{low_depth, no_many}
-use Rattle.ioa_front.proofs.Rows.{many_enters, some_push}
+use Rattle.ioa_phrases.specs.Machine.{In, At, go}
+use Rattle.ioa_phrases.specs.Lists.{entry_item}
+use Rattle.ioa_phrases.proofs.Moves.{low_depth, no_many}
+use Rattle.ioa_phrases.proofs.Rows.{many_enters, some_push}
 use Rattle.ioa_front.proofs.lists.read_entries.Goals as goal
 
 pub loop-alloc-preserved : goal.loop-alloc-preserved

@@ -2,8 +2,8 @@ use Rattle.std.proofs.Common.{◌≡◌, ◌≤◌, length, List, ◌∷◌, ◌
 use Rattle.ioa_tokens.specs.Tokens.{toks_of}
 use Rattle.ioa_trees.specs.Nodes.{Sort, Node, entry}
 use Rattle.ioa_trees.specs.Grammar.{Part, one, many, outside}
-use Rattle.ioa_front.specs.Machine.{Frames, depth, at, At, go}
-use Rattle.ioa_front.specs.Lists.{entry_item}
+use Rattle.ioa_phrases.specs.Machine.{Frames, depth, at, At, go}
+use Rattle.ioa_phrases.specs.Lists.{entry_item}
 use Rattle.ioa_front.proofs.lists.read_entries.Given as goal
 
 abbrev pub invariant-loop-alloc : goal.invariant-loop-alloc

@@ -1,7 +1,7 @@
 use Rattle.std.proofs.Common.{◌∙◌, ap, subst, true}
 use Rattle.ioa_tokens.specs.Tokens.{toks_of}
-use Rattle.ioa_front.specs.Machine.{go, start}
-use Rattle.ioa_front.specs.Reads.{Stops}
+use Rattle.ioa_phrases.specs.Machine.{go, start}
+use Rattle.ioa_phrases.specs.Reads.{Stops}
 use Rattle.ioa_front.proofs.Found.{toks_placed}
 use Rattle.ioa_front.proofs.reading.read_found.Goals as goal
 

@@ -1,7 +1,7 @@
 use Rattle.std.proofs.Common.{◌∙◌, []}
 use Rattle.ioa_trees.specs.Spelling.{source_node}
 use Rattle.ioa_trees.specs.Views.{view_source}
-use Rattle.ioa_front.proofs.Rows.{left_over}
+use Rattle.ioa_phrases.proofs.Rows.{left_over}
 use Rattle.ioa_front.proofs.source.read_all.Goals as goal
 
 pub returns-else-is_empty : goal.returns-else-is_empty

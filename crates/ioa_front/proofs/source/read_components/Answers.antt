@@ -3,12 +3,12 @@ use Rattle.ioa_tokens.specs.declared.Word.TheVariants as w
 use Rattle.ioa_tokens.specs.Tokens.{toks_of}
 use Rattle.ioa_trees.specs.Nodes.{source, component_part}
 use Rattle.ioa_trees.specs.Grammar.{many, outside}
-use Rattle.ioa_front.specs.Machine.{Bottom, In, At, at, go}
+use Rattle.ioa_phrases.specs.Machine.{Bottom, In, At, at, go}
 use Rattle.ioa_trees.specs.Spelling.{key}
-use Rattle.ioa_front.specs.Items.{listed}
-use Rattle.ioa_front.specs.Blocks.{component_item, component_part_item}
-use Rattle.ioa_front.proofs.Moves.{no_component_part}
-use Rattle.ioa_front.proofs.Joins.{components_made, components_push}
+use Rattle.ioa_phrases.specs.Items.{listed}
+use Rattle.ioa_phrases.specs.Blocks.{component_item, component_part_item}
+use Rattle.ioa_phrases.proofs.Moves.{no_component_part}
+use Rattle.ioa_phrases.proofs.Joins.{components_made, components_push}
 use Rattle.ioa_front.proofs.source.read_components.Goals as goal
 
 pub returns-clause-goes : goal.returns-clause-goes

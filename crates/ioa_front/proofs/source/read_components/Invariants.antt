@@ -3,10 +3,10 @@ use Rattle.ioa_tokens.specs.declared.Word.TheVariants as w
 use Rattle.ioa_tokens.specs.Tokens.{toks_of}
 use Rattle.ioa_trees.specs.Nodes.{Node, source, component_part}
 use Rattle.ioa_trees.specs.Grammar.{many, outside}
-use Rattle.ioa_front.specs.Machine.{Bottom, At, at, go}
+use Rattle.ioa_phrases.specs.Machine.{Bottom, At, at, go}
 use Rattle.ioa_trees.specs.Spelling.{key}
-use Rattle.ioa_front.specs.Items.{listed}
-use Rattle.ioa_front.specs.Blocks.{component_item, component_part_item, component_parts}
+use Rattle.ioa_phrases.specs.Items.{listed}
+use Rattle.ioa_phrases.specs.Blocks.{component_item, component_part_item, component_parts}
 use Rattle.ioa_front.proofs.source.read_components.Given as goal
 
 abbrev pub invariant-loop-after : goal.invariant-loop-after

@@ -2,11 +2,11 @@ use Rattle.std.proofs.Common.{◌∙◌, List, ◌∷◌, ◌++◌, [], append_a
 use Rattle.ioa_tokens.specs.declared.Word.TheVariants as w
 use Rattle.ioa_tokens.specs.Tokens.{toks_of}
 use Rattle.ioa_trees.specs.Nodes.{Node, source}
-use Rattle.ioa_front.specs.Machine.{Bottom, Verdict, at, go}
+use Rattle.ioa_phrases.specs.Machine.{Bottom, Verdict, at, go}
 use Rattle.ioa_trees.specs.Spelling.{automata_nodes, components_nodes, key}
 use Rattle.ioa_trees.specs.Views.{view_automaton, view_component}
-use Rattle.ioa_front.specs.Blocks.{definition_item}
-use Rattle.ioa_front.proofs.Joins.{definition_items}
+use Rattle.ioa_phrases.specs.Blocks.{definition_item}
+use Rattle.ioa_phrases.proofs.Joins.{definition_items}
 use Rattle.ioa_front.proofs.source.read_front.Goals as goal
 
 pub returns-clause-goes : goal.returns-clause-goes

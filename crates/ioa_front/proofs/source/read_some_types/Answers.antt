@@ -2,9 +2,9 @@ use Rattle.std.proofs.Common.{◌∙◌, ◌++◌, ap, sym, map, true, refl, ari
 use Rattle.ioa_tokens.specs.Tokens.{toks_of}
 use Rattle.ioa_trees.specs.Nodes.{source}
 use Rattle.ioa_trees.specs.Grammar.{outside, whole}
-use Rattle.ioa_front.specs.Machine.{Bottom, In, At, go}
-use Rattle.ioa_front.specs.Blocks.{definition_item}
-use Rattle.ioa_front.proofs.Rows.{some_push}
+use Rattle.ioa_phrases.specs.Machine.{Bottom, In, At, go}
+use Rattle.ioa_phrases.specs.Blocks.{definition_item}
+use Rattle.ioa_phrases.proofs.Rows.{some_push}
 use Rattle.ioa_front.proofs.source.read_some_types.Goals as goal
 
 pub loop-after-preserved : goal.loop-after-preserved

@@ -2,10 +2,10 @@ use Rattle.std.proofs.Common.{◌≡◌, ◌≤◌, length, List, [], ◌∷◌,
 use Rattle.ioa_tokens.specs.Tokens.{toks_of}
 use Rattle.ioa_trees.specs.Nodes.{Node, source, type_definition}
 use Rattle.ioa_trees.specs.Grammar.{definition_parts, outside, whole}
-use Rattle.ioa_front.specs.Machine.{Bottom, In, At, at, go}
+use Rattle.ioa_phrases.specs.Machine.{Bottom, In, At, at, go}
 use Rattle.ioa_trees.specs.Spelling.{key}
 use Rattle.ioa_tokens.specs.declared.Word.TheVariants as w
-use Rattle.ioa_front.specs.Blocks.{definition_item}
+use Rattle.ioa_phrases.specs.Blocks.{definition_item}
 use Rattle.ioa_front.proofs.source.read_some_types.Given as goal
 
 abbrev pub invariant-loop-after : goal.invariant-loop-after

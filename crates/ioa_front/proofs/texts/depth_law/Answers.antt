@@ -1,5 +1,5 @@
-use Rattle.ioa_front.proofs.Viable.{deep_begins}
-use Rattle.ioa_front.proofs.Refused.{deep_ends}
+use Rattle.ioa_phrases.proofs.Viable.{deep_begins}
+use Rattle.ioa_phrases.proofs.Refused.{deep_ends}
 use Rattle.ioa_front.proofs.texts.depth_law.Goals as goal
 
 pub returns-clause-begins : goal.returns-clause-begins

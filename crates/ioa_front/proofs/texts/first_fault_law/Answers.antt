@@ -1,4 +1,4 @@
-use Rattle.ioa_front.proofs.Faults.{first_deep, refuses, first_syntax}
+use Rattle.ioa_phrases.proofs.Faults.{first_deep, refuses, first_syntax}
 use Rattle.ioa_front.proofs.texts.first_fault_law.Goals as goal
 
 pub returns-clause-deep : goal.returns-clause-deep

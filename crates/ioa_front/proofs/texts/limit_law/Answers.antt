@@ -1,5 +1,5 @@
-use Rattle.ioa_front.proofs.Places.{counts}
-use Rattle.ioa_front.proofs.Faults.{within, kept, freed}
+use Rattle.ioa_phrases.proofs.Places.{counts}
+use Rattle.ioa_phrases.proofs.Faults.{within, kept, freed}
 use Rattle.ioa_front.proofs.texts.limit_law.Goals as goal
 
 pub returns-clause-each : goal.returns-clause-each

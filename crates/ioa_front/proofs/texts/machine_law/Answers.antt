@@ -1,6 +1,6 @@
-use Rattle.ioa_front.proofs.Sound.{read_formed}
-use Rattle.ioa_front.proofs.Spelled.{read_spells}
-use Rattle.ioa_front.proofs.Complete.{read_again}
+use Rattle.ioa_phrases.proofs.Sound.{read_formed}
+use Rattle.ioa_phrases.proofs.Spelled.{read_spells}
+use Rattle.ioa_phrases.proofs.Complete.{read_again}
 use Rattle.ioa_front.proofs.texts.machine_law.Goals as goal
 
 pub returns-clause-spelled : goal.returns-clause-spelled

@@ -1,6 +1,6 @@
 use Rattle.std.proofs.Common.{true}
-use Rattle.ioa_front.proofs.Viable.{begins}
-use Rattle.ioa_front.proofs.Refused.{ends, short}
+use Rattle.ioa_phrases.proofs.Viable.{begins}
+use Rattle.ioa_phrases.proofs.Refused.{ends, short}
 use Rattle.ioa_front.proofs.texts.syntax_law.Goals as goal
 
 pub returns-clause-begins : goal.returns-clause-begins

@@ -1,6 +1,6 @@
 use Rattle.std.proofs.Common.{true, ◌<◌, length, subst}
 use Rattle.ioa_trees.specs.Views.{view_source}
-use Rattle.ioa_front.proofs.Once.{some_automaton}
+use Rattle.ioa_phrases.proofs.Once.{some_automaton}
 use Rattle.ioa_front.proofs.readable.Source.tree.Goals as goal
 
 -- by what its type says of the tree

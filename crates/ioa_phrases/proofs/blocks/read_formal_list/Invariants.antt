@@ -1,0 +1,22 @@
+use Rattle.std.proofs.Common.{◌≡◌, ◌≤◌, ◌<◌, length, [], ◌∷◌, true}
+use Rattle.ioa_tokens.specs.declared.Word.TheVariants as w
+use Rattle.ioa_tokens.specs.Tokens.{toks_of}
+use Rattle.ioa_trees.specs.Nodes.{basic, formal_part}
+use Rattle.ioa_trees.specs.Grammar.{token, word, many, inside, outside}
+use Rattle.ioa_phrases.specs.Machine.{Frames, depth, at, At, go}
+use Rattle.ioa_trees.specs.Spelling.{key}
+use Rattle.ioa_phrases.specs.Items.{listed}
+use Rattle.ioa_phrases.specs.Blocks.{formal_item, formal_part_item, formal_parts, signature_parts}
+use Rattle.ioa_phrases.proofs.blocks.read_formal_list.Given as goal
+
+abbrev pub invariant-loop-after : goal.invariant-loop-after
+invariant-loop-after l = record {
+  reads : (k : Frames) → depth k ≡ 0
+      → go true (at basic (key w.Open ∷ []) formal_parts k) (toks_of l.tokens)
+      ≡ go true (At basic (key w.Open ∷ listed formal_item formal_part_item l.all.items) (many formal_part inside ∷ (token (word w.Close) outside ∷ signature_parts)) k) (toks_of l.rest);
+  some : 0 < length l.all.items;
+  shorter : length l.rest ≤ length l.tokens;
+}
+
+abbrev pub decreases-loop-after : goal.decreases-loop-after
+decreases-loop-after l = length l.rest
