@@ -8,7 +8,6 @@ pub mod Enumerations
 pub mod Fitting
 pub mod Lists
 pub mod Naming
-pub mod Numbered
 pub mod Rows
 pub mod Sets
 pub mod Taken

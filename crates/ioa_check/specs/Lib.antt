@@ -5,7 +5,6 @@ pub mod ComponentParts
 pub mod ComponentViews
 pub mod ListParts
 pub mod Meant
-pub mod Numbers
 pub mod Refusals
 pub mod Resolutions
 pub mod Sets

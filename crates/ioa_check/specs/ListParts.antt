@@ -3,10 +3,6 @@ use Rattle.std.specs.Prelude.{ℕ, Bool, if◌then◌else◌, List, [], ◌∷�
 use Rattle.ioa_trees.specs.Trees.{Bytes}
 use Rattle.ioa_rules.specs.Sizes.{behind, listed_size}
 
--- the token between two items of a list
-abbrev pub between : Bool → ℕ
-between is_first = if is_first then 0 else 1
-
 -- the items of a list that are left, the first of all or not
 abbrev pub left_size : {A : Type 0} → Bool → (A → ℕ) → List A → ℕ
 left_size is_first f xs = if is_first then listed_size f xs else behind f xs

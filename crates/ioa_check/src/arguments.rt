@@ -1,22 +1,22 @@
 //! The checks of a component's arguments.
 ghost use Rattle.std.specs.Prelude.{◌≡◌, ◌+◌, ◌<◌, ◌^◌, ◌++◌, [], Some, None, get_or, map, option_map, OnOk, IfOk};
 ghost use Rattle.ioa_trees.specs.Views.{view};
-ghost use Rattle.ioa_rules.specs.Faults.{keep};
 ghost use Rattle.ioa_rules.specs.Sizes.{bracketed_size, listed_size, size};
 ghost use Rattle.ioa_rules.specs.SourceRules as source;
 ghost use Rattle.ioa_typing.specs.KindViews.{option_tree};
 ghost use Rattle.ioa_typing.specs.NameViews.{names_tree};
-ghost use Rattle.ioa_typing.specs.TermViews.{core_tree, least_tree};
+ghost use Rattle.ioa_typing.specs.Noted.{AreNoted};
+ghost use Rattle.ioa_typing.specs.TermViews.{core_tree};
 ghost use Rattle.ioa_entries.specs.EffectViews.{place_kind};
 ghost use Rattle.ioa_check.specs.Meant.{automaton_tree};
 ghost use Rattle.ioa_check.specs.ComponentParts as part;
 
-use crate::between::{between, bracket};
 use crate::meant::MeantAutomaton;
+use ioa_entries::between::between;
 use ioa_trees::tree::Term as TermTree;
 use ioa_typing::shape::shape_of;
 use ioa_typing::typed::{note_unfit, value_in};
-use ioa_typing::{Kind, Names, Shape, Walk, check_term};
+use ioa_typing::{FaultKind, Kind, Names, Progress, Shape, check_term};
 use std::alloc::{AllocError, Global};
 use terms::Term;
 
@@ -37,19 +37,19 @@ fn check_argument(
     names: &Names,
     kind: Option<Shape<'_>>,
     argument: &TermTree,
-    walk: &mut Walk,
+    progress: &mut Progress,
 ) -> Result<Option<Term>, AllocError>
-    requires room { walk.old.at + size (view argument.now) < 2 ^ 32 }
-    ensures at { OnOk result (walk.new.at ≡ walk.old.at + size (view argument.now)) }
-    ensures faults { OnOk result (least_tree walk.new.least ≡ keep (least_tree walk.old.least) (part.argument_faults (names_tree names.now) (place_kind kind.entry) walk.old.at (view argument.now))) }
+    requires room { progress.old.at + size (view argument.now) < 2 ^ 32 }
+    ensures at { OnOk result (progress.new.at ≡ progress.old.at + size (view argument.now)) }
+    ensures faults { OnOk result (AreNoted progress.old progress.new (part.argument_faults (names_tree names.now) (place_kind kind.entry) progress.old.at (view argument.now))) }
     ensures value { IfOk result (λ t. core_tree t ≡ source.placed_argument (names_tree names.now) (place_kind kind.entry) (view argument.now)) }
 {
-    let at = walk.at;
-    let typed = check_term(alloc, names, argument, walk)?;
+    let at = progress.at;
+    let typed = check_term(alloc, names, argument, progress)?;
     match kind {
         None => Ok(None),
         Some(kind) => {
-            note_unfit(walk, kind, at, &typed);
+            note_unfit(progress, kind, at, &typed);
             let value = value_in(alloc, kind, typed)?;
             Ok(value)
         }
@@ -76,23 +76,33 @@ fn check_arguments(
     names: &Names,
     formals: &[Option<Kind>],
     arguments: &[TermTree],
-    walk: &mut Walk,
+    progress: &mut Progress,
 ) -> Result<Vec<Option<Term>>, AllocError>
-    requires room { walk.old.at + listed_size size (map view arguments.now) < 2 ^ 32 }
-    ensures at { OnOk result (walk.new.at ≡ walk.old.at + listed_size size (map view arguments.now)) }
-    ensures faults { OnOk result (least_tree walk.new.least ≡ keep (least_tree walk.old.least) (part.fitted_faults (names_tree names.now) (map option_tree formals.now) walk.old.at (map view arguments.now))) }
+    requires room { progress.old.at + listed_size size (map view arguments.now) < 2 ^ 32 }
+    ensures at { OnOk result (progress.new.at ≡ progress.old.at + listed_size size (map view arguments.now)) }
+    ensures faults { OnOk result (AreNoted progress.old progress.new (part.fitted_faults (names_tree names.now) (map option_tree formals.now) progress.old.at (map view arguments.now))) }
     ensures values { IfOk result (λ vs. map core_tree vs.items ≡ source.placed_arguments (names_tree names.now) (map option_tree formals.now) (map view arguments.now)) }
 {
     let mut values = Vec::new(alloc);
     let mut is_first = true;
     for (number, argument) in arguments.iter().enumerate() {
-        walk.at += between(is_first);
+        progress.at += between(is_first);
         is_first = false;
         let kind = place_of(formals, number);
-        let value = check_argument(alloc, names, kind, argument, walk)?;
+        let value = check_argument(alloc, names, kind, argument, progress)?;
         keep_value(&mut values, number < formals.len(), value)?;
     }
     Ok(values)
+}
+
+// A parenthesis, where there are arguments.
+fn bracket(arguments: &[TermTree]) -> u32
+    ensures { result ≡ part.bracket (map view arguments.now) }
+{
+    match arguments.first() {
+        None => 0,
+        Some(_) => 1,
+    }
 }
 
 // Checks arguments with their parentheses.
@@ -102,16 +112,16 @@ fn check_bracketed(
     names: &Names,
     formals: &[Option<Kind>],
     arguments: &[TermTree],
-    walk: &mut Walk,
+    progress: &mut Progress,
 ) -> Result<Vec<Option<Term>>, AllocError>
-    requires room { walk.old.at + bracketed_size size (map view arguments.now) < 2 ^ 32 }
-    ensures at { OnOk result (walk.new.at ≡ walk.old.at + bracketed_size size (map view arguments.now)) }
-    ensures faults { OnOk result (least_tree walk.new.least ≡ keep (least_tree walk.old.least) (source.arguments_faults (names_tree names.now) (walk.old.at + 1) (map view arguments.now) ++ source.misfit_arguments (names_tree names.now) (map option_tree formals.now) (walk.old.at + 1) (map view arguments.now))) }
+    requires room { progress.old.at + bracketed_size size (map view arguments.now) < 2 ^ 32 }
+    ensures at { OnOk result (progress.new.at ≡ progress.old.at + bracketed_size size (map view arguments.now)) }
+    ensures faults { OnOk result (AreNoted progress.old progress.new (source.arguments_faults (names_tree names.now) (progress.old.at + 1) (map view arguments.now) ++ source.misfit_arguments (names_tree names.now) (map option_tree formals.now) (progress.old.at + 1) (map view arguments.now))) }
     ensures values { IfOk result (λ vs. map core_tree vs.items ≡ source.placed_arguments (names_tree names.now) (map option_tree formals.now) (map view arguments.now)) }
 {
-    walk.at += bracket(arguments);
-    let values = check_arguments(alloc, names, formals, arguments, walk)?;
-    walk.at += bracket(arguments);
+    progress.at += bracket(arguments);
+    let values = check_arguments(alloc, names, formals, arguments, progress)?;
+    progress.at += bracket(arguments);
     Ok(values)
 }
 
@@ -132,16 +142,20 @@ fn check_counted(
     names: &Names,
     formals: &[Option<Kind>],
     arguments: &[TermTree],
-    walk: &mut Walk,
+    progress: &mut Progress,
 ) -> Result<Vec<Option<Term>>, AllocError>
-    requires room { walk.old.at + 1 + bracketed_size size (map view arguments.now) < 2 ^ 32 }
-    ensures at { OnOk result (walk.new.at ≡ walk.old.at + 1 + bracketed_size size (map view arguments.now)) }
-    ensures faults { OnOk result (least_tree walk.new.least ≡ keep (least_tree walk.old.least) (part.placing_faults (names_tree names.now) (Some (map option_tree formals.now)) walk.old.at (map view arguments.now))) }
+    requires room { progress.old.at + 1 + bracketed_size size (map view arguments.now) < 2 ^ 32 }
+    ensures at { OnOk result (progress.new.at ≡ progress.old.at + 1 + bracketed_size size (map view arguments.now)) }
+    ensures faults { OnOk result (AreNoted progress.old progress.new (part.placing_faults (names_tree names.now) (Some (map option_tree formals.now)) progress.old.at (map view arguments.now))) }
     ensures values { IfOk result (λ vs. map core_tree vs.items ≡ source.placed_arguments (names_tree names.now) (map option_tree formals.now) (map view arguments.now)) }
 {
-    walk.note_if(formals.len() != arguments.len(), walk.at, 12);
-    walk.at += 1;
-    let values = check_bracketed(alloc, names, formals, arguments, walk)?;
+    progress.note_if(
+        formals.len() != arguments.len(),
+        progress.at,
+        FaultKind::WrongType,
+    );
+    progress.at += 1;
+    let values = check_bracketed(alloc, names, formals, arguments, progress)?;
     Ok(values)
 }
 
@@ -150,15 +164,15 @@ fn check_alone(
     alloc: Global,
     names: &Names,
     arguments: &[TermTree],
-    walk: &mut Walk,
+    progress: &mut Progress,
 ) -> Result<Vec<Option<Term>>, AllocError>
-    requires room { walk.old.at + 1 + bracketed_size size (map view arguments.now) < 2 ^ 32 }
-    ensures at { OnOk result (walk.new.at ≡ walk.old.at + 1 + bracketed_size size (map view arguments.now)) }
-    ensures faults { OnOk result (least_tree walk.new.least ≡ keep (least_tree walk.old.least) (part.placing_faults (names_tree names.now) None walk.old.at (map view arguments.now))) }
+    requires room { progress.old.at + 1 + bracketed_size size (map view arguments.now) < 2 ^ 32 }
+    ensures at { OnOk result (progress.new.at ≡ progress.old.at + 1 + bracketed_size size (map view arguments.now)) }
+    ensures faults { OnOk result (AreNoted progress.old progress.new (part.placing_faults (names_tree names.now) None progress.old.at (map view arguments.now))) }
     ensures values { IfOk result (λ vs. map core_tree vs.items ≡ []) }
 {
-    walk.at += 1;
-    let values = check_bracketed(alloc, names, &[], arguments, walk)?;
+    progress.at += 1;
+    let values = check_bracketed(alloc, names, &[], arguments, progress)?;
     Ok(values)
 }
 
@@ -170,20 +184,20 @@ pub(crate) fn check_placing(
     table: &[MeantAutomaton],
     automaton: Option<usize>,
     arguments: &[TermTree],
-    walk: &mut Walk,
+    progress: &mut Progress,
 ) -> Result<Vec<Option<Term>>, AllocError>
-    requires room { walk.old.at + 1 + bracketed_size size (map view arguments.now) < 2 ^ 32 }
-    ensures at { OnOk result (walk.new.at ≡ walk.old.at + 1 + bracketed_size size (map view arguments.now)) }
-    ensures faults { OnOk result (least_tree walk.new.least ≡ keep (least_tree walk.old.least) (part.placing_faults (names_tree names.now) (source.formals_at (map automaton_tree table.now) automaton) walk.old.at (map view arguments.now))) }
+    requires room { progress.old.at + 1 + bracketed_size size (map view arguments.now) < 2 ^ 32 }
+    ensures at { OnOk result (progress.new.at ≡ progress.old.at + 1 + bracketed_size size (map view arguments.now)) }
+    ensures faults { OnOk result (AreNoted progress.old progress.new (part.placing_faults (names_tree names.now) (source.formals_at (map automaton_tree table.now) automaton) progress.old.at (map view arguments.now))) }
     ensures values { IfOk result (λ vs. map core_tree vs.items ≡ source.arguments_of (names_tree names.now) (source.formals_at (map automaton_tree table.now) automaton) (map view arguments.now)) }
 {
     match formals_at(table, automaton) {
         None => {
-            let values = check_alone(alloc, names, arguments, walk)?;
+            let values = check_alone(alloc, names, arguments, progress)?;
             Ok(values)
         }
         Some(formals) => {
-            let values = check_counted(alloc, names, formals, arguments, walk)?;
+            let values = check_counted(alloc, names, formals, arguments, progress)?;
             Ok(values)
         }
     }

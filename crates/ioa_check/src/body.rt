@@ -3,12 +3,11 @@ ghost use Rattle.std.specs.Prelude.{◌≡◌, ◌+◌, ◌<◌, ◌^◌, length
 ghost use Rattle.ioa_trees.specs.Views.{view_automaton, view_declared};
 ghost use Rattle.ioa_rules.specs.AutomatonRules as rule;
 ghost use Rattle.ioa_rules.specs.EntryRules.{meant_by};
-ghost use Rattle.ioa_rules.specs.Faults.{keep};
 ghost use Rattle.ioa_rules.specs.Sizes.{automaton_size, bracketed_size, declared_size};
 ghost use Rattle.ioa_typing.specs.KindViews.{option_tree};
 ghost use Rattle.ioa_entries.specs.EntryViews.{meant_tree};
 ghost use Rattle.ioa_typing.specs.NameViews.{names_tree};
-ghost use Rattle.ioa_typing.specs.TermViews.{least_tree};
+ghost use Rattle.ioa_typing.specs.Noted.{AreNoted};
 ghost use Rattle.ioa_check.specs.Bodies as body;
 ghost use Rattle.ioa_check.specs.Meant.{automaton_tree};
 ghost use Rattle.ioa_check.specs.AutomatonParts as part;
@@ -22,7 +21,7 @@ use crate::used::Used;
 use crate::variables::{Cell, check_variables, declare_variables};
 use ioa_entries::{Meant, check_entries, check_transitions};
 use ioa_trees::tree::{Automaton, Declared};
-use ioa_typing::{Kind, Names, Walk};
+use ioa_typing::{FaultKind, Kind, Names, Progress};
 use std::alloc::{AllocError, Global};
 
 // A word or a parenthesis, where something stands behind it.
@@ -48,18 +47,18 @@ fn check_bracketed(
     alloc: Global,
     names: &mut Names,
     formals: &[Declared],
-    walk: &mut Walk,
+    progress: &mut Progress,
 ) -> Result<Vec<Option<Kind>>, AllocError>
-    requires room { walk.old.at + bracketed_size declared_size (map view_declared formals.now) < 2 ^ 32 }
-    ensures at { OnOk result (walk.new.at ≡ walk.old.at + bracketed_size declared_size (map view_declared formals.now)) }
+    requires room { progress.old.at + bracketed_size declared_size (map view_declared formals.now) < 2 ^ 32 }
+    ensures at { OnOk result (progress.new.at ≡ progress.old.at + bracketed_size declared_size (map view_declared formals.now)) }
     ensures names { OnOk result (names_tree names.new ≡ rule.with_formals (names_tree names.old) 0 (map view_declared formals.now)) }
-    ensures faults { OnOk result (least_tree walk.new.least ≡ keep (least_tree walk.old.least) (rule.formals_faults (names_tree names.old) 0 (walk.old.at + 1) (map view_declared formals.now))) }
+    ensures faults { OnOk result (AreNoted progress.old progress.new (rule.formals_faults (names_tree names.old) 0 (progress.old.at + 1) (map view_declared formals.now))) }
     ensures kinds { IfOk result (λ ks. map option_tree ks.items ≡ rule.formal_kinds (names_tree names.old) 0 (map view_declared formals.now)) }
 {
     let bracket = word(formals);
-    walk.at += bracket;
-    let kinds = check_formals(alloc, names, formals, walk)?;
-    walk.at += bracket;
+    progress.at += bracket;
+    let kinds = check_formals(alloc, names, formals, progress)?;
+    progress.at += bracket;
     Ok(kinds)
 }
 
@@ -68,23 +67,23 @@ fn check_front(
     alloc: Global,
     names: &mut Names,
     automaton: &Automaton,
-    walk: &mut Walk,
+    progress: &mut Progress,
 ) -> Result<Vec<Option<Kind>>, AllocError>
-    requires room { rule.states_at walk.old.at (view_automaton automaton.now) < 2 ^ 32 }
-    ensures at { OnOk result (walk.new.at ≡ rule.states_at walk.old.at (view_automaton automaton.now)) }
+    requires room { rule.states_at progress.old.at (view_automaton automaton.now) < 2 ^ 32 }
+    ensures at { OnOk result (progress.new.at ≡ rule.states_at progress.old.at (view_automaton automaton.now)) }
     ensures names { OnOk result (names_tree names.new ≡ rule.inside (names_tree names.old) (view_automaton automaton.now)) }
-    ensures faults { OnOk result (least_tree walk.new.least ≡ keep (least_tree walk.old.least) (body.front_faults (names_tree names.old) walk.old.at (view_automaton automaton.now))) }
+    ensures faults { OnOk result (AreNoted progress.old progress.new (body.front_faults (names_tree names.old) progress.old.at (view_automaton automaton.now))) }
     ensures kinds { IfOk result (λ ks. map option_tree ks.items ≡ rule.formal_kinds (names_tree names.old) 0 (view_automaton automaton.now).formals) }
 {
     let formals = automaton.formals.as_slice();
     let entries = automaton.entries.as_slice();
     let transitions = automaton.transitions.as_slice();
     let tasks = automaton.tasks.as_slice();
-    walk.note_if(is_long(formals), walk.at + 1, 17);
-    walk.at += 2;
-    let kinds = check_bracketed(alloc, names, formals, walk)?;
-    walk.at += 1;
-    check_entries(alloc, names, entries, transitions, tasks, walk)?;
+    progress.note_if(is_long(formals), progress.at + 1, FaultKind::OverLimit);
+    progress.at += 2;
+    let kinds = check_bracketed(alloc, names, formals, progress)?;
+    progress.at += 1;
+    check_entries(alloc, names, entries, transitions, tasks, progress)?;
     Ok(kinds)
 }
 
@@ -94,12 +93,12 @@ fn check_states(
     alloc: Global,
     names: &mut Names,
     automaton: &Automaton,
-    walk: &mut Walk,
+    progress: &mut Progress,
 ) -> Result<Vec<Cell>, AllocError>
-    requires room { walk.old.at + body.states_size (view_automaton automaton.now) < 2 ^ 32 }
-    ensures at { OnOk result (walk.new.at ≡ walk.old.at + body.states_size (view_automaton automaton.now)) }
+    requires room { progress.old.at + body.states_size (view_automaton automaton.now) < 2 ^ 32 }
+    ensures at { OnOk result (progress.new.at ≡ progress.old.at + body.states_size (view_automaton automaton.now)) }
     ensures names { OnOk result (names_tree names.new ≡ rule.with_variables (names_tree names.old) (names_tree names.old) 0 (view_automaton automaton.now).variables) }
-    ensures faults { OnOk result (least_tree walk.new.least ≡ keep (least_tree walk.old.least) (body.states_faults (names_tree names.old) walk.old.at (view_automaton automaton.now))) }
+    ensures faults { OnOk result (AreNoted progress.old progress.new (body.states_faults (names_tree names.old) progress.old.at (view_automaton automaton.now))) }
     ensures kinds { IfOk result (λ cs. map cell_kind cs.items ≡ map (part.kind_in (names_tree names.old)) (view_automaton automaton.now).variables) }
     ensures starts { IfOk result (λ cs. map cell_start cs.items ≡ map (part.start_in (names_tree names.old)) (view_automaton automaton.now).variables) }
 {
@@ -108,8 +107,8 @@ fn check_states(
     let mut used = Used::new(alloc);
     use_parameters(&mut used, entries)?;
     let ahead = word(variables);
-    walk.at += ahead;
-    let cells = check_variables(alloc, names, &mut used, variables, walk)?;
+    progress.at += ahead;
+    let cells = check_variables(alloc, names, &mut used, variables, progress)?;
     declare_variables(alloc, names, variables, cells.as_slice())?;
     Ok(cells)
 }
@@ -120,22 +119,22 @@ fn check_actions(
     alloc: Global,
     names: &mut Names,
     automaton: &Automaton,
-    walk: &mut Walk,
+    progress: &mut Progress,
 ) -> Result<Vec<Meant>, AllocError>
-    requires room { walk.old.at + body.actions_size (view_automaton automaton.now) < 2 ^ 32 }
-    ensures at { OnOk result (walk.new.at ≡ walk.old.at + body.actions_size (view_automaton automaton.now)) }
+    requires room { progress.old.at + body.actions_size (view_automaton automaton.now) < 2 ^ 32 }
+    ensures at { OnOk result (progress.new.at ≡ progress.old.at + body.actions_size (view_automaton automaton.now)) }
     ensures names { OnOk result (names_tree names.new ≡ names_tree names.old) }
-    ensures faults { OnOk result (least_tree walk.new.least ≡ keep (least_tree walk.old.least) (body.actions_faults (names_tree names.old) walk.old.at (view_automaton automaton.now))) }
+    ensures faults { OnOk result (AreNoted progress.old progress.new (body.actions_faults (names_tree names.old) progress.old.at (view_automaton automaton.now))) }
     ensures meant { IfOk result (λ ms. map meant_tree ms.items ≡ map (meant_by (names_tree names.old)) (view_automaton automaton.now).transitions) }
 {
     let entries = automaton.entries.as_slice();
     let transitions = automaton.transitions.as_slice();
     let tasks = automaton.tasks.as_slice();
-    walk.at += 1;
-    let meant = check_transitions(alloc, names, entries, transitions, walk)?;
+    progress.at += 1;
+    let meant = check_transitions(alloc, names, entries, transitions, progress)?;
     let ahead = word(tasks);
-    walk.at += ahead;
-    check_tasks(alloc, entries, tasks, walk)?;
+    progress.at += ahead;
+    check_tasks(alloc, entries, tasks, progress)?;
     Ok(meant)
 }
 
@@ -144,17 +143,17 @@ fn check_body(
     alloc: Global,
     names: &mut Names,
     automaton: &Automaton,
-    walk: &mut Walk,
+    progress: &mut Progress,
 ) -> Result<MeantAutomaton, AllocError>
-    requires room { walk.old.at + automaton_size (view_automaton automaton.now) < 2 ^ 32 }
-    ensures at { OnOk result (walk.new.at ≡ walk.old.at + automaton_size (view_automaton automaton.now)) }
+    requires room { progress.old.at + automaton_size (view_automaton automaton.now) < 2 ^ 32 }
+    ensures at { OnOk result (progress.new.at ≡ progress.old.at + automaton_size (view_automaton automaton.now)) }
     ensures names { OnOk result (names_tree names.new ≡ rule.around (names_tree names.old) (view_automaton automaton.now)) }
-    ensures faults { OnOk result (least_tree walk.new.least ≡ keep (least_tree walk.old.least) (rule.body_faults (names_tree names.old) walk.old.at (view_automaton automaton.now))) }
+    ensures faults { OnOk result (AreNoted progress.old progress.new (rule.body_faults (names_tree names.old) progress.old.at (view_automaton automaton.now))) }
     ensures meant { IfOk result (λ m. automaton_tree m ≡ rule.meaning_of (names_tree names.old) (view_automaton automaton.now)) }
 {
-    let formals = check_front(alloc, names, automaton, walk)?;
-    let cells = check_states(alloc, names, automaton, walk)?;
-    let entries = check_actions(alloc, names, automaton, walk)?;
+    let formals = check_front(alloc, names, automaton, progress)?;
+    let cells = check_states(alloc, names, automaton, progress)?;
+    let entries = check_actions(alloc, names, automaton, progress)?;
     let transitions = automaton.transitions.as_slice();
     let named = automaton.tasks.as_slice();
     let tasks = task_places(alloc, transitions, named)?;
@@ -173,16 +172,16 @@ pub(crate) fn check_inside(
     alloc: Global,
     names: &mut Names,
     automaton: &Automaton,
-    walk: &mut Walk,
+    progress: &mut Progress,
 ) -> Result<MeantAutomaton, AllocError>
-    requires room { walk.old.at + automaton_size (view_automaton automaton.now) < 2 ^ 32 }
-    ensures at { OnOk result (walk.new.at ≡ walk.old.at + automaton_size (view_automaton automaton.now)) }
+    requires room { progress.old.at + automaton_size (view_automaton automaton.now) < 2 ^ 32 }
+    ensures at { OnOk result (progress.new.at ≡ progress.old.at + automaton_size (view_automaton automaton.now)) }
     ensures names { OnOk result (names_tree names.new ≡ names_tree names.old) }
-    ensures faults { OnOk result (least_tree walk.new.least ≡ keep (least_tree walk.old.least) (rule.body_faults (names_tree names.old) walk.old.at (view_automaton automaton.now))) }
+    ensures faults { OnOk result (AreNoted progress.old progress.new (rule.body_faults (names_tree names.old) progress.old.at (view_automaton automaton.now))) }
     ensures meant { IfOk result (λ m. automaton_tree m ≡ rule.meaning_of (names_tree names.old) (view_automaton automaton.now)) }
 {
     let len = names.len();
-    let meant = check_body(alloc, names, automaton, walk)?;
+    let meant = check_body(alloc, names, automaton, progress)?;
     names.truncate(len);
     Ok(meant)
 }

@@ -14,7 +14,6 @@ use crate::checked::Checked;
 use crate::composed::check_composed;
 use crate::definitions::check_definitions;
 use crate::fault::{CheckError, refusal};
-use crate::laws::number_law;
 use crate::meant::MeantSource;
 use crate::resolving::resolve;
 use crate::used::Used;
@@ -22,7 +21,7 @@ use ioa_front::Source;
 use ioa_rules::laws::{least_law, size_law};
 use ioa_rules::meant::sources_meant_law;
 use ioa_trees::tree::SourceTree;
-use ioa_typing::{Fault, Names, Walk};
+use ioa_typing::{Fault, Names, Progress};
 use std::alloc::{AllocError, Global};
 
 // What a tree means, and its least fault.
@@ -33,14 +32,14 @@ fn judge(alloc: Global, tree: &SourceTree) -> Result<(MeantSource, Option<Fault>
 {
     let mut names = Names::new(alloc);
     let mut used = Used::new(alloc);
-    let mut walk = Walk { at: 0, least: None };
-    let members = check_definitions(alloc, &mut names, tree.types.as_slice(), &mut walk)?;
+    let mut progress = Progress { at: 0, least: None };
+    let members = check_definitions(alloc, &mut names, tree.types.as_slice(), &mut progress)?;
     let automata = check_automata(
         alloc,
         &mut names,
         &mut used,
         tree.automata.as_slice(),
-        &mut walk,
+        &mut progress,
     )?;
     let components = check_composed(
         alloc,
@@ -48,14 +47,14 @@ fn judge(alloc: Global, tree: &SourceTree) -> Result<(MeantSource, Option<Fault>
         &used,
         automata.as_slice(),
         &tree.composed,
-        &mut walk,
+        &mut progress,
     )?;
     let meant = MeantSource {
         members,
         automata,
         components,
     };
-    Ok((meant, walk.least))
+    Ok((meant, progress.least))
 }
 
 /// Checks a source.
@@ -69,7 +68,6 @@ pub fn check(alloc: Global, source: Source) -> Result<Checked, CheckError>
     ensures meant { IfOk result (λ c. meaning c ≡ source_meaning (view_source source)) }
     ensures refused { IfErr result (λ e. IsRefused (view_source source) e) }
 {
-    number_law();
     least_law();
     size_law();
     sources_meant_law();

@@ -4,12 +4,11 @@ ghost use Rattle.std.specs.List.{list_any};
 ghost use Rattle.std.specs.Option.{is_some};
 ghost use Rattle.ioa_trees.specs.Trees.{Bytes};
 ghost use Rattle.ioa_trees.specs.Views.{view_component};
-ghost use Rattle.ioa_rules.specs.Faults.{keep};
 ghost use Rattle.ioa_rules.specs.Scopes.{named, taken_before};
 ghost use Rattle.ioa_rules.specs.Sizes.{component_size, listed_size};
 ghost use Rattle.ioa_rules.specs.SourceRules as source;
 ghost use Rattle.ioa_typing.specs.NameViews.{names_tree};
-ghost use Rattle.ioa_typing.specs.TermViews.{least_tree};
+ghost use Rattle.ioa_typing.specs.Noted.{AreNoted};
 ghost use Rattle.ioa_check.specs.Meant.{automaton_tree};
 ghost use Rattle.ioa_check.specs.Sets.{AreNames};
 ghost use Rattle.ioa_check.specs.AutomatonViews.{used_names};
@@ -20,7 +19,7 @@ use crate::components::check_components;
 use crate::meant::MeantAutomaton;
 use crate::used::Used;
 use ioa_trees::tree::Composed;
-use ioa_typing::{Names, Walk};
+use ioa_typing::{FaultKind, Names, Progress};
 use std::alloc::{AllocError, Global};
 
 // Whether a name stands in scope, or was used before.
@@ -31,12 +30,16 @@ fn is_taken(names: &Names, used: &Used, name: &str) -> bool
 }
 
 // Checks the name behind the first word.
-fn check_name(names: &Names, used: &Used, name: &str, walk: &mut Walk)
-    requires room { walk.old.at + 1 < 2 ^ 32 }
-    ensures at { walk.new.at ≡ walk.old.at }
-    ensures faults { least_tree walk.new.least ≡ keep (least_tree walk.old.least) (taken_before (names_tree names.now) (used_names used.now) (walk.old.at + 1) name.now) }
+fn check_name(names: &Names, used: &Used, name: &str, progress: &mut Progress)
+    requires room { progress.old.at + 1 < 2 ^ 32 }
+    ensures at { progress.new.at ≡ progress.old.at }
+    ensures faults { AreNoted progress.old progress.new (taken_before (names_tree names.now) (used_names used.now) (progress.old.at + 1) name.now) }
 {
-    walk.note_if(is_taken(names, used, name), walk.at + 1, 11);
+    progress.note_if(
+        is_taken(names, used, name),
+        progress.at + 1,
+        FaultKind::DoubleName,
+    );
 }
 
 /// Checks the composed automaton from its first word on, where other automata have these names inside and these meanings: notes its
@@ -47,16 +50,16 @@ pub fn check_composed(
     used: &Used,
     table: &[MeantAutomaton],
     composed: &Composed,
-    walk: &mut Walk,
+    progress: &mut Progress,
 ) -> Result<Vec<MeantComponent>, AllocError>
-    requires room { walk.old.at + 3 + listed_size component_size (map view_component composed.now.components.items) < 2 ^ 32 }
-    ensures at { OnOk result (walk.new.at ≡ walk.old.at + 3 + listed_size component_size (map view_component composed.now.components.items)) }
-    ensures faults { OnOk result ((L : List Bytes) → AreNames (used_names used.now) L → least_tree walk.new.least ≡ keep (least_tree walk.old.least) (taken_before (names_tree names.now) L (walk.old.at + 1) (string_bytes composed.now.name) ++ source.components_faults (names_tree names.now) (map automaton_tree table.now) [] (walk.old.at + 3) (map view_component composed.now.components.items))) }
+    requires room { progress.old.at + 3 + listed_size component_size (map view_component composed.now.components.items) < 2 ^ 32 }
+    ensures at { OnOk result (progress.new.at ≡ progress.old.at + 3 + listed_size component_size (map view_component composed.now.components.items)) }
+    ensures faults { OnOk result ((L : List Bytes) → AreNames (used_names used.now) L → AreNoted progress.old progress.new (taken_before (names_tree names.now) L (progress.old.at + 1) (string_bytes composed.now.name) ++ source.components_faults (names_tree names.now) (map automaton_tree table.now) [] (progress.old.at + 3) (map view_component composed.now.components.items))) }
     ensures meant { IfOk result (λ cs. map component_tree cs.items ≡ source.components_of (names_tree names.now) (map automaton_tree table.now) (map view_component composed.now.components.items)) }
 {
-    check_name(names, used, composed.name.as_str(), walk);
-    walk.at += 3;
+    check_name(names, used, composed.name.as_str(), progress);
+    progress.at += 3;
     let components = composed.components.as_slice();
-    let meant = check_components(alloc, names, table, components, walk)?;
+    let meant = check_components(alloc, names, table, components, progress)?;
     Ok(meant)
 }

@@ -1,9 +1,9 @@
 //! Why a source is refused.
-ghost use Rattle.std.specs.Prelude.{◌≡◌, true, Some};
-ghost use Rattle.ioa_check.specs.Numbers.{is_number};
+ghost use Rattle.std.specs.Prelude.{◌≡◌, Some};
 ghost use Rattle.ioa_check.specs.Refusals.{check_number, check_place};
+ghost use Rattle.ioa_typing.specs.FaultNumbers.{fault_number};
 
-use ioa_typing::Fault;
+use ioa_typing::{Fault, FaultKind};
 use std::alloc::AllocError;
 use terms::Refusal;
 use thiserror::Error;
@@ -87,18 +87,18 @@ impl From<AllocError> for CheckError {
 
 // The refusal of a source with this least fault.
 pub(crate) fn refusal(fault: Fault) -> CheckError
-    ensures number { is_number fault.number ≡ true → check_number result ≡ fault.number }
+    ensures number { check_number result ≡ fault_number fault.kind }
     ensures place { check_place result ≡ Some fault.place }
 {
     let at = fault.place as usize;
-    match fault.number {
-        10 => CheckError::UnknownName(at),
-        11 => CheckError::DoubleName(at),
-        12 => CheckError::WrongType(at),
-        13 => CheckError::NoTransition(at),
-        14 => CheckError::DoubleTransition(at),
-        15 => CheckError::InputWithPre(at),
-        16 => CheckError::TasksNotAPartition(at),
-        _ => CheckError::OverLimit(at),
+    match fault.kind {
+        FaultKind::UnknownName => CheckError::UnknownName(at),
+        FaultKind::DoubleName => CheckError::DoubleName(at),
+        FaultKind::WrongType => CheckError::WrongType(at),
+        FaultKind::NoTransition => CheckError::NoTransition(at),
+        FaultKind::DoubleTransition => CheckError::DoubleTransition(at),
+        FaultKind::InputWithPre => CheckError::InputWithPre(at),
+        FaultKind::TasksNotAPartition => CheckError::TasksNotAPartition(at),
+        FaultKind::OverLimit => CheckError::OverLimit(at),
     }
 }

@@ -3,7 +3,6 @@
 
 mod arguments;
 pub mod automata;
-mod between;
 mod body;
 pub mod checked;
 mod checking;
@@ -13,7 +12,6 @@ pub mod composed;
 mod definitions;
 pub mod fault;
 pub mod formals;
-pub mod laws;
 pub mod locals;
 pub mod meant;
 pub mod resolved;

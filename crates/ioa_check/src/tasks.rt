@@ -5,9 +5,9 @@ ghost use Rattle.ioa_trees.specs.Trees.{Bytes};
 ghost use Rattle.ioa_trees.specs.Views.{view_entry, view_transition};
 ghost use Rattle.ioa_rules.specs.AutomatonRules as rule;
 ghost use Rattle.ioa_rules.specs.EntryRules as signature;
-ghost use Rattle.ioa_rules.specs.Faults.{keep, where_wrong};
+ghost use Rattle.ioa_rules.specs.Faults.{where_wrong};
 ghost use Rattle.ioa_rules.specs.Sizes.{row_size, task_size};
-ghost use Rattle.ioa_typing.specs.TermViews.{least_tree};
+ghost use Rattle.ioa_typing.specs.Noted.{AreNoted};
 ghost use Rattle.ioa_check.specs.AutomatonParts as part;
 ghost use Rattle.ioa_check.specs.Sets.{Adds};
 ghost use Rattle.ioa_check.specs.AutomatonViews.{place_lists, used_names};
@@ -15,7 +15,7 @@ ghost use Rattle.ioa_entries.specs.TaskNames.{task_names};
 
 use crate::used::Used;
 use ioa_trees::tree::{Entry, EntryKind, Transition};
-use ioa_typing::Walk;
+use ioa_typing::{FaultKind, Progress};
 use std::alloc::{AllocError, Global};
 
 // Whether the automaton controls actions of this kind.
@@ -60,14 +60,14 @@ fn check_name(
     entries: &[Entry],
     used: &mut Used,
     name: &String,
-    walk: &mut Walk,
+    progress: &mut Progress,
 ) -> Result<(), AllocError>
-    ensures at { OnOk result (walk.new.at ≡ walk.old.at) }
+    ensures at { OnOk result (progress.new.at ≡ progress.old.at) }
     ensures names { OnOk result ((q : Bytes) → list_any (bytes_eq q) (used_names used.new) ≡ (bytes_eq q (string_bytes name.now) || list_any (bytes_eq q) (used_names used.old))) }
-    ensures faults { OnOk result (least_tree walk.new.least ≡ keep (least_tree walk.old.least) (where_wrong (part.is_wrong_name (map view_entry entries.now) (used_names used.old) (string_bytes name.now)) walk.old.at 16)) }
+    ensures faults { OnOk result (AreNoted progress.old progress.new (where_wrong (part.is_wrong_name (map view_entry entries.now) (used_names used.old) (string_bytes name.now)) progress.old.at 16)) }
 {
     let wrong = is_wrong(entries, used, name.as_str());
-    walk.note_if(wrong, walk.at, 16);
+    progress.note_if(wrong, progress.at, FaultKind::TasksNotAPartition);
     used.insert(name)?;
     Ok(())
 }
@@ -77,17 +77,17 @@ fn check_names(
     entries: &[Entry],
     used: &mut Used,
     task: &[String],
-    walk: &mut Walk,
+    progress: &mut Progress,
 ) -> Result<(), AllocError>
-    requires room { walk.old.at + 2 * length task.now < 2 ^ 32 }
-    ensures at { OnOk result (walk.new.at ≡ walk.old.at + 2 * length task.now) }
+    requires room { progress.old.at + 2 * length task.now < 2 ^ 32 }
+    ensures at { OnOk result (progress.new.at ≡ progress.old.at + 2 * length task.now) }
     ensures names { OnOk result (Adds (used_names used.new) (map string_bytes task.now) (used_names used.old)) }
-    ensures faults { OnOk result (least_tree walk.new.least ≡ keep (least_tree walk.old.least) (rule.task_faults (map view_entry entries.now) (used_names used.old) (walk.old.at + 1) (map string_bytes task.now))) }
+    ensures faults { OnOk result (AreNoted progress.old progress.new (rule.task_faults (map view_entry entries.now) (used_names used.old) (progress.old.at + 1) (map string_bytes task.now))) }
 {
     for name in task {
-        walk.at += 1;
-        check_name(entries, used, name, walk)?;
-        walk.at += 1;
+        progress.at += 1;
+        check_name(entries, used, name, progress)?;
+        progress.at += 1;
     }
     Ok(())
 }
@@ -106,32 +106,32 @@ fn check_task(
     entries: &[Entry],
     used: &mut Used,
     task: &[String],
-    walk: &mut Walk,
+    progress: &mut Progress,
 ) -> Result<(), AllocError>
-    requires room { walk.old.at + task_size (map string_bytes task.now) < 2 ^ 32 }
-    ensures at { OnOk result (walk.new.at ≡ walk.old.at + task_size (map string_bytes task.now)) }
+    requires room { progress.old.at + task_size (map string_bytes task.now) < 2 ^ 32 }
+    ensures at { OnOk result (progress.new.at ≡ progress.old.at + task_size (map string_bytes task.now)) }
     ensures names { OnOk result (Adds (used_names used.new) (map string_bytes task.now) (used_names used.old)) }
-    ensures faults { OnOk result (least_tree walk.new.least ≡ keep (least_tree walk.old.least) (rule.task_faults (map view_entry entries.now) (used_names used.old) (walk.old.at + 1) (map string_bytes task.now))) }
+    ensures faults { OnOk result (AreNoted progress.old progress.new (rule.task_faults (map view_entry entries.now) (used_names used.old) (progress.old.at + 1) (map string_bytes task.now))) }
 {
-    check_names(entries, used, task, walk)?;
-    walk.at += closing(task);
+    check_names(entries, used, task, progress)?;
+    progress.at += closing(task);
     Ok(())
 }
 
-/// Checks tasks: notes the names that are no output or internal and those that stood before (16), and goes behind them.
+/// Checks tasks: notes the names that are no output or internal and those that stood before, and goes behind them.
 pub fn check_tasks(
     alloc: Global,
     entries: &[Entry],
     tasks: &[Vec<String>],
-    walk: &mut Walk,
+    progress: &mut Progress,
 ) -> Result<(), AllocError>
-    requires room { walk.old.at + row_size task_size (task_names tasks.now) < 2 ^ 32 }
-    ensures at { OnOk result (walk.new.at ≡ walk.old.at + row_size task_size (task_names tasks.now)) }
-    ensures faults { OnOk result (least_tree walk.new.least ≡ keep (least_tree walk.old.least) (rule.tasks_faults (map view_entry entries.now) [] walk.old.at (task_names tasks.now))) }
+    requires room { progress.old.at + row_size task_size (task_names tasks.now) < 2 ^ 32 }
+    ensures at { OnOk result (progress.new.at ≡ progress.old.at + row_size task_size (task_names tasks.now)) }
+    ensures faults { OnOk result (AreNoted progress.old progress.new (rule.tasks_faults (map view_entry entries.now) [] progress.old.at (task_names tasks.now))) }
 {
     let mut used = Used::new(alloc);
     for task in tasks {
-        check_task(entries, &mut used, task.as_slice(), walk)?;
+        check_task(entries, &mut used, task.as_slice(), progress)?;
     }
     Ok(())
 }

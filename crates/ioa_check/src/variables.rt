@@ -5,7 +5,6 @@ ghost use Rattle.std.specs.Option.{is_some};
 ghost use Rattle.ioa_trees.specs.Trees.{Bytes};
 ghost use Rattle.ioa_trees.specs.Views.{view_declared, view_init, view_type, view_variable};
 ghost use Rattle.ioa_rules.specs.AutomatonRules as rule;
-ghost use Rattle.ioa_rules.specs.Faults.{keep};
 ghost use Rattle.ioa_rules.specs.Scopes.{Scope, named};
 ghost use Rattle.ioa_rules.specs.Sizes.{declared_size, init_size, listed_size, variable_size};
 ghost use Rattle.ioa_rules.specs.TypeRules.{kind_of};
@@ -13,19 +12,20 @@ ghost use Rattle.ioa_rules.specs.ValueRules.{put_in};
 ghost use Rattle.ioa_typing.specs.KindViews.{capped, option_tree};
 ghost use Rattle.ioa_typing.specs.NameViews.{names_tree};
 ghost use Rattle.ioa_entries.specs.EffectViews.{misfit_faults, place_kind};
-ghost use Rattle.ioa_typing.specs.TermViews.{core_tree, least_tree};
+ghost use Rattle.ioa_typing.specs.Noted.{AreNoted};
+ghost use Rattle.ioa_typing.specs.TermViews.{core_tree};
 ghost use Rattle.ioa_check.specs.AutomatonParts as part;
 ghost use Rattle.ioa_check.specs.Sets.{Adds, AreNames};
 ghost use Rattle.ioa_check.specs.AutomatonViews.{cell_kind, cell_start, used_names};
 
-use crate::between::between;
 use crate::formals::copy_option;
 use crate::used::Used;
+use ioa_entries::between::between;
 use ioa_entries::check_init;
 use ioa_trees::tree::{Declared, Init, Variable};
 use ioa_typing::kind::weight;
 use ioa_typing::shape::shape_of;
-use ioa_typing::{Kind, Meaning, Names, Shape, Walk, check_type};
+use ioa_typing::{FaultKind, Kind, Meaning, Names, Progress, Shape, check_type};
 use std::alloc::{AllocError, Global};
 use terms::Term;
 
@@ -75,21 +75,21 @@ fn check_head(
     used: &mut Used,
     before: u64,
     declared: &Declared,
-    walk: &mut Walk,
+    progress: &mut Progress,
 ) -> Result<Option<Kind>, AllocError>
-    requires room { walk.old.at + declared_size (view_declared declared.now) < 2 ^ 32 }
-    ensures at { OnOk result (walk.new.at ≡ walk.old.at + declared_size (view_declared declared.now)) }
+    requires room { progress.old.at + declared_size (view_declared declared.now) < 2 ^ 32 }
+    ensures at { OnOk result (progress.new.at ≡ progress.old.at + declared_size (view_declared declared.now)) }
     ensures names { OnOk result ((q : Bytes) → list_any (bytes_eq q) (used_names used.new) ≡ (bytes_eq q (string_bytes declared.now.name) || list_any (bytes_eq q) (used_names used.old))) }
-    ensures faults { OnOk result (least_tree walk.new.least ≡ keep (least_tree walk.old.least) (part.head_faults (names_tree names.now) (used_names used.old) before walk.old.at (view_declared declared.now))) }
+    ensures faults { OnOk result (AreNoted progress.old progress.new (part.head_faults (names_tree names.now) (used_names used.old) before progress.old.at (view_declared declared.now))) }
     ensures kind { IfOk result (λ k. option_tree k ≡ kind_of (names_tree names.now) (view_type declared.now.of)) }
 {
-    let at = walk.at;
+    let at = progress.at;
     let taken = is_taken(names, used, declared.name.as_str());
-    walk.note_if(taken, at, 11);
+    progress.note_if(taken, at, FaultKind::DoubleName);
     used.insert(&declared.name)?;
-    walk.at += 2;
-    let kind = check_type(alloc, names, &declared.of, walk)?;
-    walk.note_if(goes_over(before, &kind), at + 2, 17);
+    progress.at += 2;
+    let kind = check_type(alloc, names, &declared.of, progress)?;
+    progress.note_if(goes_over(before, &kind), at + 2, FaultKind::OverLimit);
     Ok(kind)
 }
 
@@ -103,12 +103,12 @@ fn place_of(kind: &Option<Kind>) -> Option<Shape<'_>>
     }
 }
 
-fn note_misfit(walk: &mut Walk, misfit: Option<u32>)
-    ensures at { walk.new.at ≡ walk.old.at }
-    ensures least { least_tree walk.new.least ≡ keep (least_tree walk.old.least) (misfit_faults misfit) }
+fn note_misfit(progress: &mut Progress, misfit: Option<u32>)
+    ensures at { progress.new.at ≡ progress.old.at }
+    ensures least { AreNoted progress.old progress.new (misfit_faults misfit) }
 {
     if let Some(place) = misfit {
-        walk.note_if(true, place, 12);
+        progress.note_if(true, place, FaultKind::WrongType);
     }
 }
 
@@ -118,15 +118,15 @@ fn check_start(
     names: &Names,
     kind: &Option<Kind>,
     start: &Init,
-    walk: &mut Walk,
+    progress: &mut Progress,
 ) -> Result<Option<Term>, AllocError>
-    requires room { walk.old.at + init_size (view_init start.now) < 2 ^ 32 }
-    ensures at { OnOk result (walk.new.at ≡ walk.old.at + init_size (view_init start.now)) }
-    ensures faults { OnOk result (least_tree walk.new.least ≡ keep (least_tree walk.old.least) (part.start_faults (names_tree names.now) (option_tree kind.now) walk.old.at (view_init start.now))) }
+    requires room { progress.old.at + init_size (view_init start.now) < 2 ^ 32 }
+    ensures at { OnOk result (progress.new.at ≡ progress.old.at + init_size (view_init start.now)) }
+    ensures faults { OnOk result (AreNoted progress.old progress.new (part.start_faults (names_tree names.now) (option_tree kind.now) progress.old.at (view_init start.now))) }
     ensures value { IfOk result (λ t. core_tree t ≡ put_in (names_tree names.now) (option_tree kind.now) (view_init start.now)) }
 {
-    let put = check_init(alloc, names, place_of(kind), start, walk)?;
-    note_misfit(walk, put.misfit);
+    let put = check_init(alloc, names, place_of(kind), start, progress)?;
+    note_misfit(progress, put.misfit);
     Ok(put.value)
 }
 
@@ -136,18 +136,18 @@ fn check_variable(
     used: &mut Used,
     before: u64,
     variable: &Variable,
-    walk: &mut Walk,
+    progress: &mut Progress,
 ) -> Result<Cell, AllocError>
-    requires room { walk.old.at + variable_size (view_variable variable.now) < 2 ^ 32 }
-    ensures at { OnOk result (walk.new.at ≡ walk.old.at + variable_size (view_variable variable.now)) }
+    requires room { progress.old.at + variable_size (view_variable variable.now) < 2 ^ 32 }
+    ensures at { OnOk result (progress.new.at ≡ progress.old.at + variable_size (view_variable variable.now)) }
     ensures names { OnOk result ((q : Bytes) → list_any (bytes_eq q) (used_names used.new) ≡ (bytes_eq q (string_bytes variable.now.declared.name) || list_any (bytes_eq q) (used_names used.old))) }
-    ensures faults { OnOk result (least_tree walk.new.least ≡ keep (least_tree walk.old.least) (rule.variable_faults (names_tree names.now) (used_names used.old) before walk.old.at (view_variable variable.now))) }
+    ensures faults { OnOk result (AreNoted progress.old progress.new (rule.variable_faults (names_tree names.now) (used_names used.old) before progress.old.at (view_variable variable.now))) }
     ensures kind { IfOk result (λ c. cell_kind c ≡ part.kind_in (names_tree names.now) (view_variable variable.now)) }
     ensures start { IfOk result (λ c. cell_start c ≡ part.start_in (names_tree names.now) (view_variable variable.now)) }
 {
-    let kind = check_head(alloc, names, used, before, &variable.declared, walk)?;
-    walk.at += 1;
-    let start = check_start(alloc, names, &kind, &variable.start, walk)?;
+    let kind = check_head(alloc, names, used, before, &variable.declared, progress)?;
+    progress.at += 1;
+    let start = check_start(alloc, names, &kind, &variable.start, progress)?;
     Ok(Cell { kind, start })
 }
 
@@ -158,12 +158,12 @@ pub fn check_variables(
     names: &Names,
     used: &mut Used,
     variables: &[Variable],
-    walk: &mut Walk,
+    progress: &mut Progress,
 ) -> Result<Vec<Cell>, AllocError>
-    requires room { walk.old.at + listed_size variable_size (map view_variable variables.now) < 2 ^ 32 }
-    ensures at { OnOk result (walk.new.at ≡ walk.old.at + listed_size variable_size (map view_variable variables.now)) }
+    requires room { progress.old.at + listed_size variable_size (map view_variable variables.now) < 2 ^ 32 }
+    ensures at { OnOk result (progress.new.at ≡ progress.old.at + listed_size variable_size (map view_variable variables.now)) }
     ensures names { OnOk result (Adds (used_names used.new) (part.variable_names (map view_variable variables.now)) (used_names used.old)) }
-    ensures faults { OnOk result ((L : List Bytes) → AreNames (used_names used.old) L → least_tree walk.new.least ≡ keep (least_tree walk.old.least) (rule.variables_faults (names_tree names.now) L 0 walk.old.at (map view_variable variables.now))) }
+    ensures faults { OnOk result ((L : List Bytes) → AreNames (used_names used.old) L → AreNoted progress.old progress.new (rule.variables_faults (names_tree names.now) L 0 progress.old.at (map view_variable variables.now))) }
     ensures kinds { IfOk result (λ cs. map cell_kind cs.items ≡ map (part.kind_in (names_tree names.now)) (map view_variable variables.now)) }
     ensures starts { IfOk result (λ cs. map cell_start cs.items ≡ map (part.start_in (names_tree names.now)) (map view_variable variables.now)) }
 {
@@ -171,9 +171,9 @@ pub fn check_variables(
     let mut total = 0;
     let mut is_first = true;
     for variable in variables {
-        walk.at += between(is_first);
+        progress.at += between(is_first);
         is_first = false;
-        let cell = check_variable(alloc, names, used, total, variable, walk)?;
+        let cell = check_variable(alloc, names, used, total, variable, progress)?;
         total = joined_weight(total, weight_of(&cell.kind));
         cells.push(cell)?;
     }

@@ -16,7 +16,8 @@ use Rattle.ioa_rules.specs.Scopes.{Scope, Meaning, declare}
 use Rattle.ioa_rules.specs.Kinds.{is_truth}
 use Rattle.ioa_rules.specs.Sizes.{branches_size, later_size, size, statement_size, statements_size, type_size}
 use Rattle.ioa_rules.specs.TermRules.{faults, judge, wants}
-use Rattle.ioa_entries.specs.StatementParts.{between, branch_faults, branch_size, rest_size, else_word, end_word, head_faults}
+use Rattle.ioa_entries.specs.Between.{between}
+use Rattle.ioa_entries.specs.StatementParts.{branch_faults, branch_size, rest_size, else_word, end_word, head_faults}
 use Rattle.ioa_typing.proofs.Keeps.{keep_append, keep_both, keep_three}
 use Rattle.ioa_typing.proofs.Items.{take_all}
 

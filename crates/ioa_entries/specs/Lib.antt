@@ -1,3 +1,4 @@
+pub mod Between
 pub mod EffectLists
 pub mod EffectViews
 pub mod EntryParts

@@ -25,10 +25,6 @@ branch_size b = size b.0 + statements_size b.1 + 2
 abbrev pub rest_size : Bool → PlainStatements → ℕ
 rest_size is_first ss = if is_first then statements_size ss else later_size ss
 
--- the token between two statements
-abbrev pub between : Bool → ℕ
-between is_first = if is_first then 0 else 1
-
 -- the word `else`, where statements stand behind it
 abbrev pub else_word : PlainStatements → ℕ
 else_word no_statement = 0

@@ -4,7 +4,6 @@ ghost use Rattle.std.specs.Option.{is_some};
 ghost use Rattle.terms.specs.TermTree.{term_tree};
 ghost use Rattle.ioa_trees.specs.Trees.{PlainTerm, PlainInit};
 ghost use Rattle.ioa_trees.specs.Views.{option_view, view_init};
-ghost use Rattle.ioa_rules.specs.Faults.{keep};
 ghost use Rattle.ioa_rules.specs.Scopes as scopes;
 ghost use Rattle.ioa_rules.specs.Scopes.{Scope, named, is_variable};
 ghost use Rattle.ioa_rules.specs.Sizes.{at_size, init_size};
@@ -13,7 +12,8 @@ ghost use Rattle.ioa_rules.specs.EffectRules as rule;
 ghost use Rattle.ioa_rules.specs.ValueRules.{put_in};
 ghost use Rattle.ioa_typing.specs.KindViews.{shape_tree};
 ghost use Rattle.ioa_typing.specs.NameViews.{names_tree};
-ghost use Rattle.ioa_typing.specs.TermViews.{core_tree, judged_tree, typed_tree, least_tree};
+ghost use Rattle.ioa_typing.specs.Noted.{AreNoted};
+ghost use Rattle.ioa_typing.specs.TermViews.{core_tree, judged_tree, typed_tree};
 ghost use Rattle.ioa_entries.specs.EffectViews.{place_kind, done_tree, judged_at};
 
 use crate::values::{check_init, item_of};
@@ -21,7 +21,7 @@ use ioa_trees::tree::{Init, Term as TermTree};
 use ioa_typing::listing::listed_of;
 use ioa_typing::shape::{fits, shape_of};
 use ioa_typing::typed::note_unfit;
-use ioa_typing::{Meaning, Names, Shape, Typed, Walk, check_term};
+use ioa_typing::{FaultKind, Meaning, Names, Progress, Shape, Typed, check_term};
 use std::alloc::{AllocError, Global};
 use terms::{Effect, Term};
 
@@ -51,19 +51,19 @@ fn check_at<'a>(
     alloc: Global,
     names: &'a Names,
     index: &Option<TermTree>,
-    walk: &mut Walk,
+    progress: &mut Progress,
 ) -> Result<Option<Option<Typed<'a>>>, AllocError>
-    requires room { walk.old.at + at_size (option_view index.now) < 2 ^ 32 }
-    ensures at { OnOk result (walk.new.at ≡ walk.old.at + at_size (option_view index.now)) }
-    ensures faults { OnOk result (least_tree walk.new.least ≡ keep (least_tree walk.old.least) (rule.at_faults (names_tree names.now) walk.old.at (option_view index.now))) }
+    requires room { progress.old.at + at_size (option_view index.now) < 2 ^ 32 }
+    ensures at { OnOk result (progress.new.at ≡ progress.old.at + at_size (option_view index.now)) }
+    ensures faults { OnOk result (AreNoted progress.old progress.new (rule.at_faults (names_tree names.now) progress.old.at (option_view index.now))) }
     ensures judged { IfOk result (λ j. judged_at j ≡ option_map (judge (names_tree names.now)) (option_view index.now)) }
 {
     match index {
         None => Ok(None),
         Some(index) => {
-            walk.at += 1;
-            let typed = check_term(alloc, names, index, walk)?;
-            walk.at += 1;
+            progress.at += 1;
+            let typed = check_term(alloc, names, index, progress)?;
+            progress.at += 1;
             Ok(Some(typed))
         }
     }
@@ -81,10 +81,15 @@ fn left_kind<'a>(kind: Option<Shape<'a>>, index: &Option<Option<Typed<'_>>>) -> 
 
 // Notes an index on what is no array, and one that the array's index type doesn't take.
 #[tactic(auto, using(ioa_typing::proofs::Keeps::keep_append))]
-fn note_left(walk: &mut Walk, at: u32, kind: Option<Shape<'_>>, index: &Option<Option<Typed<'_>>>)
+fn note_left(
+    progress: &mut Progress,
+    at: u32,
+    kind: Option<Shape<'_>>,
+    index: &Option<Option<Typed<'_>>>,
+)
     requires room { at + 2 < 2 ^ 32 }
-    ensures at { walk.new.at ≡ walk.old.at }
-    ensures least { (s : Scope) (i : Option PlainTerm) → judged_at index.now ≡ option_map (judge s) i → least_tree walk.new.least ≡ keep (least_tree walk.old.least) (rule.left_faults s at (place_kind kind.entry) i) }
+    ensures at { progress.new.at ≡ progress.old.at }
+    ensures least { (s : Scope) (i : Option PlainTerm) → judged_at index.now ≡ option_map (judge s) i → AreNoted progress.old progress.new (rule.left_faults s at (place_kind kind.entry) i) }
 {
     let Some(index) = index else {
         return;
@@ -93,12 +98,12 @@ fn note_left(walk: &mut Walk, at: u32, kind: Option<Shape<'_>>, index: &Option<O
         return;
     };
     match kind {
-        Shape::Array(by, _) => note_unfit(walk, shape_of(by), at + 2, index),
-        Shape::Truth => walk.note_if(true, at, 12),
-        Shape::Whole => walk.note_if(true, at, 12),
-        Shape::Range(_, _) => walk.note_if(true, at, 12),
-        Shape::Enumeration(_, _) => walk.note_if(true, at, 12),
-        Shape::Seq(_, _) => walk.note_if(true, at, 12),
+        Shape::Array(by, _) => note_unfit(progress, shape_of(by), at + 2, index),
+        Shape::Truth => progress.note_if(true, at, FaultKind::WrongType),
+        Shape::Whole => progress.note_if(true, at, FaultKind::WrongType),
+        Shape::Range(_, _) => progress.note_if(true, at, FaultKind::WrongType),
+        Shape::Enumeration(_, _) => progress.note_if(true, at, FaultKind::WrongType),
+        Shape::Seq(_, _) => progress.note_if(true, at, FaultKind::WrongType),
     }
 }
 
@@ -160,22 +165,22 @@ pub(crate) fn check_assignment(
     name: &str,
     index: &Option<TermTree>,
     init: &Init,
-    walk: &mut Walk,
+    progress: &mut Progress,
 ) -> Result<Option<Effect>, AllocError>
-    requires room { walk.old.at + (at_size (option_view index.now) + init_size (view_init init.now) + 2) < 2 ^ 32 }
-    ensures at { OnOk result (walk.new.at ≡ walk.old.at + (at_size (option_view index.now) + init_size (view_init init.now) + 2)) }
-    ensures faults { OnOk result (least_tree walk.new.least ≡ keep (least_tree walk.old.least) (rule.assignment_faults (names_tree names.now) walk.old.at name.now (option_view index.now) (view_init init.now))) }
+    requires room { progress.old.at + (at_size (option_view index.now) + init_size (view_init init.now) + 2) < 2 ^ 32 }
+    ensures at { OnOk result (progress.new.at ≡ progress.old.at + (at_size (option_view index.now) + init_size (view_init init.now) + 2)) }
+    ensures faults { OnOk result (AreNoted progress.old progress.new (rule.assignment_faults (names_tree names.now) progress.old.at name.now (option_view index.now) (view_init init.now))) }
     ensures effect { IfOk result (λ e. done_tree e ≡ rule.assignment_of (names_tree names.now) (named name.now (names_tree names.now)) (option_view index.now) (view_init init.now)) }
 {
-    let at = walk.at;
+    let at = progress.at;
     let cell = cell_named(names, name);
     let kind = cell_kind(names, name);
-    walk.note_if(cell.is_none(), at, 10);
-    walk.at += 1;
-    let index = check_at(alloc, names, index, walk)?;
-    walk.at += 1;
-    let put = check_init(alloc, names, left_kind(kind, &index), init, walk)?;
-    note_left(walk, at, kind, &index);
-    walk.note_if(put.misfit.is_some(), at, 12);
+    progress.note_if(cell.is_none(), at, FaultKind::UnknownName);
+    progress.at += 1;
+    let index = check_at(alloc, names, index, progress)?;
+    progress.at += 1;
+    let put = check_init(alloc, names, left_kind(kind, &index), init, progress)?;
+    note_left(progress, at, kind, &index);
+    progress.note_if(put.misfit.is_some(), at, FaultKind::WrongType);
     Ok(assignment_of(cell, kind, index, put.value))
 }

@@ -2,19 +2,18 @@
 ghost use Rattle.std.specs.Prelude.{◌≡◌, ℕ, ◌+◌, ◌<◌, ◌^◌, ◌&&◌, not, Option, [], map, option_map, OnOk, IfOk};
 ghost use Rattle.ioa_trees.specs.Views.{view_entry, view_parameter, view_transition};
 ghost use Rattle.ioa_rules.specs.EntryRules as rule;
-ghost use Rattle.ioa_rules.specs.Faults.{keep};
 ghost use Rattle.ioa_rules.specs.Scopes.{Scope};
 ghost use Rattle.ioa_rules.specs.Sizes.{bracketed_size, entry_size, parameter_size, row_size};
 ghost use Rattle.ioa_typing.specs.KindViews.{capped};
 ghost use Rattle.ioa_typing.specs.NameViews.{names_tree};
-ghost use Rattle.ioa_typing.specs.TermViews.{least_tree};
+ghost use Rattle.ioa_typing.specs.Noted.{AreNoted};
 ghost use Rattle.ioa_entries.specs.TaskNames.{task_names};
 ghost use Rattle.ioa_entries.specs.EntryParts as part;
 
 use crate::heads::{clashes_before, has_task, has_transition, is_controlled};
 use crate::parameters::check_parameters;
 use ioa_trees::tree::{Entry, Parameter, Transition};
-use ioa_typing::{Names, Walk};
+use ioa_typing::{FaultKind, Names, Progress};
 use std::alloc::{AllocError, Global};
 
 // A parenthesis, where there are parameters.
@@ -33,18 +32,18 @@ fn check_bracketed(
     names: &mut Names,
     controlled: bool,
     parameters: &[Parameter],
-    walk: &mut Walk,
+    progress: &mut Progress,
 ) -> Result<Option<u64>, AllocError>
-    requires room { walk.old.at + bracketed_size parameter_size (map view_parameter parameters.now) < 2 ^ 32 }
-    ensures at { OnOk result (walk.new.at ≡ walk.old.at + bracketed_size parameter_size (map view_parameter parameters.now)) }
+    requires room { progress.old.at + bracketed_size parameter_size (map view_parameter parameters.now) < 2 ^ 32 }
+    ensures at { OnOk result (progress.new.at ≡ progress.old.at + bracketed_size parameter_size (map view_parameter parameters.now)) }
     ensures names { OnOk result (names_tree names.new ≡ names_tree names.old) }
-    ensures faults { OnOk result (least_tree walk.new.least ≡ keep (least_tree walk.old.least) (rule.parameters_faults (names_tree names.old) controlled 0 (walk.old.at + 1) (map view_parameter parameters.now))) }
+    ensures faults { OnOk result (AreNoted progress.old progress.new (rule.parameters_faults (names_tree names.old) controlled 0 (progress.old.at + 1) (map view_parameter parameters.now))) }
     ensures tuples { IfOk result (λ n. n ≡ option_map capped (rule.tuples (names_tree names.old) 0 (map view_parameter parameters.now))) }
 {
     let len = names.len();
-    walk.at += bracket(parameters);
-    let tuples = check_parameters(alloc, names, controlled, parameters, walk)?;
-    walk.at += bracket(parameters);
+    progress.at += bracket(parameters);
+    let tuples = check_parameters(alloc, names, controlled, parameters, progress)?;
+    progress.at += bracket(parameters);
     names.truncate(len);
     Ok(tuples)
 }
@@ -79,21 +78,31 @@ fn check_entry(
     before: &[Entry],
     transitions: &[Transition],
     tasks: &[Vec<String>],
-    walk: &mut Walk,
+    progress: &mut Progress,
 ) -> Result<(), AllocError>
-    requires room { walk.old.at + entry_size (view_entry entry.now) < 2 ^ 32 }
-    ensures at { OnOk result (walk.new.at ≡ walk.old.at + entry_size (view_entry entry.now)) }
+    requires room { progress.old.at + entry_size (view_entry entry.now) < 2 ^ 32 }
+    ensures at { OnOk result (progress.new.at ≡ progress.old.at + entry_size (view_entry entry.now)) }
     ensures names { OnOk result (names_tree names.new ≡ names_tree names.old) }
-    ensures faults { OnOk result (least_tree walk.new.least ≡ keep (least_tree walk.old.least) (rule.entry_faults (names_tree names.old) (map view_entry before.now) (map view_transition transitions.now) (task_names tasks.now) walk.old.at (view_entry entry.now))) }
+    ensures faults { OnOk result (AreNoted progress.old progress.new (rule.entry_faults (names_tree names.old) (map view_entry before.now) (map view_transition transitions.now) (task_names tasks.now) progress.old.at (view_entry entry.now))) }
 {
-    let at = walk.at;
-    walk.note_if(clashes_before(entry, before), at + 1, 11);
-    walk.at += 2;
+    let at = progress.at;
+    progress.note_if(clashes_before(entry, before), at + 1, FaultKind::DoubleName);
+    progress.at += 2;
     let controlled = is_controlled(entry.kind);
-    let tuples = check_bracketed(alloc, names, controlled, entry.parameters.as_slice(), walk)?;
-    walk.note_if(is_large(entry, tuples), at, 17);
-    walk.note_if(!has_transition(entry, transitions), at, 13);
-    walk.note_if(is_untasked(entry, tasks), at, 16);
+    let tuples = check_bracketed(
+        alloc,
+        names,
+        controlled,
+        entry.parameters.as_slice(),
+        progress,
+    )?;
+    progress.note_if(is_large(entry, tuples), at, FaultKind::OverLimit);
+    progress.note_if(
+        !has_transition(entry, transitions),
+        at,
+        FaultKind::NoTransition,
+    );
+    progress.note_if(is_untasked(entry, tasks), at, FaultKind::TasksNotAPartition);
     Ok(())
 }
 
@@ -104,12 +113,12 @@ pub fn check_entries(
     entries: &[Entry],
     transitions: &[Transition],
     tasks: &[Vec<String>],
-    walk: &mut Walk,
+    progress: &mut Progress,
 ) -> Result<(), AllocError>
-    requires room { walk.old.at + row_size entry_size (map view_entry entries.now) < 2 ^ 32 }
-    ensures at { OnOk result (walk.new.at ≡ walk.old.at + row_size entry_size (map view_entry entries.now)) }
+    requires room { progress.old.at + row_size entry_size (map view_entry entries.now) < 2 ^ 32 }
+    ensures at { OnOk result (progress.new.at ≡ progress.old.at + row_size entry_size (map view_entry entries.now)) }
     ensures names { OnOk result (names_tree names.new ≡ names_tree names.old) }
-    ensures faults { OnOk result (least_tree walk.new.least ≡ keep (least_tree walk.old.least) (rule.entries_faults (names_tree names.old) [] (map view_transition transitions.now) (task_names tasks.now) walk.old.at (map view_entry entries.now))) }
+    ensures faults { OnOk result (AreNoted progress.old progress.new (rule.entries_faults (names_tree names.old) [] (map view_transition transitions.now) (task_names tasks.now) progress.old.at (map view_entry entries.now))) }
 {
     for (place, entry) in entries.iter().enumerate() {
         check_entry(
@@ -119,7 +128,7 @@ pub fn check_entries(
             &entries[..place],
             transitions,
             tasks,
-            walk,
+            progress,
         )?;
     }
     Ok(())

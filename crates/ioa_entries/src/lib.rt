@@ -2,6 +2,7 @@
 #![tactic(auto)]
 
 mod assignment;
+pub mod between;
 mod effects;
 pub mod entries;
 pub mod heads;

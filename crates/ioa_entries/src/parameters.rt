@@ -2,19 +2,18 @@
 ghost use Rattle.std.specs.Prelude.{◌≡◌, ◌+◌, ◌<◌, ◌^◌, ◌++◌, not, map, option_map, OnOk, IfOk};
 ghost use Rattle.ioa_trees.specs.Views.{view_declared, view_parameter, view_type};
 ghost use Rattle.ioa_rules.specs.EntryRules as rule;
-ghost use Rattle.ioa_rules.specs.Faults.{keep};
 ghost use Rattle.ioa_rules.specs.Scopes.{doubled, is_formal, named};
 ghost use Rattle.ioa_rules.specs.Sizes.{declared_size, listed_size, parameter_size};
 ghost use Rattle.ioa_rules.specs.TypeRules.{kind_of, type_faults};
 ghost use Rattle.ioa_typing.specs.KindViews.{capped, option_tree};
 ghost use Rattle.ioa_typing.specs.NameViews.{names_tree};
-ghost use Rattle.ioa_typing.specs.TermViews.{least_tree};
+ghost use Rattle.ioa_typing.specs.Noted.{AreNoted};
 ghost use Rattle.ioa_entries.specs.EntryParts as part;
 
 use ioa_trees::tree::{Declared, Parameter};
 use ioa_typing::kind::{can_be_listed, count};
 use ioa_typing::types::{note_unlisted, note_unscalar};
-use ioa_typing::{Kind, Meaning, Names, Walk, check_type};
+use ioa_typing::{FaultKind, Kind, Meaning, Names, Progress, check_type};
 use std::alloc::{AllocError, Global};
 
 fn is_formal(names: &Names, name: &str) -> bool
@@ -24,14 +23,14 @@ fn is_formal(names: &Names, name: &str) -> bool
 }
 
 // Notes a kind that a parameter may not have.
-fn note_sort(walk: &mut Walk, controlled: bool, place: u32, kind: &Option<Kind>)
-    ensures at { walk.new.at ≡ walk.old.at }
-    ensures least { least_tree walk.new.least ≡ keep (least_tree walk.old.least) (rule.sort_faults controlled place (option_tree kind.now)) }
+fn note_sort(progress: &mut Progress, controlled: bool, place: u32, kind: &Option<Kind>)
+    ensures at { progress.new.at ≡ progress.old.at }
+    ensures least { AreNoted progress.old progress.new (rule.sort_faults controlled place (option_tree kind.now)) }
 {
     if controlled {
-        note_unlisted(walk, place, kind);
+        note_unlisted(progress, place, kind);
     } else {
-        note_unscalar(walk, place, kind);
+        note_unscalar(progress, place, kind);
     }
 }
 
@@ -71,19 +70,23 @@ fn check_typed(
     controlled: bool,
     place: usize,
     declared: &Declared,
-    walk: &mut Walk,
+    progress: &mut Progress,
 ) -> Result<Option<u64>, AllocError>
-    requires room { walk.old.at + declared_size (view_declared declared.now) < 2 ^ 32 }
-    ensures at { OnOk result (walk.new.at ≡ walk.old.at + declared_size (view_declared declared.now)) }
+    requires room { progress.old.at + declared_size (view_declared declared.now) < 2 ^ 32 }
+    ensures at { OnOk result (progress.new.at ≡ progress.old.at + declared_size (view_declared declared.now)) }
     ensures names { OnOk result (names_tree names.new ≡ rule.with_parameter (names_tree names.old) place (view_declared declared.now)) }
-    ensures faults { OnOk result (least_tree walk.new.least ≡ keep (least_tree walk.old.least) (doubled (names_tree names.old) walk.old.at (view_declared declared.now).name ++ (type_faults (names_tree names.old) (walk.old.at + 2) (view_declared declared.now).of ++ rule.sort_faults controlled (walk.old.at + 2) (kind_of (names_tree names.old) (view_declared declared.now).of)))) }
+    ensures faults { OnOk result (AreNoted progress.old progress.new (doubled (names_tree names.old) progress.old.at (view_declared declared.now).name ++ (type_faults (names_tree names.old) (progress.old.at + 2) (view_declared declared.now).of ++ rule.sort_faults controlled (progress.old.at + 2) (kind_of (names_tree names.old) (view_declared declared.now).of)))) }
     ensures values { IfOk result (λ n. n ≡ option_map capped (rule.members_of (kind_of (names_tree names.old) (view_declared declared.now).of))) }
 {
-    let at = walk.at;
-    walk.note_if(names.get(declared.name.as_str()).is_some(), at, 11);
-    walk.at += 2;
-    let kind = check_type(alloc, names, &declared.of, walk)?;
-    note_sort(walk, controlled, at + 2, &kind);
+    let at = progress.at;
+    progress.note_if(
+        names.get(declared.name.as_str()).is_some(),
+        at,
+        FaultKind::DoubleName,
+    );
+    progress.at += 2;
+    let kind = check_type(alloc, names, &declared.of, progress)?;
+    note_sort(progress, controlled, at + 2, &kind);
     let values = members_of(&kind);
     names.declare(&declared.name, Meaning::Parameter(place, kind))?;
     Ok(values)
@@ -96,22 +99,26 @@ fn check_parameter(
     controlled: bool,
     place: usize,
     parameter: &Parameter,
-    walk: &mut Walk,
+    progress: &mut Progress,
 ) -> Result<Option<u64>, AllocError>
-    requires room { walk.old.at + parameter_size (view_parameter parameter.now) < 2 ^ 32 }
-    ensures at { OnOk result (walk.new.at ≡ walk.old.at + parameter_size (view_parameter parameter.now)) }
+    requires room { progress.old.at + parameter_size (view_parameter parameter.now) < 2 ^ 32 }
+    ensures at { OnOk result (progress.new.at ≡ progress.old.at + parameter_size (view_parameter parameter.now)) }
     ensures names { OnOk result (names_tree names.new ≡ part.after_parameter (names_tree names.old) place (view_parameter parameter.now)) }
-    ensures faults { OnOk result (least_tree walk.new.least ≡ keep (least_tree walk.old.least) (part.parameter_faults (names_tree names.old) controlled walk.old.at (view_parameter parameter.now))) }
+    ensures faults { OnOk result (AreNoted progress.old progress.new (part.parameter_faults (names_tree names.old) controlled progress.old.at (view_parameter parameter.now))) }
     ensures values { IfOk result (λ n. n ≡ option_map capped (part.values_of (names_tree names.old) (view_parameter parameter.now))) }
 {
     match parameter {
         Parameter::Constant(name) => {
-            walk.note_if(!is_formal(names, name.as_str()), walk.at + 1, 10);
-            walk.at += 2;
+            progress.note_if(
+                !is_formal(names, name.as_str()),
+                progress.at + 1,
+                FaultKind::UnknownName,
+            );
+            progress.at += 2;
             Ok(Some(1))
         }
         Parameter::Typed(declared) => {
-            let values = check_typed(alloc, names, controlled, place, declared, walk)?;
+            let values = check_typed(alloc, names, controlled, place, declared, progress)?;
             Ok(values)
         }
     }
@@ -124,18 +131,18 @@ pub fn check_parameters(
     names: &mut Names,
     controlled: bool,
     parameters: &[Parameter],
-    walk: &mut Walk,
+    progress: &mut Progress,
 ) -> Result<Option<u64>, AllocError>
-    requires room { walk.old.at + listed_size parameter_size (map view_parameter parameters.now) < 2 ^ 32 }
-    ensures at { OnOk result (walk.new.at ≡ walk.old.at + listed_size parameter_size (map view_parameter parameters.now)) }
+    requires room { progress.old.at + listed_size parameter_size (map view_parameter parameters.now) < 2 ^ 32 }
+    ensures at { OnOk result (progress.new.at ≡ progress.old.at + listed_size parameter_size (map view_parameter parameters.now)) }
     ensures names { OnOk result (names_tree names.new ≡ rule.with_parameters (names_tree names.old) 0 (map view_parameter parameters.now)) }
-    ensures faults { OnOk result (least_tree walk.new.least ≡ keep (least_tree walk.old.least) (rule.parameters_faults (names_tree names.old) controlled 0 walk.old.at (map view_parameter parameters.now))) }
+    ensures faults { OnOk result (AreNoted progress.old progress.new (rule.parameters_faults (names_tree names.old) controlled 0 progress.old.at (map view_parameter parameters.now))) }
     ensures tuples { IfOk result (λ n. n ≡ option_map capped (rule.tuples (names_tree names.old) 0 (map view_parameter parameters.now))) }
 {
     let mut tuples = Some(1);
     for (place, parameter) in parameters.iter().enumerate() {
-        walk.at += between(place);
-        let values = check_parameter(alloc, names, controlled, place, parameter, walk)?;
+        progress.at += between(place);
+        let values = check_parameter(alloc, names, controlled, place, parameter, progress)?;
         tuples = times(tuples, values);
     }
     Ok(tuples)

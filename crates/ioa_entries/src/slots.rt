@@ -13,7 +13,7 @@ ghost use Rattle.ioa_entries.specs.EntryViews.{slot_tree};
 use crate::parameters::between;
 use ioa_trees::tree::{Declared, Parameter};
 use ioa_typing::kind::copy_kind;
-use ioa_typing::{Kind, Meaning, Names, Walk, check_type};
+use ioa_typing::{Kind, Meaning, Names, Progress, check_type};
 use std::alloc::{AllocError, Global};
 
 /// What a parameter of an action takes.
@@ -48,15 +48,15 @@ fn declare_typed(
     names: &mut Names,
     place: usize,
     declared: &Declared,
-    walk: &mut Walk,
+    progress: &mut Progress,
 ) -> Result<Option<Slot>, AllocError>
-    requires room { walk.old.at + declared_size (view_declared declared.now) < 2 ^ 32 }
-    ensures at { OnOk result (walk.new.at ≡ walk.old.at + declared_size (view_declared declared.now)) }
+    requires room { progress.old.at + declared_size (view_declared declared.now) < 2 ^ 32 }
+    ensures at { OnOk result (progress.new.at ≡ progress.old.at + declared_size (view_declared declared.now)) }
     ensures names { OnOk result (names_tree names.new ≡ rule.with_parameter (names_tree names.old) place (view_declared declared.now)) }
     ensures slot { IfOk result (λ t. slot_tree t ≡ rule.free_of (kind_of (names_tree names.old) (view_declared declared.now).of)) }
 {
-    walk.at += 2;
-    let kind = check_type(alloc, names, &declared.of, walk)?;
+    progress.at += 2;
+    let kind = check_type(alloc, names, &declared.of, progress)?;
     let slot = free_of(alloc, &kind)?;
     names.declare(&declared.name, Meaning::Parameter(place, kind))?;
     Ok(slot)
@@ -67,41 +67,41 @@ fn declare_parameter(
     names: &mut Names,
     place: usize,
     parameter: &Parameter,
-    walk: &mut Walk,
+    progress: &mut Progress,
 ) -> Result<Option<Slot>, AllocError>
-    requires room { walk.old.at + parameter_size (view_parameter parameter.now) < 2 ^ 32 }
-    ensures at { OnOk result (walk.new.at ≡ walk.old.at + parameter_size (view_parameter parameter.now)) }
+    requires room { progress.old.at + parameter_size (view_parameter parameter.now) < 2 ^ 32 }
+    ensures at { OnOk result (progress.new.at ≡ progress.old.at + parameter_size (view_parameter parameter.now)) }
     ensures names { OnOk result (names_tree names.new ≡ part.after_parameter (names_tree names.old) place (view_parameter parameter.now)) }
     ensures slot { IfOk result (λ t. slot_tree t ≡ part.slot_of (names_tree names.old) (view_parameter parameter.now)) }
 {
     match parameter {
         Parameter::Constant(name) => {
-            walk.at += 2;
+            progress.at += 2;
             Ok(formal_of(names, name.as_str()))
         }
         Parameter::Typed(declared) => {
-            let slot = declare_typed(alloc, names, place, declared, walk)?;
+            let slot = declare_typed(alloc, names, place, declared, progress)?;
             Ok(slot)
         }
     }
 }
 
-// Goes behind parameters and declares them, and says what each takes. What the walk notes is of no use.
+// Goes behind parameters and declares them, and says what each takes. What the progress notes is of no use.
 fn declare_each(
     alloc: Global,
     names: &mut Names,
     parameters: &[Parameter],
-    walk: &mut Walk,
+    progress: &mut Progress,
 ) -> Result<Vec<Option<Slot>>, AllocError>
-    requires room { walk.old.at + listed_size parameter_size (map view_parameter parameters.now) < 2 ^ 32 }
-    ensures at { OnOk result (walk.new.at ≡ walk.old.at + listed_size parameter_size (map view_parameter parameters.now)) }
+    requires room { progress.old.at + listed_size parameter_size (map view_parameter parameters.now) < 2 ^ 32 }
+    ensures at { OnOk result (progress.new.at ≡ progress.old.at + listed_size parameter_size (map view_parameter parameters.now)) }
     ensures names { OnOk result (names_tree names.new ≡ rule.with_parameters (names_tree names.old) 0 (map view_parameter parameters.now)) }
     ensures slots { IfOk result (λ ts. map slot_tree ts.items ≡ rule.slots (names_tree names.old) 0 (map view_parameter parameters.now)) }
 {
     let mut slots = Vec::new(alloc);
     for (place, parameter) in parameters.iter().enumerate() {
-        walk.at += between(place);
-        let slot = declare_parameter(alloc, names, place, parameter, walk)?;
+        progress.at += between(place);
+        let slot = declare_parameter(alloc, names, place, parameter, progress)?;
         slots.push(slot)?;
     }
     Ok(slots)
@@ -112,19 +112,19 @@ pub fn declare_parameters(
     alloc: Global,
     names: &mut Names,
     parameters: &[Parameter],
-    walk: &mut Walk,
+    progress: &mut Progress,
 ) -> Result<Vec<Option<Slot>>, AllocError>
-    requires room { walk.old.at + listed_size parameter_size (map view_parameter parameters.now) < 2 ^ 32 }
-    ensures at { OnOk result (walk.new.at ≡ walk.old.at + listed_size parameter_size (map view_parameter parameters.now)) }
-    ensures least { walk.new.least ≡ walk.old.least }
+    requires room { progress.old.at + listed_size parameter_size (map view_parameter parameters.now) < 2 ^ 32 }
+    ensures at { OnOk result (progress.new.at ≡ progress.old.at + listed_size parameter_size (map view_parameter parameters.now)) }
+    ensures least { progress.new.least ≡ progress.old.least }
     ensures names { OnOk result (names_tree names.new ≡ rule.with_parameters (names_tree names.old) 0 (map view_parameter parameters.now)) }
     ensures slots { IfOk result (λ ts. map slot_tree ts.items ≡ rule.slots (names_tree names.old) 0 (map view_parameter parameters.now)) }
 {
-    let mut apart = Walk {
-        at: walk.at,
+    let mut apart = Progress {
+        at: progress.at,
         least: None,
     };
     let slots = declare_each(alloc, names, parameters, &mut apart)?;
-    walk.at = apart.at;
+    progress.at = apart.at;
     Ok(slots)
 }

@@ -3,7 +3,7 @@ ghost use Rattle.std.specs.Prelude.{◌≡◌, ◌+◌, ◌<◌, ◌^◌, None, 
 ghost use Rattle.terms.specs.TermTree as core;
 ghost use Rattle.ioa_trees.specs.Trees as tree;
 ghost use Rattle.ioa_trees.specs.Trees.{PlainInit, PlainTerm};
-ghost use Rattle.ioa_rules.specs.Faults.{keep, at_fault};
+ghost use Rattle.ioa_rules.specs.Faults.{at_fault};
 ghost use Rattle.ioa_rules.specs.Scopes.{Scope};
 ghost use Rattle.ioa_rules.specs.EffectRules.{item_of};
 ghost use Rattle.ioa_rules.specs.Kinds as kinds;
@@ -13,14 +13,15 @@ ghost use Rattle.ioa_rules.specs.TermRules.{judge, on_core};
 ghost use Rattle.ioa_trees.specs.Views.{view_init};
 ghost use Rattle.ioa_typing.specs.KindViews.{kind_tree};
 ghost use Rattle.ioa_typing.specs.NameViews.{names_tree};
-ghost use Rattle.ioa_typing.specs.TermViews.{core_tree, judged_tree, least_tree};
+ghost use Rattle.ioa_typing.specs.Noted.{AreNoted};
+ghost use Rattle.ioa_typing.specs.TermViews.{core_tree, judged_tree};
 ghost use Rattle.ioa_entries.specs.EffectViews.{place_kind, misfit_faults};
 
 use ioa_trees::tree::Init;
 use ioa_typing::listing::small_count;
 use ioa_typing::shape::{fits, is_seq, shape_of};
 use ioa_typing::typed::value_in;
-use ioa_typing::{Kind, Names, Shape, Typed, Walk, check_term};
+use ioa_typing::{Kind, Names, Progress, Shape, Typed, check_term};
 use std::alloc::{AllocError, Global};
 use terms::Term;
 
@@ -146,29 +147,29 @@ pub fn check_init(
     names: &Names,
     kind: Option<Shape<'_>>,
     init: &Init,
-    walk: &mut Walk,
+    progress: &mut Progress,
 ) -> Result<Put, AllocError>
-    requires room { walk.old.at + init_size (view_init init.now) < 2 ^ 32 }
-    ensures at { OnOk result (walk.new.at ≡ walk.old.at + init_size (view_init init.now)) }
-    ensures faults { OnOk result (least_tree walk.new.least ≡ keep (least_tree walk.old.least) (rule.inner_faults (names_tree names.now) walk.old.at (view_init init.now))) }
+    requires room { progress.old.at + init_size (view_init init.now) < 2 ^ 32 }
+    ensures at { OnOk result (progress.new.at ≡ progress.old.at + init_size (view_init init.now)) }
+    ensures faults { OnOk result (AreNoted progress.old progress.new (rule.inner_faults (names_tree names.now) progress.old.at (view_init init.now))) }
     ensures value { IfOk result (λ p. core_tree p.value ≡ rule.put_in (names_tree names.now) (place_kind kind.entry) (view_init init.now)) }
-    ensures misfit { IfOk result (λ p. misfit_faults p.misfit ≡ rule.misfits (names_tree names.now) (place_kind kind.entry) walk.old.at (view_init init.now)) }
+    ensures misfit { IfOk result (λ p. misfit_faults p.misfit ≡ rule.misfits (names_tree names.now) (place_kind kind.entry) progress.old.at (view_init init.now)) }
 {
-    let at = walk.at;
+    let at = progress.at;
     match init {
         Init::Empty => {
-            walk.at += 1;
+            progress.at += 1;
             Ok(empty_in(kind, at))
         }
         Init::Fill(item) => {
-            walk.at += 2;
-            let item = check_init(alloc, names, item_of(kind), item, walk)?;
-            walk.at += 1;
+            progress.at += 2;
+            let item = check_init(alloc, names, item_of(kind), item, progress)?;
+            progress.at += 1;
             let put = fill_in(alloc, kind, item, at)?;
             Ok(put)
         }
         Init::Term(term) => {
-            let typed = check_term(alloc, names, term, walk)?;
+            let typed = check_term(alloc, names, term, progress)?;
             let misfit = misfit_of(kind, &typed, at);
             let value = value_of(alloc, kind, typed)?;
             Ok(Put { value, misfit })

@@ -1,3 +1,5 @@
+pub mod FaultNumbers
 pub mod KindViews
 pub mod NameViews
+pub mod Noted
 pub mod TermViews

@@ -2,14 +2,15 @@
 use Rattle.std.specs.Prelude.{Option, Some, None}
 use Rattle.terms.specs.declared.term.Term.{Term}
 use Rattle.terms.specs.TermTree.{TermTree, term_tree}
+use Rattle.ioa_typing.specs.FaultNumbers.{fault_number}
 use Rattle.ioa_typing.specs.KindViews.{shape_tree}
 use Rattle.ioa_rules.specs.Faults as plain
 use Rattle.ioa_rules.specs.TermRules.{Judged}
 use Rattle.ioa_typing.specs.declared.typed.Typed.{Typed}
-use Rattle.ioa_typing.specs.declared.walk.Fault.{Fault}
+use Rattle.ioa_typing.specs.declared.fault.Fault.{Fault}
 
 abbrev pub fault_tree : Fault → plain.Fault
-fault_tree f = record { place = f.place; number = f.number }
+fault_tree f = record { place = f.place; number = fault_number f.kind }
 
 abbrev pub least_tree : Option Fault → Option plain.Fault
 least_tree None = None

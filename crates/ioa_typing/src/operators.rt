@@ -4,18 +4,20 @@ ghost use Rattle.terms.specs.TermTree as core;
 ghost use Rattle.terms.specs.TermTree.{term_tree};
 ghost use Rattle.ioa_typing.specs.KindViews.{option_tree, shape_tree};
 ghost use Rattle.ioa_typing.specs.NameViews.{names_tree};
-ghost use Rattle.ioa_rules.specs.Faults.{keep, where_wrong};
+ghost use Rattle.ioa_rules.specs.Faults.{where_wrong};
 ghost use Rattle.ioa_rules.specs.Kinds as kinds;
 ghost use Rattle.ioa_rules.specs.Scopes.{named, is_value};
 ghost use Rattle.ioa_rules.specs.TermRules as rule;
-ghost use Rattle.ioa_typing.specs.TermViews.{core_tree, judged_tree, least_tree, typed_tree};
+ghost use Rattle.ioa_typing.specs.Noted.{AreNoted};
+ghost use Rattle.ioa_typing.specs.TermViews.{core_tree, judged_tree, typed_tree};
 
+use crate::fault::FaultKind;
 use crate::kind::Kind;
 use crate::meaning::Meaning;
 use crate::names::Names;
+use crate::progress::Progress;
 use crate::shape::{Shape, fits, is_whole, shape_of};
 use crate::typed::{Typed, note_unless_truth, note_unless_whole, truth_of, whole_of};
-use crate::walk::Walk;
 use ioa_trees::tree::{Relation, Sign};
 use std::alloc::{AllocError, Global};
 use terms::{Operator, Scalar, Term};
@@ -70,24 +72,28 @@ pub(crate) fn check_name<'a>(
     names: &'a Names,
     name: &str,
     place: u32,
-    walk: &mut Walk,
+    progress: &mut Progress,
 ) -> Option<Typed<'a>>
-    ensures at { walk.new.at ≡ walk.old.at }
-    ensures faults { least_tree walk.new.least ≡ keep (least_tree walk.old.least) (where_wrong (not (is_value (named name.now (names_tree names.now)))) place 10) }
+    ensures at { progress.new.at ≡ progress.old.at }
+    ensures faults { AreNoted progress.old progress.new (where_wrong (not (is_value (named name.now (names_tree names.now)))) place 10) }
     ensures meant { judged_tree result ≡ rule.value_meant (named name.now (names_tree names.now)) }
 {
-    walk.note_if(!is_value_named(names, name), place, 10);
+    progress.note_if(!is_value_named(names, name), place, FaultKind::UnknownName);
     value_named(names, name)
 }
 
 /// A literal, which is one token.
-pub(crate) fn known<'a>(walk: &mut Walk, scalar: Scalar, shape: Shape<'a>) -> Option<Typed<'a>>
-    requires room { walk.old.at + 1 < 2 ^ 32 }
-    ensures at { walk.new.at ≡ walk.old.at + 1 }
-    ensures least { walk.new.least ≡ walk.old.least }
+pub(crate) fn known<'a>(
+    progress: &mut Progress,
+    scalar: Scalar,
+    shape: Shape<'a>,
+) -> Option<Typed<'a>>
+    requires room { progress.old.at + 1 < 2 ^ 32 }
+    ensures at { progress.new.at ≡ progress.old.at + 1 }
+    ensures least { progress.new.least ≡ progress.old.least }
     ensures meant { judged_tree result ≡ rule.judged (shape_tree shape.entry) (core.Known scalar) }
 {
-    walk.at += 1;
+    progress.at += 1;
     Some(Typed {
         core: Term::Known(scalar),
         shape,
@@ -127,13 +133,13 @@ pub(crate) fn end_minus<'a>(
     alloc: Global,
     of: Option<Typed<'a>>,
     place: u32,
-    walk: &mut Walk,
+    progress: &mut Progress,
 ) -> Result<Option<Typed<'a>>, AllocError>
-    ensures at { OnOk result (walk.new.at ≡ walk.old.at) }
-    ensures faults { OnOk result (least_tree walk.new.least ≡ keep (least_tree walk.old.least) (rule.wants kinds.is_whole place (judged_tree of.entry))) }
+    ensures at { OnOk result (progress.new.at ≡ progress.old.at) }
+    ensures faults { OnOk result (AreNoted progress.old progress.new (rule.wants kinds.is_whole place (judged_tree of.entry))) }
     ensures meant { IfOk result (λ j. judged_tree j ≡ rule.of_core kinds.Whole (rule.on_core core.Negative (rule.whole_of (judged_tree of.entry)))) }
 {
-    note_unless_whole(walk, place, &of);
+    note_unless_whole(progress, place, &of);
     let core = negative_of(alloc, whole_of(of))?;
     Ok(of_core(Shape::Whole, core))
 }
@@ -143,13 +149,13 @@ pub(crate) fn end_not<'a>(
     alloc: Global,
     of: Option<Typed<'a>>,
     place: u32,
-    walk: &mut Walk,
+    progress: &mut Progress,
 ) -> Result<Option<Typed<'a>>, AllocError>
-    ensures at { OnOk result (walk.new.at ≡ walk.old.at) }
-    ensures faults { OnOk result (least_tree walk.new.least ≡ keep (least_tree walk.old.least) (rule.wants kinds.is_truth place (judged_tree of.entry))) }
+    ensures at { OnOk result (progress.new.at ≡ progress.old.at) }
+    ensures faults { OnOk result (AreNoted progress.old progress.new (rule.wants kinds.is_truth place (judged_tree of.entry))) }
     ensures meant { IfOk result (λ j. judged_tree j ≡ rule.of_core kinds.Truth (rule.on_core core.Not (rule.truth_of (judged_tree of.entry)))) }
 {
-    note_unless_truth(walk, place, &of);
+    note_unless_truth(progress, place, &of);
     let core = not_of(alloc, truth_of(of))?;
     Ok(of_core(Shape::Truth, core))
 }
@@ -189,13 +195,13 @@ pub(crate) fn join_truth(
     left: Option<Term>,
     right: Option<Typed<'_>>,
     place: u32,
-    walk: &mut Walk,
+    progress: &mut Progress,
 ) -> Result<Option<Term>, AllocError>
-    ensures at { OnOk result (walk.new.at ≡ walk.old.at) }
-    ensures faults { OnOk result (least_tree walk.new.least ≡ keep (least_tree walk.old.least) (rule.wants kinds.is_truth place (judged_tree right.entry))) }
+    ensures at { OnOk result (progress.new.at ≡ progress.old.at) }
+    ensures faults { OnOk result (AreNoted progress.old progress.new (rule.wants kinds.is_truth place (judged_tree right.entry))) }
     ensures meant { IfOk result (λ c. core_tree c ≡ rule.joined operator (core_tree left) (rule.truth_of (judged_tree right.entry))) }
 {
-    note_unless_truth(walk, place, &right);
+    note_unless_truth(progress, place, &right);
     let core = joined(alloc, operator, left, truth_of(right))?;
     Ok(core)
 }
@@ -207,13 +213,13 @@ pub(crate) fn join_whole(
     left: Option<Term>,
     right: Option<Typed<'_>>,
     place: u32,
-    walk: &mut Walk,
+    progress: &mut Progress,
 ) -> Result<Option<Term>, AllocError>
-    ensures at { OnOk result (walk.new.at ≡ walk.old.at) }
-    ensures faults { OnOk result (least_tree walk.new.least ≡ keep (least_tree walk.old.least) (rule.wants kinds.is_whole place (judged_tree right.entry))) }
+    ensures at { OnOk result (progress.new.at ≡ progress.old.at) }
+    ensures faults { OnOk result (AreNoted progress.old progress.new (rule.wants kinds.is_whole place (judged_tree right.entry))) }
     ensures meant { IfOk result (λ c. core_tree c ≡ rule.joined operator (core_tree left) (rule.whole_of (judged_tree right.entry))) }
 {
-    note_unless_whole(walk, place, &right);
+    note_unless_whole(progress, place, &right);
     let core = joined(alloc, operator, left, whole_of(right))?;
     Ok(core)
 }
@@ -271,10 +277,10 @@ pub(crate) fn end_compare<'a>(
     left: Option<Typed<'a>>,
     right: Option<Typed<'a>>,
     place: u32,
-    walk: &mut Walk,
+    progress: &mut Progress,
 ) -> Result<Option<Typed<'a>>, AllocError>
-    ensures at { OnOk result (walk.new.at ≡ walk.old.at) }
-    ensures faults { OnOk result (least_tree walk.new.least ≡ keep (least_tree walk.old.least) (rule.compare_faults relation place (judged_tree left.entry) (judged_tree right.entry))) }
+    ensures at { OnOk result (progress.new.at ≡ progress.old.at) }
+    ensures faults { OnOk result (AreNoted progress.old progress.new (rule.compare_faults relation place (judged_tree left.entry) (judged_tree right.entry))) }
     ensures meant { IfOk result (λ j. judged_tree j ≡ rule.compare_of relation (judged_tree left.entry) (judged_tree right.entry)) }
 {
     let Some(left) = left else {
@@ -284,7 +290,7 @@ pub(crate) fn end_compare<'a>(
         return Ok(None);
     };
     let fits = compares(relation, left.shape, right.shape);
-    walk.note_if(!fits, place, 12);
+    progress.note_if(!fits, place, FaultKind::WrongType);
     if !fits {
         return Ok(None);
     }

@@ -2,16 +2,17 @@
 ghost use Rattle.std.specs.Prelude.{◌≡◌, ◌++◌, Some, OnOk, IfOk};
 ghost use Rattle.terms.specs.TermTree.{term_tree};
 ghost use Rattle.ioa_typing.specs.KindViews.{kind_tree, shape_tree};
-ghost use Rattle.ioa_rules.specs.Faults.{keep};
 ghost use Rattle.ioa_rules.specs.Kinds as kinds;
 ghost use Rattle.ioa_rules.specs.TermRules as rule;
-ghost use Rattle.ioa_typing.specs.TermViews.{judged_tree, least_tree, typed_tree};
+ghost use Rattle.ioa_typing.specs.Noted.{AreNoted};
+ghost use Rattle.ioa_typing.specs.TermViews.{judged_tree, typed_tree};
 
+use crate::fault::FaultKind;
 use crate::kind::Kind;
 use crate::listing::{item_shape, listed_of};
+use crate::progress::Progress;
 use crate::shape::{Shape, fits, shape_of};
 use crate::typed::{Typed, note_unfit, note_unless_seq, placed};
-use crate::walk::Walk;
 use ioa_trees::tree::Call;
 use std::alloc::{AllocError, Global};
 use terms::Term;
@@ -81,24 +82,29 @@ pub(crate) fn end_call<'a>(
     call: Call,
     of: Option<Typed<'a>>,
     place: u32,
-    walk: &mut Walk,
+    progress: &mut Progress,
 ) -> Result<Option<Typed<'a>>, AllocError>
-    ensures at { OnOk result (walk.new.at ≡ walk.old.at) }
-    ensures faults { OnOk result (least_tree walk.new.least ≡ keep (least_tree walk.old.least) (rule.wants kinds.is_seq place (judged_tree of.entry))) }
+    ensures at { OnOk result (progress.new.at ≡ progress.old.at) }
+    ensures faults { OnOk result (AreNoted progress.old progress.new (rule.wants kinds.is_seq place (judged_tree of.entry))) }
     ensures meant { IfOk result (λ j. judged_tree j ≡ rule.call_of call (judged_tree of.entry)) }
 {
-    note_unless_seq(walk, place, &of);
+    note_unless_seq(progress, place, &of);
     let found = call_of(alloc, call, of)?;
     Ok(found)
 }
 
-fn note_item(walk: &mut Walk, place: u32, list: &Option<Typed<'_>>, item: &Option<Typed<'_>>)
-    ensures at { walk.new.at ≡ walk.old.at }
-    ensures least { least_tree walk.new.least ≡ keep (least_tree walk.old.least) (rule.append_faults place (judged_tree list.now) (judged_tree item.now)) }
+fn note_item(
+    progress: &mut Progress,
+    place: u32,
+    list: &Option<Typed<'_>>,
+    item: &Option<Typed<'_>>,
+)
+    ensures at { progress.new.at ≡ progress.old.at }
+    ensures least { AreNoted progress.old progress.new (rule.append_faults place (judged_tree list.now) (judged_tree item.now)) }
 {
     if let Some(list) = list {
         if let Shape::Seq(kind, _) = list.shape {
-            note_unfit(walk, shape_of(kind), place, item);
+            note_unfit(progress, shape_of(kind), place, item);
         }
     }
 }
@@ -150,36 +156,36 @@ pub(crate) fn end_append<'a>(
     item: Option<Typed<'a>>,
     first: u32,
     second: u32,
-    walk: &mut Walk,
+    progress: &mut Progress,
 ) -> Result<Option<Typed<'a>>, AllocError>
-    ensures at { OnOk result (walk.new.at ≡ walk.old.at) }
-    ensures faults { OnOk result (least_tree walk.new.least ≡ keep (least_tree walk.old.least) (rule.wants kinds.is_seq first (judged_tree list.entry) ++ rule.append_faults second (judged_tree list.entry) (judged_tree item.entry))) }
+    ensures at { OnOk result (progress.new.at ≡ progress.old.at) }
+    ensures faults { OnOk result (AreNoted progress.old progress.new (rule.wants kinds.is_seq first (judged_tree list.entry) ++ rule.append_faults second (judged_tree list.entry) (judged_tree item.entry))) }
     ensures meant { IfOk result (λ j. judged_tree j ≡ rule.append_of (judged_tree list.entry) (judged_tree item.entry)) }
 {
-    note_unless_seq(walk, first, &list);
-    note_item(walk, second, &list, &item);
+    note_unless_seq(progress, first, &list);
+    note_item(progress, second, &list, &item);
     let found = append_of(alloc, list, item)?;
     Ok(found)
 }
 
 fn note_index(
-    walk: &mut Walk,
+    progress: &mut Progress,
     first: u32,
     place: u32,
     of: &Option<Typed<'_>>,
     index: &Option<Typed<'_>>,
 )
-    ensures at { walk.new.at ≡ walk.old.at }
-    ensures least { least_tree walk.new.least ≡ keep (least_tree walk.old.least) (rule.index_faults first place (judged_tree of.now) (judged_tree index.now)) }
+    ensures at { progress.new.at ≡ progress.old.at }
+    ensures least { AreNoted progress.old progress.new (rule.index_faults first place (judged_tree of.now) (judged_tree index.now)) }
 {
     if let Some(of) = of {
         match of.shape {
-            Shape::Array(by, _) => note_unfit(walk, shape_of(by), place, index),
-            Shape::Truth => walk.note_if(true, first, 12),
-            Shape::Whole => walk.note_if(true, first, 12),
-            Shape::Range(_, _) => walk.note_if(true, first, 12),
-            Shape::Enumeration(_, _) => walk.note_if(true, first, 12),
-            Shape::Seq(_, _) => walk.note_if(true, first, 12),
+            Shape::Array(by, _) => note_unfit(progress, shape_of(by), place, index),
+            Shape::Truth => progress.note_if(true, first, FaultKind::WrongType),
+            Shape::Whole => progress.note_if(true, first, FaultKind::WrongType),
+            Shape::Range(_, _) => progress.note_if(true, first, FaultKind::WrongType),
+            Shape::Enumeration(_, _) => progress.note_if(true, first, FaultKind::WrongType),
+            Shape::Seq(_, _) => progress.note_if(true, first, FaultKind::WrongType),
         }
     }
 }
@@ -229,13 +235,13 @@ pub(crate) fn end_element<'a>(
     index: Option<Typed<'a>>,
     first: u32,
     place: u32,
-    walk: &mut Walk,
+    progress: &mut Progress,
 ) -> Result<Option<Typed<'a>>, AllocError>
-    ensures at { OnOk result (walk.new.at ≡ walk.old.at) }
-    ensures faults { OnOk result (least_tree walk.new.least ≡ keep (least_tree walk.old.least) (rule.index_faults first place (judged_tree of.entry) (judged_tree index.entry))) }
+    ensures at { OnOk result (progress.new.at ≡ progress.old.at) }
+    ensures faults { OnOk result (AreNoted progress.old progress.new (rule.index_faults first place (judged_tree of.entry) (judged_tree index.entry))) }
     ensures meant { IfOk result (λ j. judged_tree j ≡ rule.element_of (judged_tree of.entry) (judged_tree index.entry)) }
 {
-    note_index(walk, first, place, &of, &index);
+    note_index(progress, first, place, &of, &index);
     let found = element_of(alloc, of, index)?;
     Ok(found)
 }

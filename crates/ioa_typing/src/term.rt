@@ -1,6 +1,5 @@
 //! The checks of terms.
 ghost use Rattle.std.specs.Prelude.{◌≡◌, ◌+◌, ◌<◌, ◌^◌, ◌++◌, map, OnOk, IfOk};
-ghost use Rattle.ioa_rules.specs.Faults.{keep};
 ghost use Rattle.ioa_rules.specs.Sizes.{size, indexes_size, joined_size, factor_size, factors_size, addends_size};
 ghost use Rattle.ioa_rules.specs.Kinds as kinds;
 ghost use Rattle.ioa_rules.specs.TermRules as rule;
@@ -8,17 +7,19 @@ ghost use Rattle.ioa_trees.specs.Trees as plain;
 ghost use Rattle.ioa_trees.specs.Trees.{no_factor, more_factors, pack_terms, pack_factors, pack_addends};
 ghost use Rattle.ioa_trees.specs.Views.{view, view_factor, view_addend};
 ghost use Rattle.ioa_typing.specs.NameViews.{names_tree};
-ghost use Rattle.ioa_typing.specs.TermViews.{core_tree, judged_tree, least_tree};
+ghost use Rattle.ioa_typing.specs.Noted.{AreNoted};
+ghost use Rattle.ioa_typing.specs.TermViews.{core_tree, judged_tree};
 
+use crate::fault::FaultKind;
 use crate::names::Names;
 use crate::operators::{
     check_name, end_compare, end_minus, end_not, join_truth, join_whole, known, modulo_of, of_core,
     operator_of,
 };
+use crate::progress::Progress;
 use crate::sequences::{end_append, end_call, end_element};
 use crate::shape::Shape;
 use crate::typed::{Typed, note_unless_truth, note_unless_whole, truth_of, whole_of};
-use crate::walk::Walk;
 use ioa_trees::tree::{Addend, Call, Factor, Relation, Term};
 use std::alloc::{AllocError, Global};
 use terms::{Operator, Scalar};
@@ -29,54 +30,58 @@ pub fn check_term<'a>(
     alloc: Global,
     names: &'a Names,
     term: &Term,
-    walk: &mut Walk,
+    progress: &mut Progress,
 ) -> Result<Option<Typed<'a>>, AllocError>
-    requires room { walk.old.at + size (view term.now) < 2 ^ 32 }
-    ensures at { OnOk result (walk.new.at ≡ walk.old.at + size (view term.now)) }
-    ensures faults { OnOk result (least_tree walk.new.least ≡ keep (least_tree walk.old.least) (rule.faults (names_tree names.now) walk.old.at (view term.now))) }
+    requires room { progress.old.at + size (view term.now) < 2 ^ 32 }
+    ensures at { OnOk result (progress.new.at ≡ progress.old.at + size (view term.now)) }
+    ensures faults { OnOk result (AreNoted progress.old progress.new (rule.faults (names_tree names.now) progress.old.at (view term.now))) }
     ensures meant { IfOk result (λ j. judged_tree j ≡ rule.judge (names_tree names.now) (view term.now)) }
 {
-    let at = walk.at;
+    let at = progress.at;
     match term {
-        Term::Number(number) => Ok(known(walk, Scalar::Int(number.cast_signed()), Shape::Whole)),
-        Term::True => Ok(known(walk, Scalar::Bool(true), Shape::Truth)),
-        Term::False => Ok(known(walk, Scalar::Bool(false), Shape::Truth)),
+        Term::Number(number) => Ok(known(
+            progress,
+            Scalar::Int(number.cast_signed()),
+            Shape::Whole,
+        )),
+        Term::True => Ok(known(progress, Scalar::Bool(true), Shape::Truth)),
+        Term::False => Ok(known(progress, Scalar::Bool(false), Shape::Truth)),
         Term::Name(name) => {
-            walk.at += 1;
-            Ok(check_name(names, name.as_str(), at, walk))
+            progress.at += 1;
+            Ok(check_name(names, name.as_str(), at, progress))
         }
-        Term::Group(inner) => check_group(alloc, names, inner, walk),
-        Term::Call(call, of) => check_call(alloc, names, *call, of, walk),
-        Term::Minus(of) => check_minus(alloc, names, of, walk),
-        Term::Not(of) => check_not(alloc, names, of, walk),
+        Term::Group(inner) => check_group(alloc, names, inner, progress),
+        Term::Call(call, of) => check_call(alloc, names, *call, of, progress),
+        Term::Minus(of) => check_minus(alloc, names, of, progress),
+        Term::Not(of) => check_not(alloc, names, of, progress),
         Term::Append(list, item) => {
-            walk.at += 2;
-            let list = check_term(alloc, names, list, walk)?;
-            let found = check_item(alloc, names, list, at + 2, item, walk)?;
+            progress.at += 2;
+            let list = check_term(alloc, names, list, progress)?;
+            let found = check_item(alloc, names, list, at + 2, item, progress)?;
             Ok(found)
         }
         Term::Index(of, indexes) => {
-            let of = check_term(alloc, names, of, walk)?;
-            let found = check_indexes(alloc, names, of, at, indexes.as_slice(), walk)?;
+            let of = check_term(alloc, names, of, progress)?;
+            let found = check_indexes(alloc, names, of, at, indexes.as_slice(), progress)?;
             Ok(found)
         }
         Term::Product(of, factors) => {
-            let first = check_term(alloc, names, of, walk)?;
-            let found = check_product(alloc, names, first, at, factors.as_slice(), walk)?;
+            let first = check_term(alloc, names, of, progress)?;
+            let found = check_product(alloc, names, first, at, factors.as_slice(), progress)?;
             Ok(found)
         }
         Term::Sum(of, addends) => {
-            let first = check_term(alloc, names, of, walk)?;
-            let found = check_sum(alloc, names, first, at, addends.as_slice(), walk)?;
+            let first = check_term(alloc, names, of, progress)?;
+            let found = check_sum(alloc, names, first, at, addends.as_slice(), progress)?;
             Ok(found)
         }
         Term::Compare(left, relation, right) => {
-            let left = check_term(alloc, names, left, walk)?;
-            let found = check_right(alloc, names, left, *relation, right, walk)?;
+            let left = check_term(alloc, names, left, progress)?;
+            let found = check_right(alloc, names, left, *relation, right, progress)?;
             Ok(found)
         }
         Term::And(of, others) => {
-            let first = check_term(alloc, names, of, walk)?;
+            let first = check_term(alloc, names, of, progress)?;
             let found = check_joined(
                 alloc,
                 names,
@@ -84,12 +89,12 @@ pub fn check_term<'a>(
                 first,
                 at,
                 others.as_slice(),
-                walk,
+                progress,
             )?;
             Ok(found)
         }
         Term::Or(of, others) => {
-            let first = check_term(alloc, names, of, walk)?;
+            let first = check_term(alloc, names, of, progress)?;
             let found = check_joined(
                 alloc,
                 names,
@@ -97,7 +102,7 @@ pub fn check_term<'a>(
                 first,
                 at,
                 others.as_slice(),
-                walk,
+                progress,
             )?;
             Ok(found)
         }
@@ -110,16 +115,16 @@ fn check_group<'a>(
     alloc: Global,
     names: &'a Names,
     inner: &Term,
-    walk: &mut Walk,
+    progress: &mut Progress,
 ) -> Result<Option<Typed<'a>>, AllocError>
-    requires room { walk.old.at + size (plain.Group (view inner.now)) < 2 ^ 32 }
-    ensures at { OnOk result (walk.new.at ≡ walk.old.at + size (plain.Group (view inner.now))) }
-    ensures faults { OnOk result (least_tree walk.new.least ≡ keep (least_tree walk.old.least) (rule.faults (names_tree names.now) walk.old.at (plain.Group (view inner.now)))) }
+    requires room { progress.old.at + size (plain.Group (view inner.now)) < 2 ^ 32 }
+    ensures at { OnOk result (progress.new.at ≡ progress.old.at + size (plain.Group (view inner.now))) }
+    ensures faults { OnOk result (AreNoted progress.old progress.new (rule.faults (names_tree names.now) progress.old.at (plain.Group (view inner.now)))) }
     ensures meant { IfOk result (λ j. judged_tree j ≡ rule.judge (names_tree names.now) (plain.Group (view inner.now))) }
 {
-    walk.at += 1;
-    let found = check_term(alloc, names, inner, walk)?;
-    walk.at += 1;
+    progress.at += 1;
+    let found = check_term(alloc, names, inner, progress)?;
+    progress.at += 1;
     Ok(found)
 }
 
@@ -130,18 +135,18 @@ fn check_call<'a>(
     names: &'a Names,
     call: Call,
     of: &Term,
-    walk: &mut Walk,
+    progress: &mut Progress,
 ) -> Result<Option<Typed<'a>>, AllocError>
-    requires room { walk.old.at + size (plain.Called call (view of.now)) < 2 ^ 32 }
-    ensures at { OnOk result (walk.new.at ≡ walk.old.at + size (plain.Called call (view of.now))) }
-    ensures faults { OnOk result (least_tree walk.new.least ≡ keep (least_tree walk.old.least) (rule.faults (names_tree names.now) walk.old.at (plain.Called call (view of.now)))) }
+    requires room { progress.old.at + size (plain.Called call (view of.now)) < 2 ^ 32 }
+    ensures at { OnOk result (progress.new.at ≡ progress.old.at + size (plain.Called call (view of.now))) }
+    ensures faults { OnOk result (AreNoted progress.old progress.new (rule.faults (names_tree names.now) progress.old.at (plain.Called call (view of.now)))) }
     ensures meant { IfOk result (λ j. judged_tree j ≡ rule.judge (names_tree names.now) (plain.Called call (view of.now))) }
 {
-    walk.at += 2;
-    let place = walk.at;
-    let of = check_term(alloc, names, of, walk)?;
-    walk.at += 1;
-    let found = end_call(alloc, call, of, place, walk)?;
+    progress.at += 2;
+    let place = progress.at;
+    let of = check_term(alloc, names, of, progress)?;
+    progress.at += 1;
+    let found = end_call(alloc, call, of, place, progress)?;
     Ok(found)
 }
 
@@ -151,17 +156,17 @@ fn check_minus<'a>(
     alloc: Global,
     names: &'a Names,
     of: &Term,
-    walk: &mut Walk,
+    progress: &mut Progress,
 ) -> Result<Option<Typed<'a>>, AllocError>
-    requires room { walk.old.at + size (plain.Minus (view of.now)) < 2 ^ 32 }
-    ensures at { OnOk result (walk.new.at ≡ walk.old.at + size (plain.Minus (view of.now))) }
-    ensures faults { OnOk result (least_tree walk.new.least ≡ keep (least_tree walk.old.least) (rule.faults (names_tree names.now) walk.old.at (plain.Minus (view of.now)))) }
+    requires room { progress.old.at + size (plain.Minus (view of.now)) < 2 ^ 32 }
+    ensures at { OnOk result (progress.new.at ≡ progress.old.at + size (plain.Minus (view of.now))) }
+    ensures faults { OnOk result (AreNoted progress.old progress.new (rule.faults (names_tree names.now) progress.old.at (plain.Minus (view of.now)))) }
     ensures meant { IfOk result (λ j. judged_tree j ≡ rule.judge (names_tree names.now) (plain.Minus (view of.now))) }
 {
-    walk.at += 1;
-    let place = walk.at;
-    let of = check_term(alloc, names, of, walk)?;
-    let found = end_minus(alloc, of, place, walk)?;
+    progress.at += 1;
+    let place = progress.at;
+    let of = check_term(alloc, names, of, progress)?;
+    let found = end_minus(alloc, of, place, progress)?;
     Ok(found)
 }
 
@@ -171,17 +176,17 @@ fn check_not<'a>(
     alloc: Global,
     names: &'a Names,
     of: &Term,
-    walk: &mut Walk,
+    progress: &mut Progress,
 ) -> Result<Option<Typed<'a>>, AllocError>
-    requires room { walk.old.at + size (plain.Not (view of.now)) < 2 ^ 32 }
-    ensures at { OnOk result (walk.new.at ≡ walk.old.at + size (plain.Not (view of.now))) }
-    ensures faults { OnOk result (least_tree walk.new.least ≡ keep (least_tree walk.old.least) (rule.faults (names_tree names.now) walk.old.at (plain.Not (view of.now)))) }
+    requires room { progress.old.at + size (plain.Not (view of.now)) < 2 ^ 32 }
+    ensures at { OnOk result (progress.new.at ≡ progress.old.at + size (plain.Not (view of.now))) }
+    ensures faults { OnOk result (AreNoted progress.old progress.new (rule.faults (names_tree names.now) progress.old.at (plain.Not (view of.now)))) }
     ensures meant { IfOk result (λ j. judged_tree j ≡ rule.judge (names_tree names.now) (plain.Not (view of.now))) }
 {
-    walk.at += 1;
-    let place = walk.at;
-    let of = check_term(alloc, names, of, walk)?;
-    let found = end_not(alloc, of, place, walk)?;
+    progress.at += 1;
+    let place = progress.at;
+    let of = check_term(alloc, names, of, progress)?;
+    let found = end_not(alloc, of, place, progress)?;
     Ok(found)
 }
 
@@ -193,18 +198,18 @@ fn check_item<'a>(
     list: Option<Typed<'a>>,
     place: u32,
     item: &Term,
-    walk: &mut Walk,
+    progress: &mut Progress,
 ) -> Result<Option<Typed<'a>>, AllocError>
-    requires room { walk.old.at + (size (view item.now) + 2) < 2 ^ 32 }
-    ensures at { OnOk result (walk.new.at ≡ walk.old.at + (size (view item.now) + 2)) }
-    ensures faults { OnOk result (least_tree walk.new.least ≡ keep (least_tree walk.old.least) (rule.faults (names_tree names.now) (walk.old.at + 1) (view item.now) ++ (rule.wants kinds.is_seq place (judged_tree list.entry) ++ rule.append_faults (walk.old.at + 1) (judged_tree list.entry) (rule.judge (names_tree names.now) (view item.now))))) }
+    requires room { progress.old.at + (size (view item.now) + 2) < 2 ^ 32 }
+    ensures at { OnOk result (progress.new.at ≡ progress.old.at + (size (view item.now) + 2)) }
+    ensures faults { OnOk result (AreNoted progress.old progress.new (rule.faults (names_tree names.now) (progress.old.at + 1) (view item.now) ++ (rule.wants kinds.is_seq place (judged_tree list.entry) ++ rule.append_faults (progress.old.at + 1) (judged_tree list.entry) (rule.judge (names_tree names.now) (view item.now))))) }
     ensures meant { IfOk result (λ j. judged_tree j ≡ rule.append_of (judged_tree list.entry) (rule.judge (names_tree names.now) (view item.now))) }
 {
-    walk.at += 1;
-    let behind = walk.at;
-    let item = check_term(alloc, names, item, walk)?;
-    walk.at += 1;
-    let found = end_append(alloc, list, item, place, behind, walk)?;
+    progress.at += 1;
+    let behind = progress.at;
+    let item = check_term(alloc, names, item, progress)?;
+    progress.at += 1;
+    let found = end_append(alloc, list, item, place, behind, progress)?;
     Ok(found)
 }
 
@@ -216,17 +221,17 @@ fn check_right<'a>(
     left: Option<Typed<'a>>,
     relation: Relation,
     right: &Term,
-    walk: &mut Walk,
+    progress: &mut Progress,
 ) -> Result<Option<Typed<'a>>, AllocError>
-    requires room { walk.old.at + (size (view right.now) + 1) < 2 ^ 32 }
-    ensures at { OnOk result (walk.new.at ≡ walk.old.at + (size (view right.now) + 1)) }
-    ensures faults { OnOk result (least_tree walk.new.least ≡ keep (least_tree walk.old.least) (rule.faults (names_tree names.now) (walk.old.at + 1) (view right.now) ++ rule.compare_faults relation (walk.old.at + 1) (judged_tree left.entry) (rule.judge (names_tree names.now) (view right.now)))) }
+    requires room { progress.old.at + (size (view right.now) + 1) < 2 ^ 32 }
+    ensures at { OnOk result (progress.new.at ≡ progress.old.at + (size (view right.now) + 1)) }
+    ensures faults { OnOk result (AreNoted progress.old progress.new (rule.faults (names_tree names.now) (progress.old.at + 1) (view right.now) ++ rule.compare_faults relation (progress.old.at + 1) (judged_tree left.entry) (rule.judge (names_tree names.now) (view right.now)))) }
     ensures meant { IfOk result (λ j. judged_tree j ≡ rule.compare_of relation (judged_tree left.entry) (rule.judge (names_tree names.now) (view right.now))) }
 {
-    walk.at += 1;
-    let place = walk.at;
-    let right = check_term(alloc, names, right, walk)?;
-    let found = end_compare(alloc, relation, left, right, place, walk)?;
+    progress.at += 1;
+    let place = progress.at;
+    let right = check_term(alloc, names, right, progress)?;
+    let found = end_compare(alloc, relation, left, right, place, progress)?;
     Ok(found)
 }
 
@@ -238,15 +243,15 @@ fn check_product<'a>(
     first: Option<Typed<'a>>,
     place: u32,
     factors: &[Factor],
-    walk: &mut Walk,
+    progress: &mut Progress,
 ) -> Result<Option<Typed<'a>>, AllocError>
-    requires room { walk.old.at + factors_size (pack_factors (map view_factor factors.now)) < 2 ^ 32 }
-    ensures at { OnOk result (walk.new.at ≡ walk.old.at + factors_size (pack_factors (map view_factor factors.now))) }
-    ensures faults { OnOk result (least_tree walk.new.least ≡ keep (least_tree walk.old.least) (rule.wants kinds.is_whole place (judged_tree first.entry) ++ rule.factors_faults (names_tree names.now) walk.old.at (pack_factors (map view_factor factors.now)))) }
+    requires room { progress.old.at + factors_size (pack_factors (map view_factor factors.now)) < 2 ^ 32 }
+    ensures at { OnOk result (progress.new.at ≡ progress.old.at + factors_size (pack_factors (map view_factor factors.now))) }
+    ensures faults { OnOk result (AreNoted progress.old progress.new (rule.wants kinds.is_whole place (judged_tree first.entry) ++ rule.factors_faults (names_tree names.now) progress.old.at (pack_factors (map view_factor factors.now)))) }
     ensures meant { IfOk result (λ j. judged_tree j ≡ rule.of_core kinds.Whole (rule.multiplied (names_tree names.now) (rule.whole_of (judged_tree first.entry)) (pack_factors (map view_factor factors.now)))) }
 {
-    note_unless_whole(walk, place, &first);
-    let core = check_factors(alloc, names, whole_of(first), factors, walk)?;
+    note_unless_whole(progress, place, &first);
+    let core = check_factors(alloc, names, whole_of(first), factors, progress)?;
     Ok(of_core(Shape::Whole, core))
 }
 
@@ -258,15 +263,15 @@ fn check_sum<'a>(
     first: Option<Typed<'a>>,
     place: u32,
     addends: &[Addend],
-    walk: &mut Walk,
+    progress: &mut Progress,
 ) -> Result<Option<Typed<'a>>, AllocError>
-    requires room { walk.old.at + addends_size (pack_addends (map view_addend addends.now)) < 2 ^ 32 }
-    ensures at { OnOk result (walk.new.at ≡ walk.old.at + addends_size (pack_addends (map view_addend addends.now))) }
-    ensures faults { OnOk result (least_tree walk.new.least ≡ keep (least_tree walk.old.least) (rule.wants kinds.is_whole place (judged_tree first.entry) ++ rule.addends_faults (names_tree names.now) walk.old.at (pack_addends (map view_addend addends.now)))) }
+    requires room { progress.old.at + addends_size (pack_addends (map view_addend addends.now)) < 2 ^ 32 }
+    ensures at { OnOk result (progress.new.at ≡ progress.old.at + addends_size (pack_addends (map view_addend addends.now))) }
+    ensures faults { OnOk result (AreNoted progress.old progress.new (rule.wants kinds.is_whole place (judged_tree first.entry) ++ rule.addends_faults (names_tree names.now) progress.old.at (pack_addends (map view_addend addends.now)))) }
     ensures meant { IfOk result (λ j. judged_tree j ≡ rule.of_core kinds.Whole (rule.added (names_tree names.now) (rule.whole_of (judged_tree first.entry)) (pack_addends (map view_addend addends.now)))) }
 {
-    note_unless_whole(walk, place, &first);
-    let core = check_addends(alloc, names, whole_of(first), addends, walk)?;
+    note_unless_whole(progress, place, &first);
+    let core = check_addends(alloc, names, whole_of(first), addends, progress)?;
     Ok(of_core(Shape::Whole, core))
 }
 
@@ -279,15 +284,15 @@ fn check_joined<'a>(
     first: Option<Typed<'a>>,
     place: u32,
     others: &[Term],
-    walk: &mut Walk,
+    progress: &mut Progress,
 ) -> Result<Option<Typed<'a>>, AllocError>
-    requires room { walk.old.at + joined_size (pack_terms (map view others.now)) < 2 ^ 32 }
-    ensures at { OnOk result (walk.new.at ≡ walk.old.at + joined_size (pack_terms (map view others.now))) }
-    ensures faults { OnOk result (least_tree walk.new.least ≡ keep (least_tree walk.old.least) (rule.wants kinds.is_truth place (judged_tree first.entry) ++ rule.truths_faults (names_tree names.now) walk.old.at (pack_terms (map view others.now)))) }
+    requires room { progress.old.at + joined_size (pack_terms (map view others.now)) < 2 ^ 32 }
+    ensures at { OnOk result (progress.new.at ≡ progress.old.at + joined_size (pack_terms (map view others.now))) }
+    ensures faults { OnOk result (AreNoted progress.old progress.new (rule.wants kinds.is_truth place (judged_tree first.entry) ++ rule.truths_faults (names_tree names.now) progress.old.at (pack_terms (map view others.now)))) }
     ensures meant { IfOk result (λ j. judged_tree j ≡ rule.of_core kinds.Truth (rule.combined (names_tree names.now) operator (rule.truth_of (judged_tree first.entry)) (pack_terms (map view others.now)))) }
 {
-    note_unless_truth(walk, place, &first);
-    let core = check_truths(alloc, names, operator, truth_of(first), others, walk)?;
+    note_unless_truth(progress, place, &first);
+    let core = check_truths(alloc, names, operator, truth_of(first), others, progress)?;
     Ok(of_core(Shape::Truth, core))
 }
 
@@ -299,20 +304,20 @@ fn check_indexes<'a>(
     of: Option<Typed<'a>>,
     first: u32,
     indexes: &[Term],
-    walk: &mut Walk,
+    progress: &mut Progress,
 ) -> Result<Option<Typed<'a>>, AllocError>
-    requires room { walk.old.at + indexes_size (pack_terms (map view indexes.now)) < 2 ^ 32 }
-    ensures at { OnOk result (walk.new.at ≡ walk.old.at + indexes_size (pack_terms (map view indexes.now))) }
-    ensures faults { OnOk result (least_tree walk.new.least ≡ keep (least_tree walk.old.least) (rule.indexes_faults (names_tree names.now) first (judged_tree of.entry) walk.old.at (pack_terms (map view indexes.now)))) }
+    requires room { progress.old.at + indexes_size (pack_terms (map view indexes.now)) < 2 ^ 32 }
+    ensures at { OnOk result (progress.new.at ≡ progress.old.at + indexes_size (pack_terms (map view indexes.now))) }
+    ensures faults { OnOk result (AreNoted progress.old progress.new (rule.indexes_faults (names_tree names.now) first (judged_tree of.entry) progress.old.at (pack_terms (map view indexes.now)))) }
     ensures meant { IfOk result (λ j. judged_tree j ≡ rule.indexed (names_tree names.now) (judged_tree of.entry) (pack_terms (map view indexes.now))) }
 {
     let mut found = of;
     for index in indexes {
-        walk.at += 1;
-        let place = walk.at;
-        let by = check_term(alloc, names, index, walk)?;
-        walk.at += 1;
-        found = end_element(alloc, found, by, first, place, walk)?;
+        progress.at += 1;
+        let place = progress.at;
+        let by = check_term(alloc, names, index, progress)?;
+        progress.at += 1;
+        found = end_element(alloc, found, by, first, place, progress)?;
     }
     Ok(found)
 }
@@ -324,16 +329,16 @@ fn check_factors(
     names: &Names,
     first: Option<terms::Term>,
     factors: &[Factor],
-    walk: &mut Walk,
+    progress: &mut Progress,
 ) -> Result<Option<terms::Term>, AllocError>
-    requires room { walk.old.at + factors_size (pack_factors (map view_factor factors.now)) < 2 ^ 32 }
-    ensures at { OnOk result (walk.new.at ≡ walk.old.at + factors_size (pack_factors (map view_factor factors.now))) }
-    ensures faults { OnOk result (least_tree walk.new.least ≡ keep (least_tree walk.old.least) (rule.factors_faults (names_tree names.now) walk.old.at (pack_factors (map view_factor factors.now)))) }
+    requires room { progress.old.at + factors_size (pack_factors (map view_factor factors.now)) < 2 ^ 32 }
+    ensures at { OnOk result (progress.new.at ≡ progress.old.at + factors_size (pack_factors (map view_factor factors.now))) }
+    ensures faults { OnOk result (AreNoted progress.old progress.new (rule.factors_faults (names_tree names.now) progress.old.at (pack_factors (map view_factor factors.now)))) }
     ensures meant { IfOk result (λ c. core_tree c ≡ rule.multiplied (names_tree names.now) (core_tree first) (pack_factors (map view_factor factors.now))) }
 {
     let mut core = first;
     for factor in factors {
-        core = check_factor(alloc, names, core, factor, walk)?;
+        core = check_factor(alloc, names, core, factor, progress)?;
     }
     Ok(core)
 }
@@ -344,24 +349,24 @@ fn check_factor(
     names: &Names,
     left: Option<terms::Term>,
     factor: &Factor,
-    walk: &mut Walk,
+    progress: &mut Progress,
 ) -> Result<Option<terms::Term>, AllocError>
-    requires room { walk.old.at + factor_size (view_factor factor.now) < 2 ^ 32 }
-    ensures at { OnOk result (walk.new.at ≡ walk.old.at + factor_size (view_factor factor.now)) }
-    ensures faults { OnOk result (least_tree walk.new.least ≡ keep (least_tree walk.old.least) (rule.factors_faults (names_tree names.now) walk.old.at (more_factors (view_factor factor.now) no_factor))) }
+    requires room { progress.old.at + factor_size (view_factor factor.now) < 2 ^ 32 }
+    ensures at { OnOk result (progress.new.at ≡ progress.old.at + factor_size (view_factor factor.now)) }
+    ensures faults { OnOk result (AreNoted progress.old progress.new (rule.factors_faults (names_tree names.now) progress.old.at (more_factors (view_factor factor.now) no_factor))) }
     ensures meant { IfOk result (λ c. core_tree c ≡ rule.multiplied (names_tree names.now) (core_tree left) (more_factors (view_factor factor.now) no_factor)) }
 {
-    walk.at += 1;
-    let place = walk.at;
+    progress.at += 1;
+    let place = progress.at;
     match factor {
         Factor::Times(term) => {
-            let right = check_term(alloc, names, term, walk)?;
-            let core = join_whole(alloc, Operator::Times, left, right, place, walk)?;
+            let right = check_term(alloc, names, term, progress)?;
+            let core = join_whole(alloc, Operator::Times, left, right, place, progress)?;
             Ok(core)
         }
         Factor::Modulo(divisor) => {
-            walk.at += 1;
-            walk.note_if(*divisor == 0, place, 12);
+            progress.at += 1;
+            progress.note_if(*divisor == 0, place, FaultKind::WrongType);
             let core = modulo_of(alloc, *divisor, left)?;
             Ok(core)
         }
@@ -375,19 +380,26 @@ fn check_addends(
     names: &Names,
     first: Option<terms::Term>,
     addends: &[Addend],
-    walk: &mut Walk,
+    progress: &mut Progress,
 ) -> Result<Option<terms::Term>, AllocError>
-    requires room { walk.old.at + addends_size (pack_addends (map view_addend addends.now)) < 2 ^ 32 }
-    ensures at { OnOk result (walk.new.at ≡ walk.old.at + addends_size (pack_addends (map view_addend addends.now))) }
-    ensures faults { OnOk result (least_tree walk.new.least ≡ keep (least_tree walk.old.least) (rule.addends_faults (names_tree names.now) walk.old.at (pack_addends (map view_addend addends.now)))) }
+    requires room { progress.old.at + addends_size (pack_addends (map view_addend addends.now)) < 2 ^ 32 }
+    ensures at { OnOk result (progress.new.at ≡ progress.old.at + addends_size (pack_addends (map view_addend addends.now))) }
+    ensures faults { OnOk result (AreNoted progress.old progress.new (rule.addends_faults (names_tree names.now) progress.old.at (pack_addends (map view_addend addends.now)))) }
     ensures meant { IfOk result (λ c. core_tree c ≡ rule.added (names_tree names.now) (core_tree first) (pack_addends (map view_addend addends.now))) }
 {
     let mut core = first;
     for addend in addends {
-        walk.at += 1;
-        let place = walk.at;
-        let right = check_term(alloc, names, &addend.term, walk)?;
-        core = join_whole(alloc, operator_of(addend.sign), core, right, place, walk)?;
+        progress.at += 1;
+        let place = progress.at;
+        let right = check_term(alloc, names, &addend.term, progress)?;
+        core = join_whole(
+            alloc,
+            operator_of(addend.sign),
+            core,
+            right,
+            place,
+            progress,
+        )?;
     }
     Ok(core)
 }
@@ -400,19 +412,19 @@ fn check_truths(
     operator: Operator,
     first: Option<terms::Term>,
     others: &[Term],
-    walk: &mut Walk,
+    progress: &mut Progress,
 ) -> Result<Option<terms::Term>, AllocError>
-    requires room { walk.old.at + joined_size (pack_terms (map view others.now)) < 2 ^ 32 }
-    ensures at { OnOk result (walk.new.at ≡ walk.old.at + joined_size (pack_terms (map view others.now))) }
-    ensures faults { OnOk result (least_tree walk.new.least ≡ keep (least_tree walk.old.least) (rule.truths_faults (names_tree names.now) walk.old.at (pack_terms (map view others.now)))) }
+    requires room { progress.old.at + joined_size (pack_terms (map view others.now)) < 2 ^ 32 }
+    ensures at { OnOk result (progress.new.at ≡ progress.old.at + joined_size (pack_terms (map view others.now))) }
+    ensures faults { OnOk result (AreNoted progress.old progress.new (rule.truths_faults (names_tree names.now) progress.old.at (pack_terms (map view others.now)))) }
     ensures meant { IfOk result (λ c. core_tree c ≡ rule.combined (names_tree names.now) operator (core_tree first) (pack_terms (map view others.now))) }
 {
     let mut core = first;
     for other in others {
-        walk.at += 1;
-        let place = walk.at;
-        let right = check_term(alloc, names, other, walk)?;
-        core = join_truth(alloc, operator, core, right, place, walk)?;
+        progress.at += 1;
+        let place = progress.at;
+        let right = check_term(alloc, names, other, progress)?;
+        core = join_truth(alloc, operator, core, right, place, progress)?;
     }
     Ok(core)
 }

@@ -2,14 +2,15 @@
 ghost use Rattle.std.specs.Prelude.{◌≡◌, IfOk};
 ghost use Rattle.terms.specs.TermTree.{term_tree};
 ghost use Rattle.ioa_typing.specs.KindViews.{shape_tree};
-ghost use Rattle.ioa_rules.specs.Faults.{keep};
 ghost use Rattle.ioa_rules.specs.Kinds as kinds;
 ghost use Rattle.ioa_rules.specs.TermRules as rule;
 ghost use Rattle.ioa_rules.specs.ValueRules as value;
-ghost use Rattle.ioa_typing.specs.TermViews.{core_tree, judged_tree, least_tree};
+ghost use Rattle.ioa_typing.specs.Noted.{AreNoted};
+ghost use Rattle.ioa_typing.specs.TermViews.{core_tree, judged_tree};
 
+use crate::fault::FaultKind;
+use crate::progress::Progress;
 use crate::shape::{Shape, fits, is_seq, is_truth, is_whole};
-use crate::walk::Walk;
 use std::alloc::{AllocError, Global};
 use terms::Term;
 
@@ -20,43 +21,43 @@ pub struct Typed<'a> {
     pub shape: Shape<'a>,
 }
 
-/// Notes a term that is no truth value (12).
-pub fn note_unless_truth(walk: &mut Walk, place: u32, typed: &Option<Typed<'_>>)
-    ensures at { walk.new.at ≡ walk.old.at }
-    ensures least { least_tree walk.new.least ≡ keep (least_tree walk.old.least) (rule.wants kinds.is_truth place (judged_tree typed.now)) }
+/// Notes a term that is no truth value: `WrongType`.
+pub fn note_unless_truth(progress: &mut Progress, place: u32, typed: &Option<Typed<'_>>)
+    ensures at { progress.new.at ≡ progress.old.at }
+    ensures least { AreNoted progress.old progress.new (rule.wants kinds.is_truth place (judged_tree typed.now)) }
 {
     if let Some(typed) = typed {
-        walk.note_if(!is_truth(typed.shape), place, 12);
+        progress.note_if(!is_truth(typed.shape), place, FaultKind::WrongType);
     }
 }
 
-/// Notes a term that is no whole number (12).
-pub fn note_unless_whole(walk: &mut Walk, place: u32, typed: &Option<Typed<'_>>)
-    ensures at { walk.new.at ≡ walk.old.at }
-    ensures least { least_tree walk.new.least ≡ keep (least_tree walk.old.least) (rule.wants kinds.is_whole place (judged_tree typed.now)) }
+/// Notes a term that is no whole number: `WrongType`.
+pub fn note_unless_whole(progress: &mut Progress, place: u32, typed: &Option<Typed<'_>>)
+    ensures at { progress.new.at ≡ progress.old.at }
+    ensures least { AreNoted progress.old progress.new (rule.wants kinds.is_whole place (judged_tree typed.now)) }
 {
     if let Some(typed) = typed {
-        walk.note_if(!is_whole(typed.shape), place, 12);
+        progress.note_if(!is_whole(typed.shape), place, FaultKind::WrongType);
     }
 }
 
-/// Notes a term that is no sequence (12).
-pub fn note_unless_seq(walk: &mut Walk, place: u32, typed: &Option<Typed<'_>>)
-    ensures at { walk.new.at ≡ walk.old.at }
-    ensures least { least_tree walk.new.least ≡ keep (least_tree walk.old.least) (rule.wants kinds.is_seq place (judged_tree typed.now)) }
+/// Notes a term that is no sequence: `WrongType`.
+pub fn note_unless_seq(progress: &mut Progress, place: u32, typed: &Option<Typed<'_>>)
+    ensures at { progress.new.at ≡ progress.old.at }
+    ensures least { AreNoted progress.old progress.new (rule.wants kinds.is_seq place (judged_tree typed.now)) }
 {
     if let Some(typed) = typed {
-        walk.note_if(!is_seq(typed.shape), place, 12);
+        progress.note_if(!is_seq(typed.shape), place, FaultKind::WrongType);
     }
 }
 
-/// Notes a term that doesn't fit a place of this kind (12).
-pub fn note_unfit(walk: &mut Walk, kind: Shape<'_>, place: u32, typed: &Option<Typed<'_>>)
-    ensures at { walk.new.at ≡ walk.old.at }
-    ensures least { least_tree walk.new.least ≡ keep (least_tree walk.old.least) (rule.unfit (shape_tree kind.entry) place (judged_tree typed.now)) }
+/// Notes a term that doesn't fit a place of this kind: `WrongType`.
+pub fn note_unfit(progress: &mut Progress, kind: Shape<'_>, place: u32, typed: &Option<Typed<'_>>)
+    ensures at { progress.new.at ≡ progress.old.at }
+    ensures least { AreNoted progress.old progress.new (rule.unfit (shape_tree kind.entry) place (judged_tree typed.now)) }
 {
     if let Some(typed) = typed {
-        walk.note_if(!fits(kind, typed.shape), place, 12);
+        progress.note_if(!fits(kind, typed.shape), place, FaultKind::WrongType);
     }
 }
 

@@ -1,6 +1,6 @@
 //! The checks of types.
 ghost use Rattle.std.specs.Prelude.{◌≡◌, ◌++◌, not, ◌+◌, ◌<◌, ◌^◌, int_lt, if◌then◌else◌, None, Some, OnOk, IfOk};
-ghost use Rattle.ioa_rules.specs.Faults.{keep, where_wrong};
+ghost use Rattle.ioa_rules.specs.Faults.{where_wrong};
 ghost use Rattle.ioa_rules.specs.Kinds as kinds;
 ghost use Rattle.ioa_rules.specs.Scopes.{named, is_type, kind_meant};
 ghost use Rattle.ioa_rules.specs.Sizes.{signed_size, type_size};
@@ -8,45 +8,46 @@ ghost use Rattle.ioa_rules.specs.TypeRules as rule;
 ghost use Rattle.ioa_trees.specs.Views.{view_type};
 ghost use Rattle.ioa_typing.specs.KindViews.{kind_tree, option_tree};
 ghost use Rattle.ioa_typing.specs.NameViews.{names_tree};
-ghost use Rattle.ioa_typing.specs.TermViews.{least_tree};
+ghost use Rattle.ioa_typing.specs.Noted.{AreNoted};
 
+use crate::fault::FaultKind;
 use crate::kind::{Kind, can_be_listed, copy_kind, count, is_scalar, weight};
 use crate::meaning::Meaning;
 use crate::names::Names;
-use crate::walk::Walk;
+use crate::progress::Progress;
 use ioa_trees::tree::{Signed, TypeTree};
 use std::alloc::{AllocError, Global};
 
-fn note_weight(walk: &mut Walk, place: u32, kind: &Option<Kind>)
-    ensures at { walk.new.at ≡ walk.old.at }
-    ensures least { least_tree walk.new.least ≡ keep (least_tree walk.old.least) (rule.overweight place (option_tree kind.now)) }
+fn note_weight(progress: &mut Progress, place: u32, kind: &Option<Kind>)
+    ensures at { progress.new.at ≡ progress.old.at }
+    ensures least { AreNoted progress.old progress.new (rule.overweight place (option_tree kind.now)) }
 {
     if let Some(kind) = kind {
-        walk.note_if(weight(kind) > 65_536, place, 17);
+        progress.note_if(weight(kind) > 65_536, place, FaultKind::OverLimit);
     }
 }
 
-/// Notes what isn't listed where it has to be: a kind that can't be (12), or has over 256 members (17).
-pub fn note_unlisted(walk: &mut Walk, place: u32, kind: &Option<Kind>)
-    ensures at { walk.new.at ≡ walk.old.at }
-    ensures least { least_tree walk.new.least ≡ keep (least_tree walk.old.least) (rule.unlisted place (option_tree kind.now)) }
+/// Notes what isn't listed where it has to be: a kind that can't be is of the `WrongType`, one of over 256 members is `OverLimit`.
+pub fn note_unlisted(progress: &mut Progress, place: u32, kind: &Option<Kind>)
+    ensures at { progress.new.at ≡ progress.old.at }
+    ensures least { AreNoted progress.old progress.new (rule.unlisted place (option_tree kind.now)) }
 {
     if let Some(kind) = kind {
         if can_be_listed(kind) {
-            walk.note_if(count(kind) > 256, place, 17);
+            progress.note_if(count(kind) > 256, place, FaultKind::OverLimit);
         } else {
-            walk.note_if(true, place, 12);
+            progress.note_if(true, place, FaultKind::WrongType);
         }
     }
 }
 
-/// Notes a kind that isn't scalar (12).
-pub fn note_unscalar(walk: &mut Walk, place: u32, kind: &Option<Kind>)
-    ensures at { walk.new.at ≡ walk.old.at }
-    ensures least { least_tree walk.new.least ≡ keep (least_tree walk.old.least) (rule.unscalar place (option_tree kind.now)) }
+/// Notes a kind that isn't scalar: `WrongType`.
+pub fn note_unscalar(progress: &mut Progress, place: u32, kind: &Option<Kind>)
+    ensures at { progress.new.at ≡ progress.old.at }
+    ensures least { AreNoted progress.old progress.new (rule.unscalar place (option_tree kind.now)) }
 {
     if let Some(kind) = kind {
-        walk.note_if(!is_scalar(kind), place, 12);
+        progress.note_if(!is_scalar(kind), place, FaultKind::WrongType);
     }
 }
 
@@ -92,15 +93,15 @@ fn end_seq(
     most: u64,
     at: u32,
     place: u32,
-    walk: &mut Walk,
+    progress: &mut Progress,
 ) -> Result<Option<Kind>, AllocError>
-    ensures at { OnOk result (walk.new.at ≡ walk.old.at) }
-    ensures faults { OnOk result (least_tree walk.new.least ≡ keep (least_tree walk.old.least) (where_wrong (rule.is_bad_bound most) place 17 ++ rule.overweight at (rule.seq_of most (option_tree item)))) }
+    ensures at { OnOk result (progress.new.at ≡ progress.old.at) }
+    ensures faults { OnOk result (AreNoted progress.old progress.new (where_wrong (rule.is_bad_bound most) place 17 ++ rule.overweight at (rule.seq_of most (option_tree item)))) }
     ensures kind { IfOk result (λ k. option_tree k ≡ rule.seq_of most (option_tree item)) }
 {
-    walk.note_if(is_bad_bound(most), place, 17);
+    progress.note_if(is_bad_bound(most), place, FaultKind::OverLimit);
     let kind = seq_of(alloc, item, most)?;
-    note_weight(walk, at, &kind);
+    note_weight(progress, at, &kind);
     Ok(kind)
 }
 
@@ -111,16 +112,16 @@ fn end_array(
     index: Option<Kind>,
     item: Option<Kind>,
     at: u32,
-    walk: &mut Walk,
+    progress: &mut Progress,
 ) -> Result<Option<Kind>, AllocError>
     requires { at + 2 < 2 ^ 32 }
-    ensures at { OnOk result (walk.new.at ≡ walk.old.at) }
-    ensures faults { OnOk result (least_tree walk.new.least ≡ keep (least_tree walk.old.least) (rule.unlisted (at + 2) (option_tree index) ++ rule.overweight at (rule.array_of (option_tree index) (option_tree item)))) }
+    ensures at { OnOk result (progress.new.at ≡ progress.old.at) }
+    ensures faults { OnOk result (AreNoted progress.old progress.new (rule.unlisted (at + 2) (option_tree index) ++ rule.overweight at (rule.array_of (option_tree index) (option_tree item)))) }
     ensures kind { IfOk result (λ k. option_tree k ≡ rule.array_of (option_tree index) (option_tree item)) }
 {
-    note_unlisted(walk, at + 2, &index);
+    note_unlisted(progress, at + 2, &index);
     let kind = array_of(alloc, index, item)?;
-    note_weight(walk, at, &kind);
+    note_weight(progress, at, &kind);
     Ok(kind)
 }
 
@@ -146,15 +147,15 @@ fn check_named(
     names: &Names,
     name: &str,
     at: u32,
-    walk: &mut Walk,
+    progress: &mut Progress,
 ) -> Result<Option<Kind>, AllocError>
-    ensures at { OnOk result (walk.new.at ≡ walk.old.at) }
-    ensures faults { OnOk result (least_tree walk.new.least ≡ keep (least_tree walk.old.least) (where_wrong (not (is_type (named name.now (names_tree names.now)))) at 10 ++ rule.overweight at (kind_meant (named name.now (names_tree names.now))))) }
+    ensures at { OnOk result (progress.new.at ≡ progress.old.at) }
+    ensures faults { OnOk result (AreNoted progress.old progress.new (where_wrong (not (is_type (named name.now (names_tree names.now)))) at 10 ++ rule.overweight at (kind_meant (named name.now (names_tree names.now))))) }
     ensures kind { IfOk result (λ k. option_tree k ≡ kind_meant (named name.now (names_tree names.now))) }
 {
-    walk.note_if(!is_type_named(names, name), at, 10);
+    progress.note_if(!is_type_named(names, name), at, FaultKind::UnknownName);
     let kind = kind_named(alloc, names, name)?;
-    note_weight(walk, at, &kind);
+    note_weight(progress, at, &kind);
     Ok(kind)
 }
 
@@ -190,49 +191,49 @@ pub fn check_type(
     alloc: Global,
     names: &Names,
     tree: &TypeTree,
-    walk: &mut Walk,
+    progress: &mut Progress,
 ) -> Result<Option<Kind>, AllocError>
-    requires room { walk.old.at + type_size (view_type tree.now) < 2 ^ 32 }
-    ensures at { OnOk result (walk.new.at ≡ walk.old.at + type_size (view_type tree.now)) }
-    ensures faults { OnOk result (least_tree walk.new.least ≡ keep (least_tree walk.old.least) (rule.type_faults (names_tree names.now) walk.old.at (view_type tree.now))) }
+    requires room { progress.old.at + type_size (view_type tree.now) < 2 ^ 32 }
+    ensures at { OnOk result (progress.new.at ≡ progress.old.at + type_size (view_type tree.now)) }
+    ensures faults { OnOk result (AreNoted progress.old progress.new (rule.type_faults (names_tree names.now) progress.old.at (view_type tree.now))) }
     ensures kind { IfOk result (λ k. option_tree k ≡ rule.kind_of (names_tree names.now) (view_type tree.now)) }
 {
-    let at = walk.at;
+    let at = progress.at;
     match tree {
         TypeTree::Bool => {
-            walk.at += 1;
+            progress.at += 1;
             Ok(Some(Kind::Truth))
         }
         TypeTree::Int => {
-            walk.at += 1;
+            progress.at += 1;
             Ok(Some(Kind::Whole))
         }
         TypeTree::Range(low, high) => {
-            walk.at += signed_size(*low) + 1 + signed_size(*high);
+            progress.at += signed_size(*low) + 1 + signed_size(*high);
             let (low, high) = (number(*low), number(*high));
-            walk.note_if(high < low, at, 12);
+            progress.note_if(high < low, at, FaultKind::WrongType);
             Ok(range_of(low, high))
         }
         TypeTree::Named(name) => {
-            walk.at += 1;
-            let kind = check_named(alloc, names, name.as_str(), at, walk)?;
+            progress.at += 1;
+            let kind = check_named(alloc, names, name.as_str(), at, progress)?;
             Ok(kind)
         }
         TypeTree::Seq(item, most) => {
-            walk.at += 2;
-            let item = check_type(alloc, names, item, walk)?;
-            let place = walk.at + 1;
-            walk.at += 3;
-            let kind = end_seq(alloc, item, *most, at, place, walk)?;
+            progress.at += 2;
+            let item = check_type(alloc, names, item, progress)?;
+            let place = progress.at + 1;
+            progress.at += 3;
+            let kind = end_seq(alloc, item, *most, at, place, progress)?;
             Ok(kind)
         }
         TypeTree::Array(index, item) => {
-            walk.at += 2;
-            let index = check_type(alloc, names, index, walk)?;
-            walk.at += 1;
-            let item = check_type(alloc, names, item, walk)?;
-            walk.at += 1;
-            let kind = end_array(alloc, index, item, at, walk)?;
+            progress.at += 2;
+            let index = check_type(alloc, names, index, progress)?;
+            progress.at += 1;
+            let item = check_type(alloc, names, item, progress)?;
+            progress.at += 1;
+            let kind = end_array(alloc, index, item, at, progress)?;
             Ok(kind)
         }
     }

@@ -9,7 +9,8 @@ use Rattle.ioa_typing.specs.NameViews.{names_tree}
 use Rattle.ioa_typing.specs.TermViews.{core_tree, least_tree}
 use Rattle.ioa_check.specs.ComponentParts.{argument_faults, first_kind, fitted_faults, is_there, other_kinds, where_wanted}
 use Rattle.ioa_entries.specs.EffectViews.{place_kind}
-use Rattle.ioa_check.specs.ListParts.{between, left_size}
+use Rattle.ioa_entries.specs.Between.{between}
+use Rattle.ioa_check.specs.ListParts.{left_size}
 use Rattle.ioa_check.proofs.Fitting.{argument_kept, first_at, others_at, there_at, value_kept, values_end}
 use Rattle.ioa_check.proofs.Rows.{left_sized}
 use Rattle.ioa_typing.proofs.Items.{drop_at}
@@ -22,25 +23,25 @@ loop-number-preserved c =
     let formals = map option_tree c.args.formals.now in
     let ks = drop l.number formals in
     let later = drop (l.number + 1) formals in
-    let walk = c.check_argument.new.walk in
+    let progress = c.check_argument.new.progress in
     let t = view c.index-arguments-number.result in
     let left = map view (drop (l.number + 1) c.args.arguments.now) in
-    let place = l.walk.at + between l.is_first in
+    let place = l.progress.at + between l.is_first in
     let split : map view (drop l.number c.args.arguments.now) ≡ t ∷ left = ap (map view) (drop_at c.args.arguments.now l.number c.index-arguments-number.result c.index-arguments-number.is c.loop-number-test.true) in
-    let at : l.walk.at + left_size l.is_first size (t ∷ left) ≡ c.args.walk.now.at + listed_size size (map view c.args.arguments.now) = ap (λ r. l.walk.at + left_size l.is_first size r) (sym split) ∙ l.invariant.at in
-    let next : walk.at ≡ place + size t = search rules in
+    let at : l.progress.at + left_size l.is_first size (t ∷ left) ≡ c.args.progress.now.at + listed_size size (map view c.args.arguments.now) = ap (λ r. l.progress.at + left_size l.is_first size r) (sym split) ∙ l.invariant.at in
+    let next : progress.at ≡ place + size t = search rules in
     let k = place_kind c.place_of-kind.result in
     let kind : k ≡ first_kind ks = c.place_of-kind.ensures ∙ sym (first_at formals l.number) in
     let others : later ≡ other_kinds ks = others_at formals l.number in
-    let noted : least_tree walk.least ≡ keep (least_tree l.walk.least) (argument_faults s k place t) = search rules in
+    let noted : least_tree progress.least ≡ keep (least_tree l.progress.least) (argument_faults s k place t) = search rules in
     let value : core_tree c.in_ok-value.value ≡ placed_argument s (first_kind ks) t = c.in_ok-value.ensures.value ∙ ap (λ j. placed_argument s j t) kind in
     let wanted = nat_lt l.number (length c.args.formals.now) in
     let there : wanted ≡ is_there ks = ap (nat_lt l.number) (sym (length-map c.args.formals.now option_tree)) ∙ there_at formals l.number in
     let put : c.keep_value.new.values.items ≡ l.values.items ++ where_wanted wanted c.in_ok-value.value = search rules in
     record {
       at = omega (arith, at, next, left_sized size l.is_first t left);
-      faults = argument_kept s ks later k place walk.at t left (least_tree l.walk.least) (least_tree walk.least) noted kind others next
-          ∙ ap (λ r. keep (least_tree l.walk.least) (fitted_faults s ks place r)) (sym split) ∙ l.invariant.faults;
+      faults = argument_kept s ks later k place progress.at t left (least_tree l.progress.least) (least_tree progress.least) noted kind others next
+          ∙ ap (λ r. keep (least_tree l.progress.least) (fitted_faults s ks place r)) (sym split) ∙ l.invariant.faults;
       values = value_kept s ks later wanted t left c.in_ok-value.value l.values.items c.keep_value.new.values.items _ others there value put
           (ap (λ r. map core_tree l.values.items ++ placed_arguments s ks r) (sym split) ∙ l.invariant.values);
     }

@@ -13,6 +13,6 @@ returns-clause-faults c =
     let s = names_tree c.args.names.now in
     let ks = map option_tree c.args.formals.now in
     let ts = map view c.args.arguments.now in
-    let place = c.args.walk.now.at + bracket ts in
-    let noted : least_tree c.check_arguments.new.walk.least ≡ keep (least_tree c.args.walk.now.least) (fitted_faults s ks place ts) = search rules in
-    bracketed_noted s ks c.args.walk.now.at place ts (least_tree c.args.walk.now.least) (least_tree c.check_arguments.new.walk.least) noted refl
+    let place = c.args.progress.now.at + bracket ts in
+    let noted : least_tree c.check_arguments.new.progress.least ≡ keep (least_tree c.args.progress.now.least) (fitted_faults s ks place ts) = search rules in
+    bracketed_noted s ks c.args.progress.now.at place ts (least_tree c.args.progress.now.least) (least_tree c.check_arguments.new.progress.least) noted refl

@@ -11,11 +11,11 @@ use Rattle.ioa_check.proofs.automata.check_automata.Given as goal
 
 abbrev pub invariant-loop-automaton : goal.invariant-loop-automaton
 invariant-loop-automaton l = record {
-  at : l.walk.at + automata_size (map view_automaton (drop l.automaton-index l.automata)) ≡ l.initial.walk.at + automata_size (map view_automaton l.automata);
+  at : l.progress.at + automata_size (map view_automaton (drop l.automaton-index l.automata)) ≡ l.initial.progress.at + automata_size (map view_automaton l.automata);
   names : with_automata (names_tree l.names) (length l.meant.items) (map view_automaton (drop l.automaton-index l.automata)) ≡ with_automata (names_tree l.initial.names) 0 (map view_automaton l.automata);
   used : (q : List ℕ) → (list_any (bytes_eq q) (all_locals (map view_automaton (drop l.automaton-index l.automata))) || list_any (bytes_eq q) (used_names l.used))
       ≡ (list_any (bytes_eq q) (all_locals (map view_automaton l.automata)) || list_any (bytes_eq q) (used_names l.initial.used));
-  faults : keep (least_tree l.walk.least) (automata_faults (names_tree l.names) (used_names l.used) (length l.meant.items) l.walk.at (map view_automaton (drop l.automaton-index l.automata)))
-      ≡ keep (least_tree l.initial.walk.least) (automata_faults (names_tree l.initial.names) (used_names l.initial.used) 0 l.initial.walk.at (map view_automaton l.automata));
+  faults : keep (least_tree l.progress.least) (automata_faults (names_tree l.names) (used_names l.used) (length l.meant.items) l.progress.at (map view_automaton (drop l.automaton-index l.automata)))
+      ≡ keep (least_tree l.initial.progress.least) (automata_faults (names_tree l.initial.names) (used_names l.initial.used) 0 l.initial.progress.at (map view_automaton l.automata));
   meant : map automaton_tree l.meant.items ++ meanings_of (names_tree l.names) (length l.meant.items) (map view_automaton (drop l.automaton-index l.automata)) ≡ meanings_of (names_tree l.initial.names) 0 (map view_automaton l.automata);
 }

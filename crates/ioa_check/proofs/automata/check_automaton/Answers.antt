@@ -19,8 +19,8 @@ returns-clause-faults c =
     let noted = c.note_if.new.self in
     let used = used_names c.args.used.now in
     let taken : c.is_taken-taken.result ≡ (is_some (named a.name s) || list_any (bytes_eq a.name) used) = c.is_taken-taken.ensures ∙ ap (λ q. is_some (named q s) || list_any (bytes_eq q) used) c.as_str.ensures.value in
-    automaton_noted s t used c.args.number c.args.walk.now.at a c.is_taken-taken.result
-    (least_tree c.args.walk.now.least) (least_tree noted.least) (least_tree c.check_inside.new.walk.least)
+    automaton_noted s t used c.args.number c.args.progress.now.at a c.is_taken-taken.result
+    (least_tree c.args.progress.now.least) (least_tree noted.least) (least_tree c.check_inside.new.progress.least)
     c.note_if.ensures.least taken (c.in_ok-meant.ensures.faults ∙ ap (λ n. keep (least_tree noted.least) (body_faults t n a)) c.note_if.ensures.at) c.in_ok-declare.ensures.names
 
 pub returns-clause-meant : goal.returns-clause-meant

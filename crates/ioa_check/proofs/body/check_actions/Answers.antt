@@ -15,12 +15,12 @@ pub returns-clause-faults : goal.returns-clause-faults
 returns-clause-faults c =
     let a = view_automaton c.args.automaton.now in
     let s = names_tree c.args.names.now in
-    let at = c.args.walk.now.at in
-    let place = c.check_transitions.new.walk.at in
+    let at = c.args.progress.now.at in
+    let place = c.check_transitions.new.progress.at in
     let w = c.word-ahead.result in
-    let o = least_tree c.args.walk.now.least in
-    let p = least_tree c.check_transitions.new.walk.least in
-    let z = least_tree c.check_tasks.new.walk.least in
+    let o = least_tree c.args.progress.now.least in
+    let p = least_tree c.check_transitions.new.progress.least in
+    let z = least_tree c.check_tasks.new.progress.least in
     let entries = c.as_slice-entries.ensures.value in
     let transitions = c.as_slice-transitions.ensures.value in
     let tasks = c.as_slice-tasks.ensures.value in

@@ -19,8 +19,8 @@ returns-clause-names c =
 pub returns-clause-faults : goal.returns-clause-faults
 returns-clause-faults c =
     body_noted (names_tree c.args.names.now) (names_tree c.check_front.new.names) (names_tree c.check_states.new.names)
-    c.args.walk.now.at c.check_front.new.walk.at c.check_states.new.walk.at (view_automaton c.args.automaton.now)
-    (least_tree c.args.walk.now.least) (least_tree c.check_front.new.walk.least) (least_tree c.check_states.new.walk.least) (least_tree c.check_actions.new.walk.least)
+    c.args.progress.now.at c.check_front.new.progress.at c.check_states.new.progress.at (view_automaton c.args.automaton.now)
+    (least_tree c.args.progress.now.least) (least_tree c.check_front.new.progress.least) (least_tree c.check_states.new.progress.least) (least_tree c.check_actions.new.progress.least)
     c.in_ok-formals.ensures.faults c.in_ok-formals.ensures.names c.in_ok-formals.ensures.at
     c.in_ok-cells.ensures.faults c.in_ok-cells.ensures.names c.in_ok-cells.ensures.at c.in_ok-entries.ensures.faults
 

@@ -12,7 +12,7 @@ pub returns-clause-faults : goal.returns-clause-faults
 returns-clause-faults c =
     let s = names_tree c.args.names.now in
     let ds = map view_declared c.args.formals.now in
-    let at = c.args.walk.now.at in
-    let o = least_tree c.args.walk.now.least in
+    let at = c.args.progress.now.at in
+    let o = least_tree c.args.progress.now.least in
     let is : c.word-bracket.result ≡ word ds = c.word-bracket.ensures ∙ word_map view_declared c.args.formals.now in
     c.in_ok-kinds.ensures.faults ∙ ap (λ n. keep o (formals_faults s 0 (at + n) ds)) is ∙ ap (keep o) (formals_place s at ds)

@@ -15,12 +15,12 @@ returns-clause-faults c =
     let a = view_automaton c.args.automaton.now in
     let s = names_tree c.args.names.now in
     let t = names_tree c.check_bracketed.new.names in
-    let at = c.args.walk.now.at in
+    let at = c.args.progress.now.at in
     let here = c.note_if.new.self.at + 2 in
-    let place = c.check_bracketed.new.walk.at + 1 in
+    let place = c.check_bracketed.new.progress.at + 1 in
     let p = least_tree c.note_if.new.self.least in
-    let q = least_tree c.check_bracketed.new.walk.least in
-    let z = least_tree c.check_entries.new.walk.least in
+    let q = least_tree c.check_bracketed.new.progress.least in
+    let z = least_tree c.check_entries.new.progress.least in
     let is = c.as_slice-formals.ensures.value in
     let sized : bracketed_size declared_size (map view_declared c.as_slice-formals.result.now) ≡ bracketed_size declared_size a.formals = ap (λ xs. bracketed_size declared_size (map view_declared xs)) is in
     let opened : here ≡ at + 2 = omega (arith, c.note_if.ensures.at) in
@@ -32,4 +32,4 @@ returns-clause-faults c =
     ∙ ap (λ xs. keep q (entries_faults t [] (map view_transition xs) (task_names c.as_slice-tasks.result.now) place (map view_entry c.as_slice-entries.result.now))) c.as_slice-transitions.ensures.value
     ∙ ap (λ xs. keep q (entries_faults t [] a.transitions (task_names xs) place (map view_entry c.as_slice-entries.result.now))) c.as_slice-tasks.ensures.value
     ∙ ap (λ xs. keep q (entries_faults t [] a.transitions a.tasks place (map view_entry xs))) c.as_slice-entries.ensures.value in
-    front_noted s t at here place a c.is_long.result (least_tree c.args.walk.now.least) p q z c.note_if.ensures.least long second opened third scope next
+    front_noted s t at here place a c.is_long.result (least_tree c.args.progress.now.least) p q z c.note_if.ensures.least long second opened third scope next

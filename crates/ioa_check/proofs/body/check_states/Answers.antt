@@ -20,8 +20,8 @@ pub returns-clause-faults : goal.returns-clause-faults
 returns-clause-faults c =
     let s = names_tree c.args.names.now in
     let a = view_automaton c.args.automaton.now in
-    let at = c.args.walk.now.at in
-    let o = least_tree c.args.walk.now.least in
+    let at = c.args.progress.now.at in
+    let o = least_tree c.args.progress.now.least in
     let w = c.word-ahead.result in
     let here = map view_variable c.as_slice-variables.result.now in
     let names = entry_names (map view_entry c.as_slice-entries.result.now) in

@@ -22,7 +22,7 @@ returns-in-Some-clause-refused c =
     let kept : keep None (source_faults x) ≡ Some f =
     sym (c.in_ok-meant.ensures.least ∙ ap (λ t. keep None (source_faults (view_source t))) c.tree.ensures.same) ∙ ap least_tree c.in-Some.is in
     let least : IsLeast f (source_faults x) = c.least_law.ensures.least (source_faults x) f kept in
-    told x c.refusal.result f least c.refusal.ensures.place (c.refusal.ensures.number (c.number_law.ensures x f least.is_one))
+    told x c.refusal.result f least c.refusal.ensures.place c.refusal.ensures.number
 
 pub resolve-requires : goal.resolve-requires
 resolve-requires c =

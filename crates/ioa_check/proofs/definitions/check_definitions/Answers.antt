@@ -16,7 +16,7 @@ check_definition-requires-clause-few c =
     let d = view_type_definition c.definition-item.result in
     let left = map view_type_definition (drop (l.definition-index + 1) c.args.definitions.now) in
     let split : map view_type_definition (drop l.definition-index c.args.definitions.now) ≡ d ∷ left = ap (map view_type_definition) (drop_at c.args.definitions.now l.definition-index c.definition-item.result c.definition-item.is c.loop-definition-test.true) in
-    let at : l.walk.at + definitions_size (d ∷ left) ≡ c.args.walk.now.at + definitions_size (map view_type_definition c.args.definitions.now) = ap (λ r. l.walk.at + definitions_size r) (sym split) ∙ l.invariant.at in
+    let at : l.progress.at + definitions_size (d ∷ left) ≡ c.args.progress.now.at + definitions_size (map view_type_definition c.args.definitions.now) = ap (λ r. l.progress.at + definitions_size r) (sym split) ∙ l.invariant.at in
     let few : length (members_in d.body) ≤ body_size d.body = few_members d.body in
     omega (arith, at, few, l.invariant.low, c.requires.room)
 
@@ -26,7 +26,7 @@ overflow_cast-first c =
     let d = view_type_definition c.definition-item.result in
     let left = map view_type_definition (drop (l.definition-index + 1) c.args.definitions.now) in
     let split : map view_type_definition (drop l.definition-index c.args.definitions.now) ≡ d ∷ left = ap (map view_type_definition) (drop_at c.args.definitions.now l.definition-index c.definition-item.result c.definition-item.is c.loop-definition-test.true) in
-    let at : l.walk.at + definitions_size (d ∷ left) ≡ c.args.walk.now.at + definitions_size (map view_type_definition c.args.definitions.now) = ap (λ r. l.walk.at + definitions_size r) (sym split) ∙ l.invariant.at in
+    let at : l.progress.at + definitions_size (d ∷ left) ≡ c.args.progress.now.at + definitions_size (map view_type_definition c.args.definitions.now) = ap (λ r. l.progress.at + definitions_size r) (sym split) ∙ l.invariant.at in
     let few : length (members_in d.body) ≤ body_size d.body = few_members d.body in
     let all : c.len-first.result ≡ length c.push_members.new.members.items = search rules in
     let number : c.len-first.result ≡ l.first + length (members_in d.body) = counted string_bytes l.members.items c.push_members.new.members.items (members_in d.body) l.first c.len-first.result c.in_ok-push_members.ensures l.invariant.number all in
@@ -38,8 +38,8 @@ loop-definition-preserved c =
     let d = view_type_definition c.definition-item.result in
     let left = map view_type_definition (drop (l.definition-index + 1) c.args.definitions.now) in
     let split : map view_type_definition (drop l.definition-index c.args.definitions.now) ≡ d ∷ left = ap (map view_type_definition) (drop_at c.args.definitions.now l.definition-index c.definition-item.result c.definition-item.is c.loop-definition-test.true) in
-    let at : l.walk.at + definitions_size (d ∷ left) ≡ c.args.walk.now.at + definitions_size (map view_type_definition c.args.definitions.now) = ap (λ r. l.walk.at + definitions_size r) (sym split) ∙ l.invariant.at in
-    let after : c.check_definition.new.walk.at ≡ l.walk.at + definition_size d = c.in_ok-check_definition.ensures.at in
+    let at : l.progress.at + definitions_size (d ∷ left) ≡ c.args.progress.now.at + definitions_size (map view_type_definition c.args.definitions.now) = ap (λ r. l.progress.at + definitions_size r) (sym split) ∙ l.invariant.at in
+    let after : c.check_definition.new.progress.at ≡ l.progress.at + definition_size d = c.in_ok-check_definition.ensures.at in
     let few : length (members_in d.body) ≤ body_size d.body = few_members d.body in
     let all : c.len-first.result ≡ length c.push_members.new.members.items = search rules in
     let number : c.len-first.result ≡ l.first + length (members_in d.body) = counted string_bytes l.members.items c.push_members.new.members.items (members_in d.body) l.first c.len-first.result c.in_ok-push_members.ensures l.invariant.number all in
@@ -48,7 +48,7 @@ loop-definition-preserved c =
       low = omega (arith, after, few, number, l.invariant.low);
       number = all ∙ sym (length_same string_bytes c.push_members.new.members.items);
       names = definitions_named (names_tree l.names) (names_tree c.check_definition.new.names) l.first c.len-first.result d left c.in_ok-check_definition.ensures.names number ∙ ap (with_definitions (names_tree l.names) l.first) (sym split) ∙ l.invariant.names;
-      faults = definitions_kept (names_tree l.names) (names_tree c.check_definition.new.names) l.first c.len-first.result l.walk.at c.check_definition.new.walk.at d left (least_tree l.walk.least) (least_tree c.check_definition.new.walk.least) c.in_ok-check_definition.ensures.faults c.in_ok-check_definition.ensures.names number after
-          ∙ ap (λ r. keep (least_tree l.walk.least) (definitions_faults (names_tree l.names) l.first l.walk.at r)) (sym split) ∙ l.invariant.faults;
+      faults = definitions_kept (names_tree l.names) (names_tree c.check_definition.new.names) l.first c.len-first.result l.progress.at c.check_definition.new.progress.at d left (least_tree l.progress.least) (least_tree c.check_definition.new.progress.least) c.in_ok-check_definition.ensures.faults c.in_ok-check_definition.ensures.names number after
+          ∙ ap (λ r. keep (least_tree l.progress.least) (definitions_faults (names_tree l.names) l.first l.progress.at r)) (sym split) ∙ l.invariant.faults;
       members = pushed_all (map string_bytes l.members.items) (map string_bytes c.push_members.new.members.items) (members_in d.body) (all_members left) _ c.in_ok-push_members.ensures (ap (λ r. map string_bytes l.members.items ++ all_members r) (sym split) ∙ l.invariant.members);
     }

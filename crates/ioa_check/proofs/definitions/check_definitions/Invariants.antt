@@ -8,11 +8,11 @@ use Rattle.ioa_check.proofs.definitions.check_definitions.Given as goal
 
 abbrev pub invariant-loop-definition : goal.invariant-loop-definition
 invariant-loop-definition l = record {
-  at : l.walk.at + definitions_size (map view_type_definition (drop l.definition-index l.definitions)) ≡ l.initial.walk.at + definitions_size (map view_type_definition l.definitions);
-  low : l.first ≤ l.walk.at;
+  at : l.progress.at + definitions_size (map view_type_definition (drop l.definition-index l.definitions)) ≡ l.initial.progress.at + definitions_size (map view_type_definition l.definitions);
+  low : l.first ≤ l.progress.at;
   number : l.first ≡ length (map string_bytes l.members.items);
   names : with_definitions (names_tree l.names) l.first (map view_type_definition (drop l.definition-index l.definitions)) ≡ with_definitions (names_tree l.initial.names) 0 (map view_type_definition l.definitions);
-  faults : keep (least_tree l.walk.least) (definitions_faults (names_tree l.names) l.first l.walk.at (map view_type_definition (drop l.definition-index l.definitions)))
-      ≡ keep (least_tree l.initial.walk.least) (definitions_faults (names_tree l.initial.names) 0 l.initial.walk.at (map view_type_definition l.definitions));
+  faults : keep (least_tree l.progress.least) (definitions_faults (names_tree l.names) l.first l.progress.at (map view_type_definition (drop l.definition-index l.definitions)))
+      ≡ keep (least_tree l.initial.progress.least) (definitions_faults (names_tree l.initial.names) 0 l.initial.progress.at (map view_type_definition l.definitions));
   members : map string_bytes l.members.items ++ all_members (map view_type_definition (drop l.definition-index l.definitions)) ≡ all_members (map view_type_definition l.definitions);
 }

@@ -17,15 +17,15 @@ loop-name-preserved c =
     let es = map view_entry c.args.entries.now in
     let before = used_names l.used in
     let after = used_names c.check_name.new.used in
-    let walk = c.check_name.new.walk in
+    let progress = c.check_name.new.progress in
     let q = string_bytes c.name-item.result in
     let left = map string_bytes (drop (l.name-index + 1) c.args.task.now) in
     let split : map string_bytes (drop l.name-index c.args.task.now) ≡ q ∷ left = ap (map string_bytes) (drop_at c.args.task.now l.name-index c.name-item.result c.name-item.is c.loop-name-test.true) in
-    let place : walk.at ≡ l.walk.at + 1 = c.in_ok-check_name.ensures.at in
-    let noted : least_tree walk.least ≡ keep (least_tree l.walk.least) (where_wrong (is_wrong_name es before q) (l.walk.at + 1) 16) = c.in_ok-check_name.ensures.faults in
+    let place : progress.at ≡ l.progress.at + 1 = c.in_ok-check_name.ensures.at in
+    let noted : least_tree progress.least ≡ keep (least_tree l.progress.least) (where_wrong (is_wrong_name es before q) (l.progress.at + 1) 16) = c.in_ok-check_name.ensures.faults in
     record {
       at = omega (arith, place, l.invariant.at);
       names = λ r. one_added q r left after before _ (c.in_ok-check_name.ensures.names r) (ap (λ xs. list_any (bytes_eq r) xs || list_any (bytes_eq r) before) (sym split) ∙ l.invariant.names r);
-      faults = name_kept es before after (l.walk.at + 1) (walk.at + 1 + 1) q left (least_tree l.walk.least) (least_tree walk.least) noted c.in_ok-check_name.ensures.names (omega (arith, place))
-          ∙ ap (λ xs. keep (least_tree l.walk.least) (task_faults es before (l.walk.at + 1) xs)) (sym split) ∙ l.invariant.faults;
+      faults = name_kept es before after (l.progress.at + 1) (progress.at + 1 + 1) q left (least_tree l.progress.least) (least_tree progress.least) noted c.in_ok-check_name.ensures.names (omega (arith, place))
+          ∙ ap (λ xs. keep (least_tree l.progress.least) (task_faults es before (l.progress.at + 1) xs)) (sym split) ∙ l.invariant.faults;
     }

@@ -9,9 +9,9 @@ use Rattle.ioa_check.proofs.tasks.check_names.Given as goal
 
 abbrev pub invariant-loop-name : goal.invariant-loop-name
 invariant-loop-name l = record {
-  at : l.walk.at ≡ l.initial.walk.at + 2 * l.name-index;
+  at : l.progress.at ≡ l.initial.progress.at + 2 * l.name-index;
   names : (q : List ℕ) → (list_any (bytes_eq q) (map string_bytes (drop l.name-index l.task)) || list_any (bytes_eq q) (used_names l.used))
       ≡ (list_any (bytes_eq q) (map string_bytes l.task) || list_any (bytes_eq q) (used_names l.initial.used));
-  faults : keep (least_tree l.walk.least) (task_faults (map view_entry l.entries) (used_names l.used) (l.walk.at + 1) (map string_bytes (drop l.name-index l.task)))
-      ≡ keep (least_tree l.initial.walk.least) (task_faults (map view_entry l.entries) (used_names l.initial.used) (l.initial.walk.at + 1) (map string_bytes l.task));
+  faults : keep (least_tree l.progress.least) (task_faults (map view_entry l.entries) (used_names l.used) (l.progress.at + 1) (map string_bytes (drop l.name-index l.task)))
+      ≡ keep (least_tree l.initial.progress.least) (task_faults (map view_entry l.entries) (used_names l.initial.used) (l.initial.progress.at + 1) (map string_bytes l.task));
 }

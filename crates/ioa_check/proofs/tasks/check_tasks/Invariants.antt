@@ -10,7 +10,7 @@ use Rattle.ioa_check.proofs.tasks.check_tasks.Given as goal
 
 abbrev pub invariant-loop-task : goal.invariant-loop-task
 invariant-loop-task l = record {
-  at : l.walk.at + row_size task_size (task_names (drop l.task-index l.tasks)) ≡ l.initial.walk.at + row_size task_size (task_names l.tasks);
-  faults : keep (least_tree l.walk.least) (tasks_faults (map view_entry l.entries) (used_names l.used) l.walk.at (task_names (drop l.task-index l.tasks)))
-      ≡ keep (least_tree l.initial.walk.least) (tasks_faults (map view_entry l.entries) [] l.initial.walk.at (task_names l.tasks));
+  at : l.progress.at + row_size task_size (task_names (drop l.task-index l.tasks)) ≡ l.initial.progress.at + row_size task_size (task_names l.tasks);
+  faults : keep (least_tree l.progress.least) (tasks_faults (map view_entry l.entries) (used_names l.used) l.progress.at (task_names (drop l.task-index l.tasks)))
+      ≡ keep (least_tree l.initial.progress.least) (tasks_faults (map view_entry l.entries) [] l.initial.progress.at (task_names l.tasks));
 }

@@ -15,13 +15,13 @@ pub returns-clause-faults : goal.returns-clause-faults
 returns-clause-faults c =
     let s = names_tree c.args.names.now in
     let used = used_names c.args.used.now in
-    let at = c.args.walk.now.at in
+    let at = c.args.progress.now.at in
     let v = view_variable c.args.variable.now in
-    let head = c.check_head.new.walk in
+    let head = c.check_head.new.progress in
     let place = head.at + 1 in
     let k = option_tree c.in_ok-kind.kind in
-    let first : least_tree head.least ≡ keep (least_tree c.args.walk.now.least) (head_faults s used c.args.before at v.declared) = search rules in
-    let second : least_tree c.check_start.new.walk.least ≡ keep (least_tree head.least) (start_faults s k place v.start) = search rules in
+    let first : least_tree head.least ≡ keep (least_tree c.args.progress.now.least) (head_faults s used c.args.before at v.declared) = search rules in
+    let second : least_tree c.check_start.new.progress.least ≡ keep (least_tree head.least) (start_faults s k place v.start) = search rules in
     let kind : k ≡ kind_of s v.declared.of = search rules in
     let here : place ≡ at + type_size v.declared.of + 3 = search (rules, arith) in
-    variable_noted s used c.args.before at place k v (least_tree c.args.walk.now.least) (least_tree head.least) (least_tree c.check_start.new.walk.least) first second kind here
+    variable_noted s used c.args.before at place k v (least_tree c.args.progress.now.least) (least_tree head.least) (least_tree c.check_start.new.progress.least) first second kind here

@@ -9,7 +9,8 @@ use Rattle.ioa_typing.specs.KindViews.{capped}
 use Rattle.ioa_typing.specs.NameViews.{names_tree}
 use Rattle.ioa_typing.specs.TermViews.{least_tree}
 use Rattle.ioa_check.specs.AutomatonParts.{kind_in, start_in, variable_names}
-use Rattle.ioa_check.specs.ListParts.{between, left_size}
+use Rattle.ioa_entries.specs.Between.{between}
+use Rattle.ioa_check.specs.ListParts.{left_size}
 use Rattle.ioa_check.specs.AutomatonViews.{cell_kind, cell_start, used_names}
 use Rattle.ioa_check.proofs.Cells.{joined_is, variable_kept, variables_same}
 use Rattle.ioa_check.proofs.Rows.{left_sized}
@@ -23,16 +24,16 @@ loop-variable-preserved c =
     let s = names_tree c.args.names.now in
     let before = used_names l.used in
     let after = used_names c.check_variable.new.used in
-    let walk = c.check_variable.new.walk in
+    let progress = c.check_variable.new.progress in
     let x = c.variable-item.result in
     let v = view_variable x in
     let others = drop (l.variable-index + 1) c.args.variables.now in
     let left = map view_variable others in
-    let place = l.walk.at + between l.is_first in
+    let place = l.progress.at + between l.is_first in
     let split : map view_variable (drop l.variable-index c.args.variables.now) ≡ v ∷ left = ap (map view_variable) (drop_at c.args.variables.now l.variable-index x c.variable-item.is c.loop-variable-test.true) in
-    let at : l.walk.at + left_size l.is_first variable_size (v ∷ left) ≡ c.args.walk.now.at + listed_size variable_size (map view_variable c.args.variables.now) = ap (λ r. l.walk.at + left_size l.is_first variable_size r) (sym split) ∙ l.invariant.at in
-    let next : walk.at ≡ place + variable_size v = search rules in
-    let noted : least_tree walk.least ≡ keep (least_tree l.walk.least) (variable_faults s before l.total place v) = search rules in
+    let at : l.progress.at + left_size l.is_first variable_size (v ∷ left) ≡ c.args.progress.now.at + listed_size variable_size (map view_variable c.args.variables.now) = ap (λ r. l.progress.at + left_size l.is_first variable_size r) (sym split) ∙ l.invariant.at in
+    let next : progress.at ≡ place + variable_size v = search rules in
+    let noted : least_tree progress.least ≡ keep (least_tree l.progress.least) (variable_faults s before l.total place v) = search rules in
     let names : (r : List ℕ) → list_any (bytes_eq r) after ≡ (bytes_eq r v.declared.name || list_any (bytes_eq r) before) = c.in_ok-cell.ensures.names in
     let kind : cell_kind c.in_ok-cell.cell ≡ kind_in s v = c.in_ok-cell.ensures.kind in
     let weight : c.weight_of.result ≡ capped (weight_of (kind_in s v)) = c.weight_of.ensures ∙ ap (λ k. capped (weight_of k)) kind in
@@ -40,8 +41,8 @@ loop-variable-preserved c =
     record {
       at = omega (arith, at, next, left_sized variable_size l.is_first v left);
       names = λ r. one_added v.declared.name r (variable_names left) after before _ (names r) (ap (λ xs. list_any (bytes_eq r) (variable_names xs) || list_any (bytes_eq r) before) (sym split) ∙ l.invariant.names r);
-      faults = variable_kept s before after l.total c.joined_weight-total.result place walk.at v left (least_tree l.walk.least) (least_tree walk.least) noted names total next
-          ∙ ap (λ r. keep (least_tree l.walk.least) (variables_faults s before l.total place r)) (sym split) ∙ l.invariant.faults;
+      faults = variable_kept s before after l.total c.joined_weight-total.result place progress.at v left (least_tree l.progress.least) (least_tree progress.least) noted names total next
+          ∙ ap (λ r. keep (least_tree l.progress.least) (variables_faults s before l.total place r)) (sym split) ∙ l.invariant.faults;
       kinds = push_step cell_kind l.cells.items c.push.new.self.items c.in_ok-cell.cell (kind_in s v) (map (kind_in s) left) _ c.in_ok-push.ensures.items kind (ap (λ r. map cell_kind l.cells.items ++ map (kind_in s) r) (sym split) ∙ l.invariant.kinds);
       starts = push_step cell_start l.cells.items c.push.new.self.items c.in_ok-cell.cell (start_in s v) (map (start_in s) left) _ c.in_ok-push.ensures.items c.in_ok-cell.ensures.start (ap (λ r. map cell_start l.cells.items ++ map (start_in s) r) (sym split) ∙ l.invariant.starts);
     }
@@ -58,6 +59,6 @@ returns-clause-faults c =
     let s = names_tree c.args.names.now in
     let vs = map view_variable c.args.variables.now in
     let none : drop l.variable-index c.args.variables.now ≡ [] = drop_all l.variable-index c.args.variables.now c.loop-variable-test.false in
-    let kept : least_tree l.walk.least ≡ keep (least_tree c.args.walk.now.least) (variables_faults s (used_names c.args.used.now) 0 c.args.walk.now.at vs)
-    = ap (λ xs. keep (least_tree l.walk.least) (variables_faults s (used_names l.used) l.total (l.walk.at + between l.is_first) (map view_variable xs))) (sym none) ∙ l.invariant.faults in
-    λ L same. kept ∙ ap (keep (least_tree c.args.walk.now.least)) (variables_same s (used_names c.args.used.now) L 0 0 c.args.walk.now.at vs refl same)
+    let kept : least_tree l.progress.least ≡ keep (least_tree c.args.progress.now.least) (variables_faults s (used_names c.args.used.now) 0 c.args.progress.now.at vs)
+    = ap (λ xs. keep (least_tree l.progress.least) (variables_faults s (used_names l.used) l.total (l.progress.at + between l.is_first) (map view_variable xs))) (sym none) ∙ l.invariant.faults in
+    λ L same. kept ∙ ap (keep (least_tree c.args.progress.now.least)) (variables_same s (used_names c.args.used.now) L 0 0 c.args.progress.now.at vs refl same)

@@ -7,17 +7,18 @@ use Rattle.ioa_rules.specs.Sizes.{listed_size, variable_size}
 use Rattle.ioa_typing.specs.NameViews.{names_tree}
 use Rattle.ioa_typing.specs.TermViews.{least_tree}
 use Rattle.ioa_check.specs.AutomatonParts.{kind_in, start_in, variable_names}
-use Rattle.ioa_check.specs.ListParts.{between, left_size}
+use Rattle.ioa_entries.specs.Between.{between}
+use Rattle.ioa_check.specs.ListParts.{left_size}
 use Rattle.ioa_check.specs.AutomatonViews.{cell_kind, cell_start, used_names}
 use Rattle.ioa_check.proofs.variables.check_variables.Given as goal
 
 abbrev pub invariant-loop-variable : goal.invariant-loop-variable
 invariant-loop-variable l = record {
-  at : l.walk.at + left_size l.is_first variable_size (map view_variable (drop l.variable-index l.variables)) ≡ l.initial.walk.at + listed_size variable_size (map view_variable l.variables);
+  at : l.progress.at + left_size l.is_first variable_size (map view_variable (drop l.variable-index l.variables)) ≡ l.initial.progress.at + listed_size variable_size (map view_variable l.variables);
   names : (q : List ℕ) → (list_any (bytes_eq q) (variable_names (map view_variable (drop l.variable-index l.variables))) || list_any (bytes_eq q) (used_names l.used))
       ≡ (list_any (bytes_eq q) (variable_names (map view_variable l.variables)) || list_any (bytes_eq q) (used_names l.initial.used));
-  faults : keep (least_tree l.walk.least) (variables_faults (names_tree l.names) (used_names l.used) l.total (l.walk.at + between l.is_first) (map view_variable (drop l.variable-index l.variables)))
-      ≡ keep (least_tree l.initial.walk.least) (variables_faults (names_tree l.names) (used_names l.initial.used) 0 l.initial.walk.at (map view_variable l.variables));
+  faults : keep (least_tree l.progress.least) (variables_faults (names_tree l.names) (used_names l.used) l.total (l.progress.at + between l.is_first) (map view_variable (drop l.variable-index l.variables)))
+      ≡ keep (least_tree l.initial.progress.least) (variables_faults (names_tree l.names) (used_names l.initial.used) 0 l.initial.progress.at (map view_variable l.variables));
   kinds : map cell_kind l.cells.items ++ map (kind_in (names_tree l.names)) (map view_variable (drop l.variable-index l.variables)) ≡ map (kind_in (names_tree l.names)) (map view_variable l.variables);
   starts : map cell_start l.cells.items ++ map (start_in (names_tree l.names)) (map view_variable (drop l.variable-index l.variables)) ≡ map (start_in (names_tree l.names)) (map view_variable l.variables);
 }

@@ -21,16 +21,16 @@ loop-place-preserved c =
     let passed = map view_entry (reverse (take l.place c.args.entries.now)) in
     let left = map view_entry (drop (l.place + 1) c.args.entries.now) in
     let split : map view_entry (drop l.place c.args.entries.now) ≡ e ∷ left = ap (map view_entry) (drop_at c.args.entries.now l.place c.index-entries-place.result c.index-entries-place.is c.loop-place-test.true) in
-    let at : l.walk.at + row_size entry_size (e ∷ left) ≡ c.args.walk.now.at + row_size entry_size (map view_entry c.args.entries.now) = ap (λ r. l.walk.at + row_size entry_size r) (sym split) ∙ l.invariant.at in
-    let after : c.check_entry.new.walk.at ≡ l.walk.at + entry_size e = c.in_ok-check_entry.ensures.at in
+    let at : l.progress.at + row_size entry_size (e ∷ left) ≡ c.args.progress.now.at + row_size entry_size (map view_entry c.args.entries.now) = ap (λ r. l.progress.at + row_size entry_size r) (sym split) ∙ l.invariant.at in
+    let after : c.check_entry.new.progress.at ≡ l.progress.at + entry_size e = c.in_ok-check_entry.ensures.at in
     let next : map view_entry (reverse (take (l.place + 1) c.args.entries.now)) ≡ e ∷ passed = ap (map view_entry) (reverse_next c.args.entries.now l.place c.index-entries-place.result c.index-entries-place.is c.loop-place-test.true) in
-    let told : least_tree c.check_entry.new.walk.least ≡ keep (least_tree l.walk.least) (entry_faults s (map view_entry (take l.place c.args.entries.now)) ts tasks l.walk.at e) = search rules in
-    let noted = told ∙ ap (keep (least_tree l.walk.least)) (before_reversed s view_entry (take l.place c.args.entries.now) ts tasks l.walk.at e) in
+    let told : least_tree c.check_entry.new.progress.least ≡ keep (least_tree l.progress.least) (entry_faults s (map view_entry (take l.place c.args.entries.now)) ts tasks l.progress.at e) = search rules in
+    let noted = told ∙ ap (keep (least_tree l.progress.least)) (before_reversed s view_entry (take l.place c.args.entries.now) ts tasks l.progress.at e) in
     record {
       at = omega (arith, at, after);
       names = c.in_ok-check_entry.ensures.names ∙ l.invariant.names;
-      faults = ap (λ b. keep (least_tree c.check_entry.new.walk.least) (entries_faults s b ts tasks c.check_entry.new.walk.at left)) next
-          ∙ entry_kept s passed ts tasks l.walk.at c.check_entry.new.walk.at e left (least_tree l.walk.least) (least_tree c.check_entry.new.walk.least) noted after
-          ∙ ap (λ r. keep (least_tree l.walk.least) (entries_faults s passed ts tasks l.walk.at r)) (sym split)
+      faults = ap (λ b. keep (least_tree c.check_entry.new.progress.least) (entries_faults s b ts tasks c.check_entry.new.progress.at left)) next
+          ∙ entry_kept s passed ts tasks l.progress.at c.check_entry.new.progress.at e left (least_tree l.progress.least) (least_tree c.check_entry.new.progress.least) noted after
+          ∙ ap (λ r. keep (least_tree l.progress.least) (entries_faults s passed ts tasks l.progress.at r)) (sym split)
           ∙ l.invariant.faults;
     }

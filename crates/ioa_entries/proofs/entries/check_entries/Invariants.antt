@@ -11,8 +11,8 @@ use Rattle.ioa_entries.proofs.entries.check_entries.Given as goal
 
 abbrev pub invariant-loop-place : goal.invariant-loop-place
 invariant-loop-place l = record {
-  at : l.walk.at + row_size entry_size (map view_entry (drop l.place l.entries)) ≡ l.initial.walk.at + row_size entry_size (map view_entry l.entries);
+  at : l.progress.at + row_size entry_size (map view_entry (drop l.place l.entries)) ≡ l.initial.progress.at + row_size entry_size (map view_entry l.entries);
   names : names_tree l.names ≡ names_tree l.initial.names;
-  faults : keep (least_tree l.walk.least) (entries_faults (names_tree l.initial.names) (map view_entry (reverse (take l.place l.entries))) (map view_transition l.transitions) (task_names l.tasks) l.walk.at (map view_entry (drop l.place l.entries)))
-      ≡ keep (least_tree l.initial.walk.least) (entries_faults (names_tree l.initial.names) [] (map view_transition l.transitions) (task_names l.tasks) l.initial.walk.at (map view_entry l.entries));
+  faults : keep (least_tree l.progress.least) (entries_faults (names_tree l.initial.names) (map view_entry (reverse (take l.place l.entries))) (map view_transition l.transitions) (task_names l.tasks) l.progress.at (map view_entry (drop l.place l.entries)))
+      ≡ keep (least_tree l.initial.progress.least) (entries_faults (names_tree l.initial.names) [] (map view_transition l.transitions) (task_names l.tasks) l.initial.progress.at (map view_entry l.entries));
 }

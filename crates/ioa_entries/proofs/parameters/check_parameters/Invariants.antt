@@ -11,10 +11,10 @@ use Rattle.ioa_entries.proofs.parameters.check_parameters.Given as goal
 
 abbrev pub invariant-loop-place : goal.invariant-loop-place
 invariant-loop-place l = record {
-  at : l.walk.at + rest_size l.place (map view_parameter (drop l.place l.parameters)) ≡ l.initial.walk.at + listed_size parameter_size (map view_parameter l.parameters);
+  at : l.progress.at + rest_size l.place (map view_parameter (drop l.place l.parameters)) ≡ l.initial.progress.at + listed_size parameter_size (map view_parameter l.parameters);
   names : with_parameters (names_tree l.names) l.place (map view_parameter (drop l.place l.parameters)) ≡ with_parameters (names_tree l.initial.names) 0 (map view_parameter l.parameters);
-  faults : keep (least_tree l.walk.least) (parameters_faults (names_tree l.names) l.controlled l.place (l.walk.at + between l.place) (map view_parameter (drop l.place l.parameters)))
-      ≡ keep (least_tree l.initial.walk.least) (parameters_faults (names_tree l.initial.names) l.controlled 0 l.initial.walk.at (map view_parameter l.parameters));
+  faults : keep (least_tree l.progress.least) (parameters_faults (names_tree l.names) l.controlled l.place (l.progress.at + between l.place) (map view_parameter (drop l.place l.parameters)))
+      ≡ keep (least_tree l.initial.progress.least) (parameters_faults (names_tree l.initial.names) l.controlled 0 l.initial.progress.at (map view_parameter l.parameters));
   small : option_map capped l.tuples ≡ l.tuples;
   many : option_map capped (times l.tuples (tuples (names_tree l.names) l.place (map view_parameter (drop l.place l.parameters))))
       ≡ option_map capped (tuples (names_tree l.initial.names) 0 (map view_parameter l.parameters));

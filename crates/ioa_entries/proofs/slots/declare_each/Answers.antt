@@ -15,18 +15,18 @@ declare_parameter-requires c =
     let p = view_parameter c.index-parameters-place.result in
     let left = map view_parameter (drop (l.place + 1) c.args.parameters.now) in
     let split : map view_parameter (drop l.place c.args.parameters.now) ≡ p ∷ left = ap (map view_parameter) (drop_at c.args.parameters.now l.place c.index-parameters-place.result c.index-parameters-place.is c.loop-place-test.true) in
-    let at : l.walk.at + rest_size l.place (p ∷ left) ≡ c.args.walk.now.at + listed_size parameter_size (map view_parameter c.args.parameters.now) = ap (λ r. l.walk.at + rest_size l.place r) (sym split) ∙ l.invariant.at in
-    let sized = rest_sized l.place l.walk.at p left in
+    let at : l.progress.at + rest_size l.place (p ∷ left) ≡ c.args.progress.now.at + listed_size parameter_size (map view_parameter c.args.parameters.now) = ap (λ r. l.progress.at + rest_size l.place r) (sym split) ∙ l.invariant.at in
+    let sized = rest_sized l.place l.progress.at p left in
     record { room = omega (arith, at, sized, c.between.ensures, c.requires.room) }
 
-pub overflow_add-walk : goal.overflow_add-walk
-overflow_add-walk c =
+pub overflow_add-progress : goal.overflow_add-progress
+overflow_add-progress c =
     let l = c.loop-place in
     let p = view_parameter c.index-parameters-place.result in
     let left = map view_parameter (drop (l.place + 1) c.args.parameters.now) in
     let split : map view_parameter (drop l.place c.args.parameters.now) ≡ p ∷ left = ap (map view_parameter) (drop_at c.args.parameters.now l.place c.index-parameters-place.result c.index-parameters-place.is c.loop-place-test.true) in
-    let at : l.walk.at + rest_size l.place (p ∷ left) ≡ c.args.walk.now.at + listed_size parameter_size (map view_parameter c.args.parameters.now) = ap (λ r. l.walk.at + rest_size l.place r) (sym split) ∙ l.invariant.at in
-    let sized = rest_sized l.place l.walk.at p left in
+    let at : l.progress.at + rest_size l.place (p ∷ left) ≡ c.args.progress.now.at + listed_size parameter_size (map view_parameter c.args.parameters.now) = ap (λ r. l.progress.at + rest_size l.place r) (sym split) ∙ l.invariant.at in
+    let sized = rest_sized l.place l.progress.at p left in
     omega (arith, at, sized, c.between.ensures, c.requires.room)
 
 pub loop-place-preserved : goal.loop-place-preserved
@@ -37,9 +37,9 @@ loop-place-preserved c =
     let p = view_parameter c.index-parameters-place.result in
     let left = map view_parameter (drop (l.place + 1) c.args.parameters.now) in
     let split : map view_parameter (drop l.place c.args.parameters.now) ≡ p ∷ left = ap (map view_parameter) (drop_at c.args.parameters.now l.place c.index-parameters-place.result c.index-parameters-place.is c.loop-place-test.true) in
-    let at : l.walk.at + rest_size l.place (p ∷ left) ≡ c.args.walk.now.at + listed_size parameter_size (map view_parameter c.args.parameters.now) = ap (λ r. l.walk.at + rest_size l.place r) (sym split) ∙ l.invariant.at in
-    let sized = rest_sized l.place l.walk.at p left in
-    let after : c.declare_parameter.new.walk.at ≡ l.walk.at + between l.place + parameter_size p = search rules in
+    let at : l.progress.at + rest_size l.place (p ∷ left) ≡ c.args.progress.now.at + listed_size parameter_size (map view_parameter c.args.parameters.now) = ap (λ r. l.progress.at + rest_size l.place r) (sym split) ∙ l.invariant.at in
+    let sized = rest_sized l.place l.progress.at p left in
+    let after : c.declare_parameter.new.progress.at ≡ l.progress.at + between l.place + parameter_size p = search rules in
     let scope : t ≡ after_parameter s l.place p = c.in_ok-slot.ensures.names in
     let slot : slot_tree c.in_ok-slot.slot ≡ slot_of s p = c.in_ok-slot.ensures.slot in
     let before : map slot_tree l.slots.items ++ slot_of s p ∷ slots t (l.place + 1) left ≡ slots (names_tree c.args.names.now) 0 (map view_parameter c.args.parameters.now)

@@ -16,7 +16,7 @@ pub returns-clause-faults : goal.returns-clause-faults
 returns-clause-faults c =
     let s = names_tree c.args.names.now in
     let t = view_transition c.args.transition.now in
-    transition_noted (with_parameters s 0 t.entry.parameters) (map view_entry c.args.entries.now) (map view_transition c.args.before.now) c.args.walk.now.at t _
-    (least_tree c.args.walk.now.least) (least_tree c.note_head.new.walk.least) (least_tree c.note_if.new.self.least) (least_tree c.check_inside.new.walk.least)
+    transition_noted (with_parameters s 0 t.entry.parameters) (map view_entry c.args.entries.now) (map view_transition c.args.before.now) c.args.progress.now.at t _
+    (least_tree c.args.progress.now.least) (least_tree c.note_head.new.progress.least) (least_tree c.note_if.new.self.least) (least_tree c.check_inside.new.progress.least)
     c.note_head.ensures.least c.note_if.ensures.least (search rules)
     (again_is _ t.entry c.args.before.now c.has_transition.ensures)

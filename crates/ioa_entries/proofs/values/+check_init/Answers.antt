@@ -1,4 +1,4 @@
-use Rattle.std.proofs.Common.{rules, arith, ◌≡◌, ◌+◌}
+use Rattle.std.proofs.Common.{rules, ◌≡◌, ◌+◌}
 use Rattle.ioa_trees.specs.declared.tree.Init.{the_lemmas}
 use Rattle.ioa_trees.specs.Trees.{Empty, Fill}
 use Rattle.ioa_trees.specs.Views.{view_init}
@@ -18,5 +18,5 @@ returns-in_ok-put-in-Fill-clause-misfit t c =
     let v = view_init c.in-Fill.item.value in
     let s = names_tree c.args.names.now in
     let is : view_init c.args.init.now ≡ Fill v = search (rules, the_lemmas) in
-    let inner : misfit_faults c.in_ok-item-in-Fill.item.misfit ≡ misfits s (item_of (place_kind c.args.kind)) (c.args.walk.now.at + 2) v = search (rules, the_lemmas) in
+    let inner : misfit_faults c.in_ok-item-in-Fill.item.misfit ≡ misfits s (item_of (place_kind c.args.kind)) (c.args.progress.now.at + 2) v = search (rules, the_lemmas) in
     rw is (c.in_ok-put-in-Fill.ensures.misfit s v inner)

@@ -20,13 +20,13 @@ check_term-returns-in_ok-found-in-Append-clause-faults t c =
     let right = view c.in-Append.item.value in
     let is : view c.args.term.now ≡ Append left right = search (rules, the_lemmas) in
     let s = names_tree c.args.names.now in
-    let at = c.args.walk.now.at in
-    let begun = c.check_term.new.walk in
+    let at = c.args.progress.now.at in
+    let begun = c.check_term.new.progress in
     let j = judged_tree c.in_ok-list-in-Append.list in
     let place : begun.at + 1 ≡ at + size left + 3 = search (rules, the_lemmas, arith) in
     let meant : j ≡ judge s left = search (rules, the_lemmas) in
     let rest : ℕ → Option Judged → List Fault = λ n i. faults s n right ++ (wants is_seq (at + 2) i ++ append_faults n i (judge s right)) in
-    rw is (keep_both (least_tree c.args.walk.now.least) (least_tree begun.least) (least_tree c.check_item.new.walk.least) (faults s (at + 2) left) (rest (begun.at + 1) j) (rest (at + size left + 3) (judge s left)) (search (rules, the_lemmas)) (ap (λ n. rest n j) place ∙ ap (rest (at + size left + 3)) meant) (search (rules, the_lemmas)))
+    rw is (keep_both (least_tree c.args.progress.now.least) (least_tree begun.least) (least_tree c.check_item.new.progress.least) (faults s (at + 2) left) (rest (begun.at + 1) j) (rest (at + size left + 3) (judge s left)) (search (rules, the_lemmas)) (ap (λ n. rest n j) place ∙ ap (rest (at + size left + 3)) meant) (search (rules, the_lemmas)))
 
 pub check_term-returns-in_ok-found-in-Compare-clause-faults : goal.check_term-returns-in_ok-found-in-Compare-clause-faults
 check_term-returns-in_ok-found-in-Compare-clause-faults t c =
@@ -34,13 +34,13 @@ check_term-returns-in_ok-found-in-Compare-clause-faults t c =
     let right = view c.in-Compare.right.value in
     let is : view c.args.term.now ≡ Compare left c.in-Compare.relation right = search (rules, the_lemmas) in
     let s = names_tree c.args.names.now in
-    let at = c.args.walk.now.at in
-    let begun = c.check_term-in-Compare.new.walk in
+    let at = c.args.progress.now.at in
+    let begun = c.check_term-in-Compare.new.progress in
     let j = judged_tree c.in_ok-left-in-Compare.left in
     let place : begun.at + 1 ≡ at + size left + 1 = search (rules, the_lemmas, arith) in
     let meant : j ≡ judge s left = search (rules, the_lemmas) in
     let rest : ℕ → Option Judged → List Fault = λ n i. faults s n right ++ compare_faults c.in-Compare.relation n i (judge s right) in
-    rw is (keep_both (least_tree c.args.walk.now.least) (least_tree begun.least) (least_tree c.check_right.new.walk.least) (faults s at left) (rest (begun.at + 1) j) (rest (at + size left + 1) (judge s left)) (search (rules, the_lemmas)) (ap (λ n. rest n j) place ∙ ap (rest (at + size left + 1)) meant) (search (rules, the_lemmas)))
+    rw is (keep_both (least_tree c.args.progress.now.least) (least_tree begun.least) (least_tree c.check_right.new.progress.least) (faults s at left) (rest (begun.at + 1) j) (rest (at + size left + 1) (judge s left)) (search (rules, the_lemmas)) (ap (λ n. rest n j) place ∙ ap (rest (at + size left + 1)) meant) (search (rules, the_lemmas)))
 
 pub check_term-returns-in_ok-found-in-Index-clause-faults : goal.check_term-returns-in_ok-found-in-Index-clause-faults
 check_term-returns-in_ok-found-in-Index-clause-faults t c =
@@ -48,13 +48,13 @@ check_term-returns-in_ok-found-in-Index-clause-faults t c =
     let indexes = pack_terms (map view c.in-Index.indexes.items) in
     let is : view c.args.term.now ≡ Index of indexes = search (rules, the_lemmas) in
     let s = names_tree c.args.names.now in
-    let at = c.args.walk.now.at in
-    let begun = c.check_term-in-Index.new.walk in
+    let at = c.args.progress.now.at in
+    let begun = c.check_term-in-Index.new.progress in
     let j = judged_tree c.in_ok-of-in-Index.of in
     let meant : j ≡ judge s of = search (rules, the_lemmas) in
     let place : begun.at ≡ at + size of = search (rules, the_lemmas) in
     let same = ap (λ i. indexes_faults s at i begun.at indexes) meant ∙ ap (λ n. indexes_faults s at (judge s of) n indexes) place in
-    rw is (keep_both (least_tree c.args.walk.now.least) (least_tree begun.least) (least_tree c.check_indexes.new.walk.least) (faults s at of) (indexes_faults s at j begun.at indexes) (indexes_faults s at (judge s of) (at + size of) indexes) (search (rules, the_lemmas)) same (search (rules, the_lemmas)))
+    rw is (keep_both (least_tree c.args.progress.now.least) (least_tree begun.least) (least_tree c.check_indexes.new.progress.least) (faults s at of) (indexes_faults s at j begun.at indexes) (indexes_faults s at (judge s of) (at + size of) indexes) (search (rules, the_lemmas)) same (search (rules, the_lemmas)))
 
 pub check_term-returns-in_ok-found-in-Product-clause-faults : goal.check_term-returns-in_ok-found-in-Product-clause-faults
 check_term-returns-in_ok-found-in-Product-clause-faults t c =
@@ -62,13 +62,13 @@ check_term-returns-in_ok-found-in-Product-clause-faults t c =
     let right = pack_factors (map view_factor c.in-Product.factors.items) in
     let is : view c.args.term.now ≡ Product left right = search (rules, the_lemmas) in
     let s = names_tree c.args.names.now in
-    let at = c.args.walk.now.at in
-    let begun = c.check_term-in-Product.new.walk in
+    let at = c.args.progress.now.at in
+    let begun = c.check_term-in-Product.new.progress in
     let j = judged_tree c.in_ok-first-in-Product.first in
     let place : begun.at ≡ at + size left = search (rules, the_lemmas, arith) in
     let meant : j ≡ judge s left = search (rules, the_lemmas) in
     let rest : ℕ → Option Judged → List Fault = λ n i. wants is_whole at i ++ factors_faults s n right in
-    rw is (keep_both (least_tree c.args.walk.now.least) (least_tree begun.least) (least_tree c.check_product.new.walk.least) (faults s at left) (rest (begun.at) j) (rest (at + size left) (judge s left)) (search (rules, the_lemmas)) (ap (λ n. rest n j) place ∙ ap (rest (at + size left)) meant) (search (rules, the_lemmas)))
+    rw is (keep_both (least_tree c.args.progress.now.least) (least_tree begun.least) (least_tree c.check_product.new.progress.least) (faults s at left) (rest (begun.at) j) (rest (at + size left) (judge s left)) (search (rules, the_lemmas)) (ap (λ n. rest n j) place ∙ ap (rest (at + size left)) meant) (search (rules, the_lemmas)))
 
 pub check_term-returns-in_ok-found-in-Sum-clause-faults : goal.check_term-returns-in_ok-found-in-Sum-clause-faults
 check_term-returns-in_ok-found-in-Sum-clause-faults t c =
@@ -76,13 +76,13 @@ check_term-returns-in_ok-found-in-Sum-clause-faults t c =
     let right = pack_addends (map view_addend c.in-Sum.addends.items) in
     let is : view c.args.term.now ≡ Sum left right = search (rules, the_lemmas) in
     let s = names_tree c.args.names.now in
-    let at = c.args.walk.now.at in
-    let begun = c.check_term-in-Sum.new.walk in
+    let at = c.args.progress.now.at in
+    let begun = c.check_term-in-Sum.new.progress in
     let j = judged_tree c.in_ok-first-in-Sum.first in
     let place : begun.at ≡ at + size left = search (rules, the_lemmas, arith) in
     let meant : j ≡ judge s left = search (rules, the_lemmas) in
     let rest : ℕ → Option Judged → List Fault = λ n i. wants is_whole at i ++ addends_faults s n right in
-    rw is (keep_both (least_tree c.args.walk.now.least) (least_tree begun.least) (least_tree c.check_sum.new.walk.least) (faults s at left) (rest (begun.at) j) (rest (at + size left) (judge s left)) (search (rules, the_lemmas)) (ap (λ n. rest n j) place ∙ ap (rest (at + size left)) meant) (search (rules, the_lemmas)))
+    rw is (keep_both (least_tree c.args.progress.now.least) (least_tree begun.least) (least_tree c.check_sum.new.progress.least) (faults s at left) (rest (begun.at) j) (rest (at + size left) (judge s left)) (search (rules, the_lemmas)) (ap (λ n. rest n j) place ∙ ap (rest (at + size left)) meant) (search (rules, the_lemmas)))
 
 pub check_term-returns-in_ok-found-in-And-clause-faults : goal.check_term-returns-in_ok-found-in-And-clause-faults
 check_term-returns-in_ok-found-in-And-clause-faults t c =
@@ -90,13 +90,13 @@ check_term-returns-in_ok-found-in-And-clause-faults t c =
     let right = pack_terms (map view c.in-And.others.items) in
     let is : view c.args.term.now ≡ And left right = search (rules, the_lemmas) in
     let s = names_tree c.args.names.now in
-    let at = c.args.walk.now.at in
-    let begun = c.check_term-in-And.new.walk in
+    let at = c.args.progress.now.at in
+    let begun = c.check_term-in-And.new.progress in
     let j = judged_tree c.in_ok-first-in-And.first in
     let place : begun.at ≡ at + size left = search (rules, the_lemmas, arith) in
     let meant : j ≡ judge s left = search (rules, the_lemmas) in
     let rest : ℕ → Option Judged → List Fault = λ n i. wants is_truth at i ++ truths_faults s n right in
-    rw is (keep_both (least_tree c.args.walk.now.least) (least_tree begun.least) (least_tree c.check_joined.new.walk.least) (faults s at left) (rest (begun.at) j) (rest (at + size left) (judge s left)) (search (rules, the_lemmas)) (ap (λ n. rest n j) place ∙ ap (rest (at + size left)) meant) (search (rules, the_lemmas)))
+    rw is (keep_both (least_tree c.args.progress.now.least) (least_tree begun.least) (least_tree c.check_joined.new.progress.least) (faults s at left) (rest (begun.at) j) (rest (at + size left) (judge s left)) (search (rules, the_lemmas)) (ap (λ n. rest n j) place ∙ ap (rest (at + size left)) meant) (search (rules, the_lemmas)))
 
 pub check_term-returns-in_ok-found-in-Or-clause-faults : goal.check_term-returns-in_ok-found-in-Or-clause-faults
 check_term-returns-in_ok-found-in-Or-clause-faults t c =
@@ -104,78 +104,78 @@ check_term-returns-in_ok-found-in-Or-clause-faults t c =
     let right = pack_terms (map view c.in-Or.others.items) in
     let is : view c.args.term.now ≡ Or left right = search (rules, the_lemmas) in
     let s = names_tree c.args.names.now in
-    let at = c.args.walk.now.at in
-    let begun = c.check_term-in-Or.new.walk in
+    let at = c.args.progress.now.at in
+    let begun = c.check_term-in-Or.new.progress in
     let j = judged_tree c.in_ok-first-in-Or.first in
     let place : begun.at ≡ at + size left = search (rules, the_lemmas, arith) in
     let meant : j ≡ judge s left = search (rules, the_lemmas) in
     let rest : ℕ → Option Judged → List Fault = λ n i. wants is_truth at i ++ truths_faults s n right in
-    rw is (keep_both (least_tree c.args.walk.now.least) (least_tree begun.least) (least_tree c.check_joined-in-Or.new.walk.least) (faults s at left) (rest (begun.at) j) (rest (at + size left) (judge s left)) (search (rules, the_lemmas)) (ap (λ n. rest n j) place ∙ ap (rest (at + size left)) meant) (search (rules, the_lemmas)))
+    rw is (keep_both (least_tree c.args.progress.now.least) (least_tree begun.least) (least_tree c.check_joined-in-Or.new.progress.least) (faults s at left) (rest (begun.at) j) (rest (at + size left) (judge s left)) (search (rules, the_lemmas)) (ap (λ n. rest n j) place ∙ ap (rest (at + size left)) meant) (search (rules, the_lemmas)))
 
 pub check_call-returns-clause-faults : goal.check_call-returns-clause-faults
 check_call-returns-clause-faults t c =
     let of = view c.args.of.now in
     let s = names_tree c.args.names.now in
-    let at = c.args.walk.now.at in
-    let begun = c.check_term.new.walk in
-    keep_both (least_tree c.args.walk.now.least) (least_tree begun.least) (least_tree c.end_call.new.walk.least) (faults s (at + 2) of) (wants is_seq (at + 2) (judged_tree c.in_ok-of.of)) (wants is_seq (at + 2) (judge s of)) (search rules) (ap (λ j. wants is_seq (at + 2) j) (search rules)) (search rules)
+    let at = c.args.progress.now.at in
+    let begun = c.check_term.new.progress in
+    keep_both (least_tree c.args.progress.now.least) (least_tree begun.least) (least_tree c.end_call.new.progress.least) (faults s (at + 2) of) (wants is_seq (at + 2) (judged_tree c.in_ok-of.of)) (wants is_seq (at + 2) (judge s of)) (search rules) (ap (λ j. wants is_seq (at + 2) j) (search rules)) (search rules)
 
 pub check_minus-returns-clause-faults : goal.check_minus-returns-clause-faults
 check_minus-returns-clause-faults t c =
     let of = view c.args.of.now in
     let s = names_tree c.args.names.now in
-    let at = c.args.walk.now.at in
-    let begun = c.check_term.new.walk in
-    keep_both (least_tree c.args.walk.now.least) (least_tree begun.least) (least_tree c.end_minus.new.walk.least) (faults s (at + 1) of) (wants is_whole (at + 1) (judged_tree c.in_ok-of.of)) (wants is_whole (at + 1) (judge s of)) (search rules) (ap (λ j. wants is_whole (at + 1) j) (search rules)) (search rules)
+    let at = c.args.progress.now.at in
+    let begun = c.check_term.new.progress in
+    keep_both (least_tree c.args.progress.now.least) (least_tree begun.least) (least_tree c.end_minus.new.progress.least) (faults s (at + 1) of) (wants is_whole (at + 1) (judged_tree c.in_ok-of.of)) (wants is_whole (at + 1) (judge s of)) (search rules) (ap (λ j. wants is_whole (at + 1) j) (search rules)) (search rules)
 
 pub check_not-returns-clause-faults : goal.check_not-returns-clause-faults
 check_not-returns-clause-faults t c =
     let of = view c.args.of.now in
     let s = names_tree c.args.names.now in
-    let at = c.args.walk.now.at in
-    let begun = c.check_term.new.walk in
-    keep_both (least_tree c.args.walk.now.least) (least_tree begun.least) (least_tree c.end_not.new.walk.least) (faults s (at + 1) of) (wants is_truth (at + 1) (judged_tree c.in_ok-of.of)) (wants is_truth (at + 1) (judge s of)) (search rules) (ap (λ j. wants is_truth (at + 1) j) (search rules)) (search rules)
+    let at = c.args.progress.now.at in
+    let begun = c.check_term.new.progress in
+    keep_both (least_tree c.args.progress.now.least) (least_tree begun.least) (least_tree c.end_not.new.progress.least) (faults s (at + 1) of) (wants is_truth (at + 1) (judged_tree c.in_ok-of.of)) (wants is_truth (at + 1) (judge s of)) (search rules) (ap (λ j. wants is_truth (at + 1) j) (search rules)) (search rules)
 
 pub check_item-returns-clause-faults : goal.check_item-returns-clause-faults
 check_item-returns-clause-faults t c =
     let u = view c.args.item.now in
     let s = names_tree c.args.names.now in
-    let at = c.args.walk.now.at in
-    let begun = c.check_term.new.walk in
+    let at = c.args.progress.now.at in
+    let begun = c.check_term.new.progress in
     let j = judged_tree c.args.list in
     let rest : Option Judged → List Fault = λ k. wants is_seq c.args.place j ++ append_faults (at + 1) j k in
-    keep_both (least_tree c.args.walk.now.least) (least_tree begun.least) (least_tree c.end_append.new.walk.least) (faults s (at + 1) u) (rest (judged_tree c.in_ok-item.item)) (rest (judge s u)) (search rules) (ap rest (search rules)) (search rules)
+    keep_both (least_tree c.args.progress.now.least) (least_tree begun.least) (least_tree c.end_append.new.progress.least) (faults s (at + 1) u) (rest (judged_tree c.in_ok-item.item)) (rest (judge s u)) (search rules) (ap rest (search rules)) (search rules)
 
 pub check_right-returns-clause-faults : goal.check_right-returns-clause-faults
 check_right-returns-clause-faults t c =
     let u = view c.args.right.now in
     let s = names_tree c.args.names.now in
-    let at = c.args.walk.now.at in
-    let begun = c.check_term.new.walk in
+    let at = c.args.progress.now.at in
+    let begun = c.check_term.new.progress in
     let j = judged_tree c.args.left in
     let rest : Option Judged → List Fault = λ k. compare_faults c.args.relation (at + 1) j k in
-    keep_both (least_tree c.args.walk.now.least) (least_tree begun.least) (least_tree c.end_compare.new.walk.least) (faults s (at + 1) u) (rest (judged_tree c.in_ok-right.right)) (rest (judge s u)) (search rules) (ap rest (search rules)) (search rules)
+    keep_both (least_tree c.args.progress.now.least) (least_tree begun.least) (least_tree c.end_compare.new.progress.least) (faults s (at + 1) u) (rest (judged_tree c.in_ok-right.right)) (rest (judge s u)) (search rules) (ap rest (search rules)) (search rules)
 
 pub check_product-returns-clause-faults : goal.check_product-returns-clause-faults
 check_product-returns-clause-faults t c =
     let others = pack_factors (map view_factor c.args.factors.now) in
     let s = names_tree c.args.names.now in
-    let noted = c.note_unless_whole.new.walk in
-    keep_both (least_tree c.args.walk.now.least) (least_tree noted.least) (least_tree c.check_factors.new.walk.least) (wants is_whole c.args.place (judged_tree c.args.first)) (factors_faults s noted.at others) (factors_faults s c.args.walk.now.at others) (search rules) (ap (λ n. factors_faults s n others) (search rules)) (search rules)
+    let noted = c.note_unless_whole.new.progress in
+    keep_both (least_tree c.args.progress.now.least) (least_tree noted.least) (least_tree c.check_factors.new.progress.least) (wants is_whole c.args.place (judged_tree c.args.first)) (factors_faults s noted.at others) (factors_faults s c.args.progress.now.at others) (search rules) (ap (λ n. factors_faults s n others) (search rules)) (search rules)
 
 pub check_sum-returns-clause-faults : goal.check_sum-returns-clause-faults
 check_sum-returns-clause-faults t c =
     let others = pack_addends (map view_addend c.args.addends.now) in
     let s = names_tree c.args.names.now in
-    let noted = c.note_unless_whole.new.walk in
-    keep_both (least_tree c.args.walk.now.least) (least_tree noted.least) (least_tree c.check_addends.new.walk.least) (wants is_whole c.args.place (judged_tree c.args.first)) (addends_faults s noted.at others) (addends_faults s c.args.walk.now.at others) (search rules) (ap (λ n. addends_faults s n others) (search rules)) (search rules)
+    let noted = c.note_unless_whole.new.progress in
+    keep_both (least_tree c.args.progress.now.least) (least_tree noted.least) (least_tree c.check_addends.new.progress.least) (wants is_whole c.args.place (judged_tree c.args.first)) (addends_faults s noted.at others) (addends_faults s c.args.progress.now.at others) (search rules) (ap (λ n. addends_faults s n others) (search rules)) (search rules)
 
 pub check_joined-returns-clause-faults : goal.check_joined-returns-clause-faults
 check_joined-returns-clause-faults t c =
     let others = pack_terms (map view c.args.others.now) in
     let s = names_tree c.args.names.now in
-    let noted = c.note_unless_truth.new.walk in
-    keep_both (least_tree c.args.walk.now.least) (least_tree noted.least) (least_tree c.check_truths.new.walk.least) (wants is_truth c.args.place (judged_tree c.args.first)) (truths_faults s noted.at others) (truths_faults s c.args.walk.now.at others) (search rules) (ap (λ n. truths_faults s n others) (search rules)) (search rules)
+    let noted = c.note_unless_truth.new.progress in
+    keep_both (least_tree c.args.progress.now.least) (least_tree noted.least) (least_tree c.check_truths.new.progress.least) (wants is_truth c.args.place (judged_tree c.args.first)) (truths_faults s noted.at others) (truths_faults s c.args.progress.now.at others) (search rules) (ap (λ n. truths_faults s n others) (search rules)) (search rules)
 
 pub check_truths-loop-other-preserved : goal.check_truths-loop-other-preserved
 check_truths-loop-other-preserved t c =
@@ -185,11 +185,11 @@ check_truths-loop-other-preserved t c =
     let u = view c.other-item.result in
     let us = pack_terms (map view (drop (i + 1) xs)) in
     let s = names_tree c.args.names.now in
-    let old = c.loop-other.walk in
-    let new = c.join_truth.new.walk in
+    let old = c.loop-other.progress in
+    let new = c.join_truth.new.progress in
     let judged : judged_tree c.in_ok-right.right ≡ judge s u = search rules in
     let next : new.at ≡ old.at + size u + 1 = search (rules, arith) in
-    let faulted = keep_parts (least_tree old.least) (least_tree c.check_term.new.walk.least) (least_tree new.least) _ (faults s (old.at + 1) u) (wants is_truth (old.at + 1) (judged_tree c.in_ok-right.right)) (wants is_truth (old.at + 1) (judge s u)) (truths_faults s new.at us) (truths_faults s (old.at + size u + 1) us) (search rules) (ap (λ j. wants is_truth (old.at + 1) j) judged) (search rules) (ap (λ n. truths_faults s n us) next) refl in
+    let faulted = keep_parts (least_tree old.least) (least_tree c.check_term.new.progress.least) (least_tree new.least) _ (faults s (old.at + 1) u) (wants is_truth (old.at + 1) (judged_tree c.in_ok-right.right)) (wants is_truth (old.at + 1) (judge s u)) (truths_faults s new.at us) (truths_faults s (old.at + size u + 1) us) (search rules) (ap (λ j. wants is_truth (old.at + 1) j) judged) (search rules) (ap (λ n. truths_faults s n us) next) refl in
     let core : core_tree c.in_ok-core.core ≡ joined c.args.operator (core_tree c.loop-other.core) (truth_of (judge s u)) = search rules in
     record {
       at = search (rules, arith);
@@ -206,14 +206,14 @@ check_indexes-loop-index-preserved t c =
     let us = pack_terms (map view (drop (i + 1) xs)) in
     let s = names_tree c.args.names.now in
     let first = c.args.first in
-    let old = c.loop-index.walk in
-    let new = c.end_element.new.walk in
+    let old = c.loop-index.progress in
+    let new = c.end_element.new.progress in
     let j = judged_tree c.loop-index.found in
     let judged : judged_tree c.in_ok-by.by ≡ judge s u = search rules in
     let next : new.at ≡ old.at + size u + 2 = search (rules, arith) in
     let found : judged_tree c.in_ok-found.found ≡ element_of j (judge s u) = search rules in
     let same = ap (λ n. indexes_faults s first (judged_tree c.in_ok-found.found) n us) next ∙ ap (λ k. indexes_faults s first k (old.at + size u + 2) us) found in
-    let faulted = keep_parts (least_tree old.least) (least_tree c.check_term.new.walk.least) (least_tree new.least) _ (faults s (old.at + 1) u) (index_faults first (old.at + 1) j (judged_tree c.in_ok-by.by)) (index_faults first (old.at + 1) j (judge s u)) (indexes_faults s first (judged_tree c.in_ok-found.found) new.at us) (indexes_faults s first (element_of j (judge s u)) (old.at + size u + 2) us) (search rules) (ap (λ k. index_faults first (old.at + 1) j k) judged) (search rules) same refl in
+    let faulted = keep_parts (least_tree old.least) (least_tree c.check_term.new.progress.least) (least_tree new.least) _ (faults s (old.at + 1) u) (index_faults first (old.at + 1) j (judged_tree c.in_ok-by.by)) (index_faults first (old.at + 1) j (judge s u)) (indexes_faults s first (judged_tree c.in_ok-found.found) new.at us) (indexes_faults s first (element_of j (judge s u)) (old.at + size u + 2) us) (search rules) (ap (λ k. index_faults first (old.at + 1) j k) judged) (search rules) same refl in
     record {
       at = search (rules, arith);
       faults = faulted ∙ ap (λ ys. keep (least_tree old.least) (indexes_faults s first j old.at (pack_terms (map view ys)))) (sym more) ∙ c.loop-index.invariant.faults;
@@ -231,11 +231,11 @@ check_addends-loop-addend-preserved t c =
     ap (map view_addend) (drop_at xs i x c.addend-item.is c.loop-addend-test.true) ∙ ap (λ a. a ∷ map view_addend (drop (i + 1) xs)) seen in
     let us = pack_addends (map view_addend (drop (i + 1) xs)) in
     let s = names_tree c.args.names.now in
-    let old = c.loop-addend.walk in
-    let new = c.join_whole.new.walk in
+    let old = c.loop-addend.progress in
+    let new = c.join_whole.new.progress in
     let judged : judged_tree c.in_ok-right.right ≡ judge s u = search rules in
     let next : new.at ≡ old.at + size u + 1 = search (rules, arith) in
-    let faulted = keep_parts (least_tree old.least) (least_tree c.check_term.new.walk.least) (least_tree new.least) _ (faults s (old.at + 1) u) (wants is_whole (old.at + 1) (judged_tree c.in_ok-right.right)) (wants is_whole (old.at + 1) (judge s u)) (addends_faults s new.at us) (addends_faults s (old.at + size u + 1) us) (search rules) (ap (λ j. wants is_whole (old.at + 1) j) judged) (search rules) (ap (λ n. addends_faults s n us) next) refl in
+    let faulted = keep_parts (least_tree old.least) (least_tree c.check_term.new.progress.least) (least_tree new.least) _ (faults s (old.at + 1) u) (wants is_whole (old.at + 1) (judged_tree c.in_ok-right.right)) (wants is_whole (old.at + 1) (judge s u)) (addends_faults s new.at us) (addends_faults s (old.at + size u + 1) us) (search rules) (ap (λ j. wants is_whole (old.at + 1) j) judged) (search rules) (ap (λ n. addends_faults s n us) next) refl in
     let core : core_tree c.in_ok-core.core ≡ joined (operator_of x.sign) (core_tree c.loop-addend.core) (whole_of (judge s u)) = search rules in
     record {
       at = search (rules, arith);
@@ -252,8 +252,8 @@ check_factors-loop-factor-preserved t c =
     let f = view_factor x in
     let fs = pack_factors (map view_factor (drop (i + 1) xs)) in
     let s = names_tree c.args.names.now in
-    let old = c.loop-factor.walk in
-    let new = c.check_factor.new.walk in
+    let old = c.loop-factor.progress in
+    let new = c.check_factor.new.progress in
     let faulted = factors_step s (least_tree old.least) (least_tree new.least) old.at new.at f fs (search rules) (search rules) in
     let core : core_tree c.in_ok-core.core ≡ multiplied s (core_tree c.loop-factor.core) (more_factors f no_factor) = search rules in
     record {
@@ -267,6 +267,6 @@ check_factor-returns-in_ok-core-in-Times-clause-faults t c =
     let u = view c.in-Times.term in
     let is : view_factor c.args.factor.now ≡ Times u = search (rules, the_lemmas) in
     let s = names_tree c.args.names.now in
-    let at = c.args.walk.now.at in
-    let begun = c.check_term.new.walk in
-    rw is (keep_three (least_tree c.args.walk.now.least) (least_tree begun.least) (least_tree c.join_whole.new.walk.least) _ (faults s (at + 1) u) (wants is_whole (at + 1) (judged_tree c.in_ok-right-in-Times.right)) (wants is_whole (at + 1) (judge s u)) [] (search (rules, the_lemmas)) (ap (λ j. wants is_whole (at + 1) j) (search (rules, the_lemmas))) (search (rules, the_lemmas)) refl)
+    let at = c.args.progress.now.at in
+    let begun = c.check_term.new.progress in
+    rw is (keep_three (least_tree c.args.progress.now.least) (least_tree begun.least) (least_tree c.join_whole.new.progress.least) _ (faults s (at + 1) u) (wants is_whole (at + 1) (judged_tree c.in_ok-right-in-Times.right)) (wants is_whole (at + 1) (judge s u)) [] (search (rules, the_lemmas)) (ap (λ j. wants is_whole (at + 1) j) (search (rules, the_lemmas))) (search (rules, the_lemmas)) refl)

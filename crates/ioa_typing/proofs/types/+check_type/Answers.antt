@@ -16,10 +16,10 @@ returns-in_ok-kind-in-Seq-clause-faults t c =
     let most = c.in-Seq.most in
     let is : view_type c.args.tree.now ≡ SeqOf item most = search (rules, the_lemmas) in
     let s = names_tree c.args.names.now in
-    let at = c.args.walk.now.at in
-    let first = c.check_type.new.walk in
+    let at = c.args.progress.now.at in
+    let first = c.check_type.new.progress in
     let rest : ℕ → List Fault = λ n. where_wrong (is_bad_bound most) n 17 ++ overweight at (kind_of s (SeqOf item most)) in
-    rw is (keep_both (least_tree c.args.walk.now.least) (least_tree first.least) _ (type_faults s (at + 2) item) (rest (first.at + 1)) (rest (at + type_size item + 3)) (search (rules, the_lemmas)) (ap rest (search (rules, the_lemmas, arith))) (search (rules, the_lemmas)))
+    rw is (keep_both (least_tree c.args.progress.now.least) (least_tree first.least) _ (type_faults s (at + 2) item) (rest (first.at + 1)) (rest (at + type_size item + 3)) (search (rules, the_lemmas)) (ap rest (search (rules, the_lemmas, arith))) (search (rules, the_lemmas)))
 
 pub returns-in_ok-kind-in-Array-clause-faults : goal.returns-in_ok-kind-in-Array-clause-faults
 returns-in_ok-kind-in-Array-clause-faults t c =
@@ -27,6 +27,6 @@ returns-in_ok-kind-in-Array-clause-faults t c =
     let item = view_type c.in-Array.item.value in
     let is : view_type c.args.tree.now ≡ ArrayOf index item = search (rules, the_lemmas) in
     let s = names_tree c.args.names.now in
-    let first = c.check_type-in-Array.new.walk in
-    let second = c.check_type-in-Array-2.new.walk in
-    rw is (keep_three (least_tree c.args.walk.now.least) (least_tree first.least) (least_tree second.least) _ (type_faults s (c.args.walk.now.at + 2) index) (type_faults s (first.at + 1) item) (type_faults s (c.args.walk.now.at + type_size index + 3) item) _ (search (rules, the_lemmas)) (ap (λ n. type_faults s n item) (search (rules, the_lemmas, arith))) (search (rules, the_lemmas)) (search (rules, the_lemmas)))
+    let first = c.check_type-in-Array.new.progress in
+    let second = c.check_type-in-Array-2.new.progress in
+    rw is (keep_three (least_tree c.args.progress.now.least) (least_tree first.least) (least_tree second.least) _ (type_faults s (c.args.progress.now.at + 2) index) (type_faults s (first.at + 1) item) (type_faults s (c.args.progress.now.at + type_size index + 3) item) _ (search (rules, the_lemmas)) (ap (λ n. type_faults s n item) (search (rules, the_lemmas, arith))) (search (rules, the_lemmas)) (search (rules, the_lemmas)))
