@@ -1,7 +1,7 @@
 pub mod Drawing
 pub mod EitherKind
+pub mod FirstLine
 pub mod Judged
 pub mod KnownWords
-pub mod Lines
 pub mod Walking
 pub mod Words

@@ -3,6 +3,7 @@
 
 pub mod any_turns;
 pub mod laws;
+pub mod lines;
 pub mod seed_turns;
 pub mod setup;
 pub mod table;

@@ -1,9 +1,8 @@
 //! The rows of a table file.
-ghost use Rattle.std.specs.Prelude.{◌≡◌, ℕ, ◌+◌, ◌^◌, ◌<◌, List, ◌∷◌, ◌++◌, length, map, IfOk, IfSome, IfNone, IsErrOf, Option, None, Some, IsSomeAnd, All, slice_index, ◌≢◌};
-ghost use Rattle.std.specs.Fmt.{decimal};
+ghost use Rattle.std.specs.Prelude.{◌≡◌, ℕ, map, IfOk, IfSome, IfNone, IsErrOf, Some, All};
 ghost use Rattle.task_seed.specs.declared.table.ReadTableError.TheVariants.{NoMemory as OutOfMemory};
 
-use itoa::Buffer;
+use crate::lines::{number, number_before, split_line};
 use std::alloc::{AllocError, AllocFailed, Global};
 use std::str;
 use terms::{NoMemory, Refusal};
@@ -76,35 +75,14 @@ impl<T: Drop> From<AllocFailed<T>> for ReadTableError {
 
 ghost use Rattle.task_seed.specs.Table.{lines_of, spelled, IsInRange, IsRow, IsFirstBadLine};
 
-// The number that the word spells: a word is a number's if the number prints as it.
-fn number(word: &str) -> Option<u64>
-    ensures some { IfSome result (λ n. word.now ≡ decimal n) }
-    ensures only { (n : ℕ) → n < 2 ^ 64 → word.now ≡ decimal n → result ≡ Some n }
-{
-    match word.parse::<u64>() {
-        Ok(value) if Buffer::new().format(value) == word => Some(value),
-        _ => None,
-    }
-}
-
-// The number before the first space, and the text after that space.
-fn number_before_space(text: &str) -> Option<(u64, &str)>
-    ensures some { IfSome result (λ r. text.now ≡ decimal r.0 ++ (32 ∷ r.1.now)) }
-    ensures only { (n : ℕ) (rest : List ℕ) → n < 2 ^ 64 → text.now ≡ decimal n ++ (32 ∷ rest)
-        → IsSomeAnd result (λ r. (r.0 ≡ n) × (r.1.now ≡ rest)) }
-{
-    let (word, rest) = text.split_once(' ')?;
-    Some((number(word)?, rest))
-}
-
 // The row that the text spells.
 fn row_of(line: &str) -> Option<Row>
     ensures some { IfSome result (λ row. line.now ≡ spelled row) }
     ensures only { (row : Row) → IsInRange row → line.now ≡ spelled row → result ≡ Some row }
 {
-    let (component, rest) = number_before_space(line)?;
-    let (gap, rest) = number_before_space(rest)?;
-    let (task, rest) = number_before_space(rest)?;
+    let (component, rest) = number_before(line)?;
+    let (gap, rest) = number_before(rest)?;
+    let (task, rest) = number_before(rest)?;
     let choice = number(rest)?;
     Some(Row {
         component,
@@ -122,27 +100,6 @@ fn read_row(line: &[u8]) -> Option<Row>
     match str::from_utf8(line) {
         Ok(text) => row_of(text),
         Err(_) => None,
-    }
-}
-
-// The place of the first line feed.
-fn line_feed(text: &[u8]) -> Option<usize>
-    ensures some { IfSome result (λ n. (n < length text.now) × (slice_index text.now n ≡ 10)
-        × ((k : ℕ) → k < n → slice_index text.now k ≢ 10)) }
-    ensures none { IfNone result ((k : ℕ) → k < length text.now → slice_index text.now k ≢ 10) }
-{
-    text.iter().position(|byte| *byte == b'\n')
-}
-
-// The first line, without its line feed, and what follows it.
-fn split_line(text: &[u8]) -> (&[u8], &[u8])
-    requires { 0 < length text.now }
-    ensures first { lines_of text.now ≡ result.0.now ∷ lines_of result.1.now }
-    ensures shorter { length result.1.now < length text.now }
-{
-    match line_feed(text) {
-        Some(end) => (&text[..end], &text[end + 1..]),
-        None => (text, &[]),
     }
 }
 

@@ -1,5 +1,5 @@
 //! Reading a trace file.
-ghost use Rattle.std.specs.Prelude.{◌≡◌, ◌≢◌, ◌∷◌, ◌++◌, ◌<◌, ℕ, length, slice_index, option_to_list, IfOk, IfErr, IfSome, IfNone};
+ghost use Rattle.std.specs.Prelude.{◌≡◌, ◌++◌, option_to_list, IfOk, IfErr};
 ghost use Rattle.event_keys.specs.declared.key.Key.{Key};
 ghost use Rattle.task_seed.specs.Table.{lines_of};
 ghost use Rattle.trace.specs.Actions.{IsAction, IsForeign, IsNoAction};
@@ -14,6 +14,7 @@ use crate::written::{after_key, written};
 use plans::Plan;
 use std::alloc::Global;
 use std::str;
+use task_seed::lines::split_line;
 use terms::Action;
 
 // The action that is written in the text.
@@ -57,26 +58,6 @@ fn read_line(alloc: Global, plan: &Plan, line: &[u8]) -> Result<Option<Action>, 
     match str::from_utf8(line) {
         Ok(text) => read_text(alloc, plan, text),
         Err(_) => Err(LineFault::Bad),
-    }
-}
-
-fn line_feed(text: &[u8]) -> Option<usize>
-    ensures some { IfSome result (λ n. (n < length text.now) × (slice_index text.now n ≡ 10)
-        × ((k : ℕ) → k < n → slice_index text.now k ≢ 10)) }
-    ensures none { IfNone result ((k : ℕ) → k < length text.now → slice_index text.now k ≢ 10) }
-{
-    text.iter().position(|byte| *byte == b'\n')
-}
-
-// The first line, without its line feed, and what follows it.
-pub(crate) fn split_line(text: &[u8]) -> (&[u8], &[u8])
-    requires { 0 < length text.now }
-    ensures first { lines_of text.now ≡ result.0.now ∷ lines_of result.1.now }
-    ensures shorter { length result.1.now < length text.now }
-{
-    match line_feed(text) {
-        Some(end) => (&text[..end], &text[end + 1..]),
-        None => (text, &[]),
     }
 }
 

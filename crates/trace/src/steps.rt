@@ -13,12 +13,12 @@ ghost use Rattle.trace.specs.TraceFile.{Blames};
 
 use crate::fault::TraceError;
 use crate::line_fault::LineFault;
-use crate::reading::{fault_at, read_action, split_line};
-use crate::written::{number, number_before};
+use crate::reading::{fault_at, read_action};
 use event_keys::{Bound, Key, Message, Sign, Signed, Step};
 use plans::Plan;
 use std::alloc::Global;
 use std::str;
+use task_seed::lines::{number, number_before, split_line};
 
 fn component(word: &str) -> Option<u16>
     ensures some { IfSome result (λ n. (n < 2 ^ 16) × (word.now ≡ decimal n)) }

@@ -16,26 +16,8 @@ use crate::line_fault::LineFault;
 use itoa::Buffer;
 use plans::Plan;
 use std::alloc::Global;
+use task_seed::lines::number_before;
 use terms::Scalar;
-
-pub(crate) fn number(word: &str) -> Option<u64>
-    ensures some { IfSome result (λ n. word.now ≡ decimal n) }
-    ensures only { (n : ℕ) → n < 2 ^ 64 → word.now ≡ decimal n → result ≡ Some n }
-{
-    match word.parse::<u64>() {
-        Ok(value) if Buffer::new().format(value) == word => Some(value),
-        _ => None,
-    }
-}
-
-// The number before the first space, and the text after it.
-pub(crate) fn number_before(text: &str) -> Option<(u64, &str)>
-    ensures some { IfSome result (λ r. (r.0 < 2 ^ 64) × (text.now ≡ decimal r.0 ++ (32 ∷ r.1.now))) }
-    ensures only { (n : ℕ) (rest : List ℕ) → n < 2 ^ 64 → text.now ≡ decimal n ++ (32 ∷ rest) → IsSomeAnd result (λ r. (r.0 ≡ n) × (r.1.now ≡ rest)) }
-{
-    let (word, rest) = text.split_once(' ')?;
-    Some((number(word)?, rest))
-}
 
 // The text after the first space, where a number stands before it.
 fn after_number(text: &str) -> Option<&str>

@@ -1,7 +1,7 @@
 use Rattle.std.proofs.Common.{add-one}
 use Rattle.std.proofs.lemmas.List.{take_rest}
-use Rattle.task_seed.proofs.Lines.{lines-at, lines-whole}
-use Rattle.trace.proofs.reading.split_line.Goals as goal
+use Rattle.task_seed.proofs.FirstLine.{lines-at, lines-whole}
+use Rattle.task_seed.proofs.lines.split_line.Goals as goal
 
 pub returns-in-Some-clause-first : goal.returns-in-Some-clause-first
 returns-in-Some-clause-first c =

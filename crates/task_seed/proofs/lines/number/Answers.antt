@@ -1,6 +1,6 @@
 use Rattle.std.proofs.lemmas.Fmt.{parse-decimal}
 use Rattle.task_seed.proofs.Words.{same_text}
-use Rattle.task_seed.proofs.table.number.Goals as goal
+use Rattle.task_seed.proofs.lines.number.Goals as goal
 
 pub returns-in-Ok-clause-only : goal.returns-in-Ok-clause-only
 returns-in-Ok-clause-only c n small e =

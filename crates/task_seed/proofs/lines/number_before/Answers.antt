@@ -1,5 +1,5 @@
 use Rattle.task_seed.proofs.Words.{split_number}
-use Rattle.trace.proofs.written.number_before.Goals as goal
+use Rattle.task_seed.proofs.lines.number_before.Goals as goal
 
 pub returns-in_err-word-clause-only : goal.returns-in_err-word-clause-only
 returns-in_err-word-clause-only c n rest small e =
