@@ -2,11 +2,13 @@
 ghost use Rattle.std.specs.Prelude.{IfOk};
 ghost use Rattle.service.specs.Reading.{IsReadOf};
 
+use Text::{Has, Is};
 use service::serve::serve;
 use service::{FileFault, Files};
 use std::alloc::{AllocGlobal, Global};
 use std::io::{self, Write};
 use std::process::Abort;
+use std::str;
 use std::sync::Wait;
 use std::thread::Threads;
 use trace::Counted;
@@ -44,9 +46,13 @@ fn front(alloc: Global, bytes: &[u8], most: u64) -> Result<Vec<u8>, FileFault>
     }
 }
 
-fn words(rt: &(impl Abort + AllocGlobal), all: &[&str]) -> Vec<String> {
+// The words of a text with one space between them.
+fn words(rt: &(impl Abort + AllocGlobal), all: &str) -> Vec<String> {
     let mut words = Vec::new(rt.alloc());
-    for word in all {
+    if all.is_empty() {
+        return words;
+    }
+    for word in all.split(' ') {
         let word = String::from_str(rt.alloc(), word).expect(rt, "memory for a word");
         words.push(word).expect(rt, "memory for words");
     }
@@ -73,6 +79,43 @@ impl Write for Narrow {
     }
 }
 
+// What is wanted of what is written.
+#[derive(Clone, Copy)]
+enum Text<'a> {
+    Is(&'a str),
+    Has(&'a str),
+}
+
+fn is_wanted(written: &[u8], wanted: Text) -> bool {
+    match wanted {
+        Is(text) => written == text.as_bytes(),
+        Has(part) => match str::from_utf8(written) {
+            Ok(text) => text.contains(part),
+            Err(_) => false,
+        },
+    }
+}
+
+// Words with the bytes that can be written, what is printed, what is said, and the exit status.
+type Row<'a> = (&'a str, usize, Text<'a>, Text<'a>, u8);
+
+// Whether the words of a row do what it says.
+fn is_served<R: Abort + AllocGlobal + Threads + Wait + Sync>(
+    rt: &R,
+    files: &TwoFiles,
+    row: &Row,
+) -> bool {
+    let (all, room, printed, said, status) = *row;
+    let words = words(rt, all);
+    let held = Vec::new(rt.alloc());
+    let mut out = Counted::new(Narrow { held, room });
+    let mut err = Counted::new(Vec::new(rt.alloc()));
+    let ended = serve(rt, rt.alloc(), words.as_slice(), files, &mut out, &mut err);
+    ended == status
+        && is_wanted(out.into_inner().held.as_slice(), printed)
+        && is_wanted(err.into_inner().as_slice(), said)
+}
+
 // The ring of two, and a table of its turns with what all of them write.
 const RING: &str =
     "type Id = 0..1\nautomaton Node(me: Id, nx: Id, first: Bool)\nsignature\ninput pass(const me)\noutput pass(const nx)\nstates has: Bool := first\ntransitions\ninput pass(const me)\neff has := true\noutput pass(const nx)\npre has\neff has := false\ntasks { pass }\nautomaton Ring\ncomponents a: Node(0, 1, true); b: Node(1, 0, false)\n";
@@ -83,246 +126,184 @@ const TURNS: &str = "1 1 0 idle\n2 0 0 pass(1)\n3 1 1 pass(0)\n4 0 1 pass(1)\n";
 
 const CUT: &str = "1 1 0 idle\n2 0 0 pass(1)\n3 1 1 pass(0)\n4 0 1 pass(1)";
 
-// The ring with this table.
-fn ring_with(table: &str) -> TwoFiles {
-    TwoFiles {
-        source: RING.as_bytes(),
-        table: table.as_bytes(),
-    }
-}
-
-// This source, with no table.
-fn alone(source: &[u8]) -> TwoFiles {
-    TwoFiles { source, table: b"" }
-}
-
-// The exit status of these words; what went out and what was said stay in the writers.
-fn status_of<W: Write + Drop, R: Abort + AllocGlobal + Threads + Wait + Sync>(
-    rt: &R,
-    all: &[&str],
-    files: &TwoFiles,
-    out: &mut Counted<W>,
-    err: &mut Counted<Vec<u8>>,
-) -> u8 {
-    let words = words(rt, all);
-    serve(rt, rt.alloc(), words.as_slice(), files, out, err)
-}
-
-fn assert_bytes(rt: &impl Abort, written: &[u8], wanted: &str, at: &str) {
-    assert_eq!(rt; written, wanted.as_bytes(), "{at}");
-}
-
-fn assert_written(rt: &impl Abort, written: Counted<Vec<u8>>, wanted: &str, at: &str) {
-    assert_bytes(rt, written.into_inner().as_slice(), wanted, at);
-}
-
-// What these words write where all of it can be written.
-fn assert_serves<R: Abort + AllocGlobal + Threads + Wait + Sync>(
-    rt: &R,
-    all: &[&str],
-    files: &TwoFiles,
-    printed: &str,
-    said: &str,
-    status: u8,
-) {
-    let mut out = Counted::new(Vec::new(rt.alloc()));
-    let mut err = Counted::new(Vec::new(rt.alloc()));
-    let ended = status_of(rt, all, files, &mut out, &mut err);
-    assert_eq!(rt; ended, status, "{said}");
-    assert_written(rt, err, said, printed);
-    assert_written(rt, out, printed, said);
-}
-
-// What these words write where so many bytes can be written.
-fn assert_serves_narrow<R: Abort + AllocGlobal + Threads + Wait + Sync>(
-    rt: &R,
-    all: &[&str],
-    files: &TwoFiles,
-    room: usize,
-    printed: &str,
-    said: &str,
-    status: u8,
-) {
-    let held = Vec::new(rt.alloc());
-    let mut out = Counted::new(Narrow { held, room });
-    let mut err = Counted::new(Vec::new(rt.alloc()));
-    let ended = status_of(rt, all, files, &mut out, &mut err);
-    assert_eq!(rt; ended, status, "{printed}");
-    assert_written(rt, err, said, printed);
-    assert_bytes(rt, out.into_inner().held.as_slice(), printed, said);
-}
+const PASSES: &str = "2 0 0 pass(1)\n3 1 1 pass(0)\n4 0 1 pass(1)\n";
 
 // The words that run the ring with its table.
-const RUN: [&str; 8] = [
-    "run",
-    "source",
-    "--table",
-    "table",
-    "--workers",
-    "3",
-    "--budget",
-    "1",
+const RUN: &str = "run source --table table --workers 3 --budget 1";
+
+// Tables with the bytes that can be written, what is printed, what is said, and the exit status.
+const TABLES: [(&str, usize, &str, &str, u8); 16] = [
+    (ROWS, 100, TURNS, "", 0),
+    (ROWS, 53, TURNS, "", 0),
+    (ROWS, 52, CUT, "fault 60\n", 3),
+    (ROWS, 11, "1 1 0 idle\n", "fault 60\n", 3),
+    (ROWS, 5, "1 1 0", "fault 60\n", 3),
+    (ROWS, 0, "", "fault 60\n", 3),
+    (
+        "0 1 0 0\n1 1 0 0",
+        100,
+        "1 0 0 pass(1)\n1 1 0 pass(0)\n",
+        "",
+        0,
+    ),
+    ("1 7 0 0\n", 100, "7 1 0 idle\n", "", 0),
+    ("1 1001 0 0\n", 100, "", "", 0),
+    ("", 100, "", "", 0),
+    ("1 0 0 0\n", 100, "", "refused 27 at 1\n", 1),
+    ("0 1 1 0\n", 100, "", "refused 28 at 1\n", 1),
+    ("0 1 0\n", 100, "", "refused 29 at 1\n", 1),
+    ("2 1 0 0\n", 100, "", "refused 30 at 1\n", 1),
+    (
+        "0 1 0 0\n2 0 1 0\n1 0 0 0\n",
+        100,
+        "",
+        "refused 27 at 2\n",
+        1,
+    ),
+    ("2 0 1 0\n\n", 100, "", "refused 29 at 2\n", 1),
 ];
 
 #[test]
 fn tables_are_run_or_refused(rt: HostRuntime) {
-    let rows = [
-        (ROWS, 100, TURNS, "", 0u8),
-        (ROWS, 53, TURNS, "", 0),
-        (ROWS, 52, CUT, "fault 60\n", 3),
-        (ROWS, 11, "1 1 0 idle\n", "fault 60\n", 3),
-        (ROWS, 5, "1 1 0", "fault 60\n", 3),
-        (ROWS, 0, "", "fault 60\n", 3),
-        (
-            "0 1 0 0\n1 1 0 0",
-            100,
-            "1 0 0 pass(1)\n1 1 0 pass(0)\n",
-            "",
-            0,
-        ),
-        ("1 7 0 0\n", 100, "7 1 0 idle\n", "", 0),
-        ("1 1001 0 0\n", 100, "", "", 0),
-        ("", 100, "", "", 0),
-        ("1 0 0 0\n", 100, "", "refused 27 at 1\n", 1),
-        ("0 1 1 0\n", 100, "", "refused 28 at 1\n", 1),
-        ("0 1 0\n", 100, "", "refused 29 at 1\n", 1),
-        ("2 1 0 0\n", 100, "", "refused 30 at 1\n", 1),
-        (
-            "0 1 0 0\n2 0 1 0\n1 0 0 0\n",
-            100,
-            "",
-            "refused 27 at 2\n",
-            1,
-        ),
-        ("2 0 1 0\n\n", 100, "", "refused 29 at 2\n", 1),
-    ];
-    for (table, room, printed, said, status) in rows {
-        let files = ring_with(table);
-        assert_serves_narrow(&rt, &RUN, &files, room, printed, said, status);
+    for (k, (table, room, printed, said, status)) in TABLES.iter().enumerate() {
+        let files = TwoFiles {
+            source: RING.as_bytes(),
+            table: table.as_bytes(),
+        };
+        let row = (RUN, *room, Is(printed), Is(said), *status);
+        assert!(rt; is_served(&rt, &files, &row), "row {k}");
     }
 }
+
+// Words on the ring and its table: other options, a file that isn't there, help and the version, also where these are cut.
+const SERVED: [Row; 21] = [
+    ("run source --table table", 100, Is(TURNS), Is(""), 0),
+    (
+        "run source --table table --trace",
+        100,
+        Is(PASSES),
+        Is(""),
+        0,
+    ),
+    (
+        "run source --table=table --ticks 1",
+        100,
+        Is("1 1 0 idle\n"),
+        Is(""),
+        0,
+    ),
+    ("run source --table=table --ticks 0", 100, Is(""), Is(""), 0),
+    ("run source --ticks 0", 100, Is(""), Is(""), 0),
+    ("run missing", 100, Is(""), Is("fault 63\n"), 3),
+    (
+        "run source --table missing",
+        100,
+        Is(""),
+        Is("fault 63\n"),
+        3,
+    ),
+    ("print missing", 100, Is(""), Is("fault 63\n"), 3),
+    ("help", 9999, Has("Usage: warp <COMMAND>"), Is(""), 0),
+    ("help", 9999, Has("run"), Is(""), 0),
+    ("--help", 9999, Has("Usage: warp <COMMAND>"), Is(""), 0),
+    ("--help", 9999, Has("print"), Is(""), 0),
+    ("--help", 9999, Has("run"), Is(""), 0),
+    ("-h", 9999, Has("Usage: warp <COMMAND>"), Is(""), 0),
+    ("print --help", 9999, Has("print <F>"), Is(""), 0),
+    ("print -h", 9999, Has("print <F>"), Is(""), 0),
+    ("help print", 9999, Has("print <F>"), Is(""), 0),
+    (
+        "--version",
+        9999,
+        Has("warp 0.1.0\nproved with rattle-kit-"),
+        Is(""),
+        0,
+    ),
+    ("-V", 9999, Has("warp 0.1.0\n"), Is(""), 0),
+    ("help", 5, Is("A par"), Is("fault 60\n"), 3),
+    ("--version", 5, Is("warp "), Is("fault 60\n"), 3),
+];
+
+// Words that are wrong, and a part of what is said then.
+const REFUSED: [(&str, &str); 22] = [
+    ("", "Usage: warp <COMMAND>"),
+    ("run", "<F>"),
+    ("print", "<F>"),
+    ("first a", "first"),
+    ("last a", "last"),
+    ("Print a", "Print"),
+    ("run source table", "table"),
+    ("run source --workers 65", "65"),
+    ("run source --budget 0", "--budget"),
+    ("print source --loud", "--loud"),
+    ("run --version", "--version"),
+    ("print --version", "--version"),
+    ("print a b", "b"),
+    ("print -x", "-x"),
+    ("print --seed 1 a", "--seed"),
+    ("print a run b", "run"),
+    ("run a --workers 0", "--workers"),
+    ("run a --budget 65536", "65536"),
+    ("reference a --workers 2", "--workers"),
+    ("-- print a", ""),
+    ("drive a", "drive"),
+    ("drive a b --gap 0", "--gap"),
+];
 
 #[test]
-fn options_of_a_run(rt: HostRuntime) {
-    let files = ring_with(ROWS);
-    let passes = "2 0 0 pass(1)\n3 1 1 pass(0)\n4 0 1 pass(1)\n";
-    let rows: [(&[&str], &str); 5] = [
-        (&["run", "source", "--table", "table"], TURNS),
-        (&["run", "source", "--table", "table", "--trace"], passes),
-        (
-            &["run", "source", "--table=table", "--ticks", "1"],
-            "1 1 0 idle\n",
-        ),
-        (&["run", "source", "--table=table", "--ticks", "0"], ""),
-        (&["run", "source", "--ticks", "0"], ""),
-    ];
-    for (words, printed) in rows {
-        assert_serves(&rt, words, &files, printed, "", 0);
+fn words_are_served_or_refused(rt: HostRuntime) {
+    let files = TwoFiles {
+        source: RING.as_bytes(),
+        table: ROWS.as_bytes(),
+    };
+    for (k, row) in SERVED.iter().enumerate() {
+        assert!(rt; is_served(&rt, &files, row), "row {k}");
+    }
+    for (k, (said, part)) in REFUSED.iter().enumerate() {
+        let row = (*said, 100, Is(""), Has(part), 2);
+        assert!(rt; is_served(&rt, &files, &row), "wrong row {k}");
     }
 }
 
-#[test]
-fn files_that_are_missing(rt: HostRuntime) {
-    let files = ring_with(ROWS);
-    let rows: [&[&str]; 3] = [
-        &["run", "missing"],
-        &["run", "source", "--table", "missing"],
-        &["print", "missing"],
-    ];
-    for words in rows {
-        assert_serves(&rt, words, &files, "", "fault 63\n", 3);
-    }
-}
+const COUNTER: &str =
+    "automaton C signature internal up states n: Int := 9223372036854775807 transitions internal up eff n := n + 1 tasks {up} automaton S components c: C";
 
-fn text_of(rt: &impl Abort, written: Counted<Vec<u8>>) -> String {
-    String::from_utf8(written.into_inner()).expect(rt, "text")
-}
+const TEN_LINES: &str =
+    "automaton C\nsignature\ninternal up\nstates n: Int := 9223372036854775807\ntransitions\ninternal up\neff n := n + 1\ntasks { up }\nautomaton S\ncomponents c: C\n";
 
-fn assert_has(rt: &impl Abort, text: &str, part: &str) {
-    assert!(rt; text.contains(part), "{text}");
-}
-
-// Words that are wrong are said to be so, and help is printed; a part of what is written.
-fn assert_speaks<R: Abort + AllocGlobal + Threads + Wait + Sync>(
+// Whether this source is printed or refused so, where so many bytes can be written.
+fn is_printed<R: Abort + AllocGlobal + Threads + Wait + Sync>(
     rt: &R,
-    all: &[&str],
-    files: &TwoFiles,
+    source: &[u8],
+    room: usize,
+    printed: &str,
+    said: &str,
     status: u8,
-    part: &str,
-) {
-    let mut out = Counted::new(Vec::new(rt.alloc()));
-    let mut err = Counted::new(Vec::new(rt.alloc()));
-    let ended = status_of(rt, all, files, &mut out, &mut err);
-    assert_eq!(rt; ended, status, "{part}");
-    let (full, empty) = if status == 0 { (out, err) } else { (err, out) };
-    assert_has(rt, text_of(rt, full).as_str(), part);
-    assert_written(rt, empty, "", part);
-}
-
-#[test]
-fn wrong_words_help_and_version(rt: HostRuntime) {
-    let files = ring_with(ROWS);
-    let rows: [(&[&str], u8, &str); 15] = [
-        (&[], 2, "Usage: warp <COMMAND>"),
-        (&["run"], 2, "<F>"),
-        (&["print"], 2, "<F>"),
-        (&["first", "table"], 2, "first"),
-        (&["run", "source", "table"], 2, "table"),
-        (&["run", "source", "--workers", "65"], 2, "65"),
-        (&["run", "source", "--budget", "0"], 2, "--budget"),
-        (&["print", "source", "--loud"], 2, "--loud"),
-        (&["help"], 0, "Usage: warp <COMMAND>"),
-        (&["help"], 0, "run"),
-        (&["--help"], 0, "Usage: warp <COMMAND>"),
-        (&["print", "-h"], 0, "print <F>"),
-        (&["--version"], 0, "warp 0.1.0\nproved with rattle-kit-"),
-        (&["-V"], 0, "warp 0.1.0\n"),
-        (&["run", "--version"], 2, "--version"),
-    ];
-    for (said, status, part) in rows {
-        assert_speaks(&rt, said, &files, status, part);
-    }
-}
-
-#[test]
-fn help_or_version_that_is_cut(rt: HostRuntime) {
-    let files = ring_with(ROWS);
-    for word in ["help", "--version"] {
-        let held = Vec::new(rt.alloc());
-        let mut out = Counted::new(Narrow { held, room: 5 });
-        let mut err = Counted::new(Vec::new(rt.alloc()));
-        let ended = status_of(&rt, &[word], &files, &mut out, &mut err);
-        assert_eq!(rt; ended, 3);
-        assert_written(&rt, err, "fault 60\n", word);
-        assert_eq!(rt; out.into_inner().held.len(), 5);
-    }
+) -> bool {
+    let files = TwoFiles { source, table: b"" };
+    is_served(
+        rt,
+        &files,
+        &("print source", room, Is(printed), Is(said), status),
+    )
 }
 
 #[test]
 fn sources_are_printed_or_refused(rt: HostRuntime) {
-    let counter =
-        "automaton C signature internal up states n: Int := 9223372036854775807 transitions internal up eff n := n + 1 tasks {up} automaton S components c: C";
-    let ten_lines =
-        "automaton C\nsignature\ninternal up\nstates n: Int := 9223372036854775807\ntransitions\ninternal up\neff n := n + 1\ntasks { up }\nautomaton S\ncomponents c: C\n";
-    let rows: [(&[u8], usize, &str, &str, u8); 6] = [
-        (RING.as_bytes(), 1000, RING, "", 0),
-        (counter.as_bytes(), 1000, ten_lines, "", 0),
-        (counter.as_bytes(), 5, "autom", "fault 60\n", 3),
-        (counter.as_bytes(), 0, "", "fault 60\n", 3),
-        (
-            b"type A = enumeration of a, b",
-            1000,
-            "",
-            "refused 4 at 28\n",
-            1,
-        ),
-        (b"typ\xc8 A = 0..1", 1000, "", "refused 2 at 3\n", 1),
-    ];
-    for (source, room, printed, said, status) in rows {
-        let files = alone(source);
-        let words = ["print", "source"];
-        assert_serves_narrow(&rt, &words, &files, room, printed, said, status);
-    }
+    let (ring, counter) = (RING.as_bytes(), COUNTER.as_bytes());
+    let (letters, letter) = (b"type A = enumeration of a, b", b"typ\xc8 A = 0..1");
+    assert!(rt; is_printed(&rt, ring, 1000, RING, "", 0));
+    assert!(rt; is_printed(&rt, counter, 1000, TEN_LINES, "", 0));
+    assert!(rt; is_printed(&rt, counter, 5, "autom", "fault 60\n", 3));
+    assert!(rt; is_printed(&rt, counter, 0, "", "fault 60\n", 3));
+    assert!(rt; is_printed(&rt, letters, 1000, "", "refused 4 at 28\n", 1));
+    assert!(rt; is_printed(&rt, letter, 1000, "", "refused 2 at 3\n", 1));
+}
+
+fn extend(rt: &impl Abort, bytes: &mut Vec<u8>, more: &[u8]) {
+    bytes
+        .extend_from_slice(more)
+        .expect(rt, "memory for more bytes");
 }
 
 #[test]
@@ -333,26 +314,22 @@ fn the_limit_of_a_source(rt: HostRuntime) {
     for _k in bytes.len()..65_536 {
         extend(&rt, &mut bytes, b" ");
     }
-    assert_source(&rt, bytes.as_slice(), RING, "", 0);
+    assert!(rt; is_printed(&rt, bytes.as_slice(), 1000, RING, "", 0));
     extend(&rt, &mut bytes, b" ");
-    assert_source(&rt, bytes.as_slice(), "", "refused 5\n", 1);
+    assert!(rt; is_printed(&rt, bytes.as_slice(), 1000, "", "refused 5\n", 1));
 }
 
-fn extend(rt: &impl Abort, bytes: &mut Vec<u8>, more: &[u8]) {
-    bytes
-        .extend_from_slice(more)
-        .expect(rt, "memory for more bytes");
-}
-
-fn assert_source<R: Abort + AllocGlobal + Threads + Wait + Sync>(
+// Whether words with this table print nothing and say so.
+fn is_idle<R: Abort + AllocGlobal + Threads + Wait + Sync>(
     rt: &R,
-    bytes: &[u8],
-    printed: &str,
+    table: &[u8],
     said: &str,
     status: u8,
-) {
-    let files = alone(bytes);
-    assert_serves(rt, &["print", "source"], &files, printed, said, status);
+) -> bool {
+    let source = RING.as_bytes();
+    let words = "run source --table table --ticks 0";
+    let row = (words, 1000, Is(""), Is(said), status);
+    is_served(rt, &TwoFiles { source, table }, &row)
 }
 
 #[test]
@@ -362,22 +339,7 @@ fn the_limit_of_a_table(rt: HostRuntime) {
     for _k in 0..1_048_576u32 {
         extend(&rt, &mut bytes, b"0 1 0 429496729\n");
     }
-    assert_table(&rt, bytes.as_slice(), "", 0);
+    assert!(rt; is_idle(&rt, bytes.as_slice(), "", 0));
     extend(&rt, &mut bytes, b"0");
-    assert_table(&rt, bytes.as_slice(), "fault 64\n", 3);
-}
-
-// A table of which nothing is printed.
-fn assert_table<R: Abort + AllocGlobal + Threads + Wait + Sync>(
-    rt: &R,
-    bytes: &[u8],
-    said: &str,
-    status: u8,
-) {
-    let files = TwoFiles {
-        source: RING.as_bytes(),
-        table: bytes,
-    };
-    let words = ["run", "source", "--table", "table", "--ticks", "0"];
-    assert_serves(rt, &words, &files, "", said, status);
+    assert!(rt; is_idle(&rt, bytes.as_slice(), "fault 64\n", 3));
 }

@@ -1,6 +1,6 @@
 //! What is asked for, by hand.
 
-use command_line::{Asked, Crew, Options, Refused, read_words};
+use command_line::{Asked, Crew, Options, read_words};
 use std::alloc::Global;
 use std::test::Fail;
 
@@ -10,15 +10,6 @@ fn words(alloc: Global, all: &[&str]) -> Result<Vec<String>, Fail> {
         words.push(String::from_str(alloc, word)?)?;
     }
     Ok(words)
-}
-
-// The status with which `clap` ends: 0 for help, 2 for wrong words.
-fn status_of(read: &Result<Asked, Refused>) -> Option<i32> {
-    match read {
-        Err(Refused::Help(error)) if !error.use_stderr() => Some(error.exit_code()),
-        Err(Refused::Words(error)) if error.use_stderr() => Some(error.exit_code()),
-        _ => None,
-    }
 }
 
 // The options where none is entered.
@@ -95,66 +86,5 @@ fn a_subcommand_and_its_file(rt: HostRuntime) -> Result<(), Fail> {
             Err(_) => assert!(rt; false, "{wanted:?}"),
         }
     }
-    Ok(())
-}
-
-#[test]
-fn other_words_are_refused(rt: HostRuntime) -> Result<(), Fail> {
-    let alloc = rt.alloc();
-    let rows: [&[&str]; 17] = [
-        &[],
-        &["print"],
-        &["run"],
-        &["first", "a"],
-        &["print", "a", "b"],
-        &["print", "-x"],
-        &["last", "a"],
-        &["Print", "a"],
-        &["print", "--version"],
-        &["print", "--seed", "1", "a"],
-        &["print", "a", "run", "b"],
-        &["run", "a", "--workers", "0"],
-        &["run", "a", "--budget", "65536"],
-        &["reference", "a", "--workers", "2"],
-        &["--", "print", "a"],
-        &["drive", "a"],
-        &["drive", "a", "b", "--gap", "0"],
-    ];
-    for said in rows {
-        let words = words(alloc, said)?;
-        assert_eq!(rt; status_of(&read_words(alloc, words.as_slice())), Some(2));
-    }
-    Ok(())
-}
-
-#[test]
-fn calls_for_help(rt: HostRuntime) -> Result<(), Fail> {
-    let alloc = rt.alloc();
-    let rows: [&[&str]; 5] = [
-        &["--help"],
-        &["-h"],
-        &["help"],
-        &["print", "--help"],
-        &["help", "print"],
-    ];
-    for said in rows {
-        let words = words(alloc, said)?;
-        assert_eq!(rt; status_of(&read_words(alloc, words.as_slice())), Some(0));
-    }
-    Ok(())
-}
-
-#[test]
-fn the_texts(rt: HostRuntime) -> Result<(), Fail> {
-    let alloc = rt.alloc();
-    let help = words(alloc, &["--help"])?;
-    let Err(Refused::Help(error)) = read_words(alloc, help.as_slice()) else {
-        assert!(rt; false);
-        return Ok(());
-    };
-    let text = format!(in alloc; "{error}")?;
-    assert!(rt; text.as_str().contains("Usage: warp <COMMAND>"), "{text}");
-    assert!(rt; text.as_str().contains("print"), "{text}");
-    assert!(rt; text.as_str().contains("run"), "{text}");
     Ok(())
 }
