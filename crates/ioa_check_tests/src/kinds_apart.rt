@@ -1,165 +1,55 @@
-//! Compositions by hand.
-
+//! The first component whose entries have other types, by hand.
+use crate::meant::meaning_of;
 use action_types::first_difference;
-use ioa_check::{Automaton, Component, Resolved, Transition};
-use ioa_entries::Slot;
-use ioa_trees::tree::EntryKind;
-use ioa_typing::Kind;
-use std::alloc::AllocGlobal;
-use std::process::Abort;
-use terms::{Effect, Scalar, Term};
+use std::test::Fail;
 
-fn text(rt: &(impl Abort + AllocGlobal), text: &str) -> String {
-    String::from_str(rt.alloc(), text).expect(rt, "memory for a name")
-}
+// Each source with the first component up to which entries of one name differ in their parameters' types.
+const ROWS: [(&str, Option<usize>); 8] = [
+    // a formal and a range
+    (
+        "automaton A(f: Int) signature output go(const f) transitions output go(const f) tasks {go} automaton B(f: Int) signature input go(v: 0..1) transitions input go(v: 0..1) automaton S components a: A(1); b: A(1); c: B(1)",
+        Some(2),
+    ),
+    (
+        "automaton A(f: Int) signature output go(const f) transitions output go(const f) tasks {go} automaton B(f: Int) signature input go(v: Int) transitions input go(v: Int) automaton S components a: A(1); b: B(1); c: A(1)",
+        None,
+    ),
+    // two enumerations of one size
+    (
+        "type E = enumeration of e1, e2 type F = enumeration of f1, f2 automaton A signature output go(v: E) transitions output go(v: E) tasks {go} automaton B signature input go(v: F) transitions input go(v: F) automaton S components a: B; b: A; c: B",
+        Some(1),
+    ),
+    // another number of parameters
+    (
+        "automaton A signature output go(v: Bool) transitions output go(v: Bool) tasks {go} automaton B signature input go(v: Bool, w: Bool) transitions input go(v: Bool, w: Bool) automaton S components a: A; b: B; c: A",
+        Some(1),
+    ),
+    (
+        "automaton A signature output go transitions output go tasks {go} automaton B signature input go(v: Bool) transitions input go(v: Bool) automaton S components a: B; b: B; c: A",
+        Some(2),
+    ),
+    // automata that no component uses
+    (
+        "automaton A signature output go(v: Bool) transitions output go(v: Bool) tasks {go} automaton B signature input go(v: Int) transitions input go(v: Int) automaton S components a: B; b: B; c: B",
+        None,
+    ),
+    // input and output of one component
+    (
+        "automaton A signature output go(v: 0..3) input go(v: 0..2) transitions output go(v: 0..3) input go(v: 0..2) tasks {go} automaton S components a: A; b: A; c: A",
+        Some(0),
+    ),
+    // entries of two names
+    (
+        "automaton A signature output ready(v: Bool) output go(v: 0..3) transitions output ready(v: Bool) output go(v: 0..3) tasks {ready, go} automaton S components a: A; b: A; c: A",
+        None,
+    ),
+];
 
-fn only<T: Drop>(rt: &(impl Abort + AllocGlobal), item: T) -> Vec<T> {
-    let mut items = Vec::new(rt.alloc());
-    items.push(item).expect(rt, "memory for an item");
-    items
-}
-
-fn both<T: Drop>(rt: &(impl Abort + AllocGlobal), first: T, second: T) -> Vec<T> {
-    let mut items = only(rt, first);
-    items.push(second).expect(rt, "memory for an item");
-    items
-}
-
-fn entry(
-    rt: &(impl Abort + AllocGlobal),
-    kind: EntryKind,
-    name: &str,
-    parameters: Vec<Slot>,
-) -> Transition {
-    Transition {
-        kind,
-        name: text(rt, name),
-        parameters,
-        pre: Term::Known(Scalar::Bool(true)),
-        effect: Effect::Nothing,
+#[test]
+fn where_types_differ(rt: HostRuntime) -> Result<(), Fail> {
+    for (text, wanted) in ROWS {
+        let meant = meaning_of(rt.alloc(), text)?;
+        assert!(rt; first_difference(rt.alloc(), &meant)? == wanted);
     }
-}
-
-// An automaton whose only formal is a whole number.
-fn automaton(rt: &(impl Abort + AllocGlobal), transitions: Vec<Transition>) -> Automaton {
-    Automaton {
-        name: text(rt, "A"),
-        formals: only(rt, Kind::Whole),
-        transitions,
-        variables: Vec::new(rt.alloc()),
-        tasks: Vec::new(rt.alloc()),
-    }
-}
-
-fn component(rt: &(impl Abort + AllocGlobal), automaton: usize) -> Component {
-    Component {
-        name: text(rt, "c"),
-        automaton: Some(automaton),
-        arguments: Vec::new(rt.alloc()),
-    }
-}
-
-// The first component that differs, among three of these automata.
-fn first(
-    rt: &(impl Abort + AllocGlobal),
-    automata: Vec<Automaton>,
-    components: [usize; 3],
-) -> Option<usize> {
-    let mut all = Vec::new(rt.alloc());
-    for number in components {
-        all.push(component(rt, number))
-            .expect(rt, "memory for a component");
-    }
-    let resolved = Resolved {
-        members: Vec::new(rt.alloc()),
-        automata,
-        components: all,
-    };
-    first_difference(rt.alloc(), &resolved).expect(rt, "memory for the search")
-}
-
-// The same for two automata of one entry each, with one name and these parameters.
-fn first_of_two(
-    rt: &(impl Abort + AllocGlobal),
-    sent: Vec<Slot>,
-    received: Vec<Slot>,
-    components: [usize; 3],
-) -> Option<usize> {
-    let output = only(rt, entry(rt, EntryKind::Output, "go", sent));
-    let input = only(rt, entry(rt, EntryKind::Input, "go", received));
-    first(
-        rt,
-        both(rt, automaton(rt, output), automaton(rt, input)),
-        components,
-    )
-}
-
-#[test]
-fn a_formal_and_a_range(rt: HostRuntime) {
-    let fixed = only(&rt, Slot::Fixed(0));
-    let bits = only(&rt, Slot::Free(Kind::Range(0, 1)));
-    assert_eq!(rt; first_of_two(&rt, fixed, bits, [0, 0, 1]), Some(2));
-    let fixed = only(&rt, Slot::Fixed(0));
-    let whole = only(&rt, Slot::Free(Kind::Whole));
-    assert_eq!(rt; first_of_two(&rt, fixed, whole, [0, 1, 0]), None);
-}
-
-#[test]
-fn two_enumerations_of_one_size(rt: HostRuntime) {
-    let colours = only(&rt, Slot::Free(Kind::Enumeration(0, 2)));
-    let sides = only(&rt, Slot::Free(Kind::Enumeration(2, 2)));
-    assert_eq!(rt; first_of_two(&rt, colours, sides, [1, 0, 1]), Some(1));
-}
-
-#[test]
-fn another_number_of_parameters(rt: HostRuntime) {
-    let one = only(&rt, Slot::Free(Kind::Truth));
-    let two = both(&rt, Slot::Free(Kind::Truth), Slot::Free(Kind::Truth));
-    assert_eq!(rt; first_of_two(&rt, one, two, [0, 1, 0]), Some(1));
-    let none = Vec::new(rt.alloc());
-    let one = only(&rt, Slot::Free(Kind::Truth));
-    assert_eq!(rt; first_of_two(&rt, none, one, [1, 1, 0]), Some(2));
-}
-
-#[test]
-fn automata_that_no_component_uses(rt: HostRuntime) {
-    let truth = only(&rt, Slot::Free(Kind::Truth));
-    let whole = only(&rt, Slot::Free(Kind::Whole));
-    assert_eq!(rt; first_of_two(&rt, truth, whole, [1, 1, 1]), None);
-}
-
-#[test]
-fn input_and_output_of_one_component(rt: HostRuntime) {
-    let output = entry(
-        &rt,
-        EntryKind::Output,
-        "go",
-        only(&rt, Slot::Free(Kind::Range(0, 3))),
-    );
-    let input = entry(
-        &rt,
-        EntryKind::Input,
-        "go",
-        only(&rt, Slot::Free(Kind::Range(0, 2))),
-    );
-    let automata = only(&rt, automaton(&rt, both(&rt, output, input)));
-    assert_eq!(rt; first(&rt, automata, [0, 0, 0]), Some(0));
-}
-
-#[test]
-fn entries_of_two_names(rt: HostRuntime) {
-    let ready = entry(
-        &rt,
-        EntryKind::Output,
-        "ready",
-        only(&rt, Slot::Free(Kind::Truth)),
-    );
-    let go = entry(
-        &rt,
-        EntryKind::Output,
-        "go",
-        only(&rt, Slot::Free(Kind::Whole)),
-    );
-    let automata = only(&rt, automaton(&rt, both(&rt, ready, go)));
-    assert_eq!(rt; first(&rt, automata, [0, 0, 0]), None);
+    Ok(())
 }

@@ -6,6 +6,8 @@ mod kinds_apart;
 #[cfg(test)]
 mod meanings;
 #[cfg(test)]
+mod meant;
+#[cfg(test)]
 mod plan_parts;
 #[cfg(test)]
 mod tests;

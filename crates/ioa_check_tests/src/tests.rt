@@ -1,5 +1,6 @@
 //! Sources with known faults, and what a source means, by hand.
-use ioa_check::{Automaton, CheckError, Component, Resolved, Transition, check};
+use crate::meant::meaning_of;
+use ioa_check::{Automaton, CheckError, Component, Transition, check};
 use ioa_entries::Slot;
 use ioa_front::read;
 use ioa_trees::tree::EntryKind;
@@ -10,6 +11,224 @@ use std::test::Fail;
 const RING: &str =
     "type Id = 0..1\nautomaton Node(me: Id, nx: Id, first: Bool)\nsignature\ninput pass(const me)\noutput pass(const nx)\nstates has: Bool := first\ntransitions\ninput pass(const me)\neff has := true\noutput pass(const nx)\npre has\neff has := false\ntasks { pass }\nautomaton Ring\ncomponents a: Node(0, 1, true); b: Node(1, 0, false)\n";
 
+// Each source with why it is refused; nothing where it is accepted.
+const ROWS: [(&str, Option<CheckError>); 54] = [
+    // the start value comes later than the entry without a task
+    (
+        "automaton C signature internal up states n: Int := true transitions internal up automaton S components c: C",
+        Some(CheckError::TasksNotAPartition(3)),
+    ),
+    (
+        "automaton C signature internal up internal dn transitions internal up tasks {up} automaton S components c: C",
+        Some(CheckError::NoTransition(5)),
+    ),
+    (
+        "automaton C signature internal up output up transitions internal up output up tasks {up} automaton S components c: C",
+        Some(CheckError::DoubleName(6)),
+    ),
+    (
+        "automaton C signature internal up output up transitions internal up tasks {up} automaton S components c: C",
+        Some(CheckError::NoTransition(5)),
+    ),
+    (
+        "automaton C signature input go transitions input go input go automaton S components c: C",
+        Some(CheckError::DoubleTransition(8)),
+    ),
+    (
+        "automaton C signature input go transitions input go pre true automaton S components c: C",
+        Some(CheckError::InputWithPre(8)),
+    ),
+    (
+        "automaton C signature input go transitions input go tasks {go} automaton S components c: C",
+        Some(CheckError::TasksNotAPartition(10)),
+    ),
+    (
+        "automaton C signature internal up transitions internal up tasks {up} {up} automaton S components c: C",
+        Some(CheckError::TasksNotAPartition(13)),
+    ),
+    (
+        "automaton C signature internal up transitions output up tasks {up} automaton S components c: C",
+        Some(CheckError::NoTransition(3)),
+    ),
+    (
+        "automaton C signature input go(v: Int) states v: Int := 0 transitions input go(v: Int) automaton S components c: C",
+        Some(CheckError::DoubleName(11)),
+    ),
+    (
+        "automaton C signature internal up states n: Int := true transitions internal up eff n := n + 1 tasks {up} automaton S components c: C",
+        Some(CheckError::WrongType(10)),
+    ),
+    (
+        "automaton C signature internal up states n: Int % a note\n:= true transitions internal up tasks {up} automaton S components c: C",
+        Some(CheckError::WrongType(10)),
+    ),
+    (
+        "automaton C signature internal up transitions internal up pre true < 1 tasks {up} automaton S components c: C",
+        Some(CheckError::WrongType(11)),
+    ),
+    (
+        "automaton C signature internal up states a: Array[0..1, Int] := fill(true) transitions internal up tasks {up} automaton S components c: C",
+        Some(CheckError::WrongType(19)),
+    ),
+    (
+        "automaton C signature internal up states a: Array[0..1, Int] := fill(0) transitions internal up eff a := fill(true) tasks {up} automaton S components c: C",
+        Some(CheckError::WrongType(25)),
+    ),
+    (
+        "automaton C signature internal up states a: Array[0..1, Int] := fill(0) transitions internal up eff a[foo] := true tasks {up} automaton S components c: C",
+        Some(CheckError::WrongType(25)),
+    ),
+    (
+        "automaton C signature internal up states n: Int := fill(foo) transitions internal up tasks {up} automaton S components c: C",
+        Some(CheckError::WrongType(10)),
+    ),
+    (
+        "automaton C signature internal up states n: Int := foo transitions internal up tasks {up} automaton S components c: C",
+        Some(CheckError::UnknownName(10)),
+    ),
+    (
+        "automaton C signature internal up states n: Int := 0, m: Int := n transitions internal up tasks {up} automaton S components c: C",
+        Some(CheckError::UnknownName(16)),
+    ),
+    (
+        "automaton C signature internal up(v: 0..1) transitions internal up(v: 0..2) tasks {up} automaton S components c: C",
+        Some(CheckError::WrongType(14)),
+    ),
+    (
+        "automaton C signature internal up states a: Array[0..1, Int] := fill(0) transitions internal up eff a[true] := 0 tasks {up} automaton S components c: C",
+        Some(CheckError::WrongType(27)),
+    ),
+    (
+        "automaton C signature internal up states n: Int := 0 transitions internal up eff n[0] := 1 tasks {up} automaton S components c: C",
+        Some(CheckError::WrongType(15)),
+    ),
+    (
+        "automaton C signature internal up states n: Int := 0 transitions internal up eff m := true tasks {up} automaton S components c: C",
+        Some(CheckError::UnknownName(15)),
+    ),
+    (
+        "automaton C signature internal up transitions internal up pre true mod 0 = 0 tasks {up} automaton S components c: C",
+        Some(CheckError::WrongType(9)),
+    ),
+    (
+        "automaton C signature internal up transitions internal up pre 1 mod 0 = 0 tasks {up} automaton S components c: C",
+        Some(CheckError::WrongType(11)),
+    ),
+    (
+        "automaton C signature input go(const q) transitions input go(const q) automaton S components c: C",
+        Some(CheckError::UnknownName(7)),
+    ),
+    (
+        "automaton C signature input go internal up transitions internal up tasks {up} automaton S components c: C",
+        Some(CheckError::NoTransition(3)),
+    ),
+    (
+        "automaton C (f: Int) signature input go(const f) transitions input go(f: Int) automaton S components c: C",
+        Some(CheckError::WrongType(16)),
+    ),
+    (
+        "automaton C signature internal up transitions internal up(a: Bool, b: Bool, d: Bool, e: Bool, f: Bool, g: Bool, h: Bool, i: Bool, j: Bool, k: Bool, l: Bool, m: Bool, n: Bool, o: Bool, p: Bool, q: Bool, r: Bool) tasks {up} automaton S components c: C",
+        Some(CheckError::WrongType(7)),
+    ),
+    (
+        "automaton C signature internal up states q: Seq[Seq[Int, 65535], 65535] := empty transitions internal up tasks {up} automaton S components c: C",
+        Some(CheckError::OverLimit(8)),
+    ),
+    (
+        "automaton C signature internal up states q: Seq[Int, 70000] := empty transitions internal up tasks {up} automaton S components c: C",
+        Some(CheckError::OverLimit(8)),
+    ),
+    (
+        "automaton C signature internal up states q: Seq[Int, 65536] := empty transitions internal up tasks {up} automaton S components c: C",
+        Some(CheckError::OverLimit(12)),
+    ),
+    (
+        "automaton C signature internal up states q: Seq[Int, 0] := empty transitions internal up tasks {up} automaton S components c: C",
+        Some(CheckError::OverLimit(12)),
+    ),
+    (
+        "automaton C signature internal up states q: Array[0..70000, Int] := fill(0) transitions internal up tasks {up} automaton S components c: C",
+        Some(CheckError::OverLimit(8)),
+    ),
+    (
+        "automaton C signature internal up states q: Array[0..256, Int] := fill(0) transitions internal up tasks {up} automaton S components c: C",
+        Some(CheckError::OverLimit(10)),
+    ),
+    (
+        "automaton C signature output up(v: 0..9999) transitions output up(v: 0..9999) tasks {up} automaton S components c: C",
+        Some(CheckError::OverLimit(3)),
+    ),
+    (
+        "automaton C signature internal up states n: Int := 0 transitions internal up eff for i: Bool do for j: Bool do if true then for k: Bool do for l: Bool do n := 1 od od fi od od tasks {up} automaton S components c: C",
+        Some(CheckError::OverLimit(33)),
+    ),
+    (
+        "type A = Bool type A = Int automaton C signature input go transitions input go automaton S components c: C",
+        Some(CheckError::DoubleName(5)),
+    ),
+    (
+        "type E = enumeration of E automaton C signature input go transitions input go automaton S components c: C",
+        Some(CheckError::DoubleName(5)),
+    ),
+    (
+        "type A = A automaton C signature input go transitions input go automaton S components c: C",
+        Some(CheckError::UnknownName(3)),
+    ),
+    (
+        "automaton C(D: Int) signature input go transitions input go automaton D signature input go transitions input go automaton S components c: C(1)",
+        Some(CheckError::DoubleName(14)),
+    ),
+    (
+        "automaton C signature input go transitions input go automaton C components c: C",
+        Some(CheckError::DoubleName(9)),
+    ),
+    (
+        "automaton C signature input go transitions input go automaton S components c: C; c: C",
+        Some(CheckError::DoubleName(15)),
+    ),
+    (
+        "automaton C signature input go transitions input go automaton S components c: Nope(x)",
+        Some(CheckError::UnknownName(15)),
+    ),
+    (
+        "automaton C signature input go transitions input go automaton S components c: C(1)",
+        Some(CheckError::WrongType(13)),
+    ),
+    (
+        "automaton C(f: Bool) signature input go transitions input go automaton S components c: C(1)",
+        Some(CheckError::WrongType(20)),
+    ),
+    (RING, None),
+    (
+        "automaton C signature internal up states n: Int := 9223372036854775807 transitions internal up eff n := n + 1 tasks {up} automaton S components c: C",
+        None,
+    ),
+    (
+        "automaton C signature input go transitions input go automaton S components c: Nope(1)",
+        None,
+    ),
+    (
+        "automaton C signature input go(v: 0..01) transitions input go(v: 0..1) automaton S components c: C; d: C",
+        None,
+    ),
+    (
+        "automaton C signature input a(v: Int) input b(v: Int) transitions input a(v: Int) input b(v: Int) automaton S components c: C",
+        None,
+    ),
+    (
+        "automaton C signature internal up states n: Int := 0 transitions internal up eff for i: Bool do n := 1 od; for i: Bool do n := 2 od tasks {up} automaton S components c: C",
+        None,
+    ),
+    (
+        "type go = Bool automaton C signature input go transitions input go automaton S components go: C",
+        None,
+    ),
+    (
+        "type T = Bool automaton C signature input go transitions input go automaton S components c: S; d: T; e: C",
+        None,
+    ),
+];
+
 // Why the check refuses this source; nothing where it is accepted.
 fn refused(alloc: Global, text: &str) -> Result<Option<CheckError>, Fail> {
     let source = read(alloc, text.as_bytes())?;
@@ -19,271 +238,12 @@ fn refused(alloc: Global, text: &str) -> Result<Option<CheckError>, Fail> {
     }
 }
 
-// A source of one automaton with this body, and one component of it.
-fn within(alloc: Global, body: &str) -> Result<Option<CheckError>, Fail> {
-    let mut text = String::from_str(alloc, "automaton C ")?;
-    text.push_str(body)?;
-    text.push_str(" automaton S components c: C")?;
-    refused(alloc, text.as_str())
-}
-
 #[test]
-fn names_and_tasks(rt: HostRuntime) -> Result<(), Fail> {
-    let rows = [
-        // the start value comes later than the entry without a task
-        (
-            "signature internal up states n: Int := true transitions internal up",
-            CheckError::TasksNotAPartition(3),
-        ),
-        (
-            "signature internal up internal dn transitions internal up tasks {up}",
-            CheckError::NoTransition(5),
-        ),
-        (
-            "signature internal up output up transitions internal up output up tasks {up}",
-            CheckError::DoubleName(6),
-        ),
-        (
-            "signature internal up output up transitions internal up tasks {up}",
-            CheckError::NoTransition(5),
-        ),
-        (
-            "signature input go transitions input go input go",
-            CheckError::DoubleTransition(8),
-        ),
-        (
-            "signature input go transitions input go pre true",
-            CheckError::InputWithPre(8),
-        ),
-        (
-            "signature input go transitions input go tasks {go}",
-            CheckError::TasksNotAPartition(10),
-        ),
-        (
-            "signature internal up transitions internal up tasks {up} {up}",
-            CheckError::TasksNotAPartition(13),
-        ),
-        (
-            "signature internal up transitions output up tasks {up}",
-            CheckError::NoTransition(3),
-        ),
-        (
-            "signature input go(v: Int) states v: Int := 0 transitions input go(v: Int)",
-            CheckError::DoubleName(11),
-        ),
-    ];
-    for (body, wanted) in rows {
-        assert!(rt; within(rt.alloc(), body)? == Some(wanted));
+fn sources_and_their_refusals(rt: HostRuntime) -> Result<(), Fail> {
+    for (text, wanted) in ROWS {
+        assert!(rt; refused(rt.alloc(), text)? == wanted);
     }
     Ok(())
-}
-
-#[test]
-fn values_and_types(rt: HostRuntime) -> Result<(), Fail> {
-    let rows = [
-        (
-            "signature internal up states n: Int := true transitions internal up eff n := n + 1 tasks {up}",
-            CheckError::WrongType(10),
-        ),
-        (
-            "signature internal up states n: Int % a note\n:= true transitions internal up tasks {up}",
-            CheckError::WrongType(10),
-        ),
-        (
-            "signature internal up transitions internal up pre true < 1 tasks {up}",
-            CheckError::WrongType(11),
-        ),
-        (
-            "signature internal up states a: Array[0..1, Int] := fill(true) transitions internal up tasks {up}",
-            CheckError::WrongType(19),
-        ),
-        (
-            "signature internal up states a: Array[0..1, Int] := fill(0) transitions internal up eff a := fill(true) tasks {up}",
-            CheckError::WrongType(25),
-        ),
-        (
-            "signature internal up states a: Array[0..1, Int] := fill(0) transitions internal up eff a[foo] := true tasks {up}",
-            CheckError::WrongType(25),
-        ),
-        (
-            "signature internal up states n: Int := fill(foo) transitions internal up tasks {up}",
-            CheckError::WrongType(10),
-        ),
-        (
-            "signature internal up states n: Int := foo transitions internal up tasks {up}",
-            CheckError::UnknownName(10),
-        ),
-        (
-            "signature internal up states n: Int := 0, m: Int := n transitions internal up tasks {up}",
-            CheckError::UnknownName(16),
-        ),
-        (
-            "signature internal up(v: 0..1) transitions internal up(v: 0..2) tasks {up}",
-            CheckError::WrongType(14),
-        ),
-    ];
-    for (body, wanted) in rows {
-        assert!(rt; within(rt.alloc(), body)? == Some(wanted));
-    }
-    Ok(())
-}
-
-#[test]
-fn assignments_and_parameters(rt: HostRuntime) -> Result<(), Fail> {
-    let rows = [
-        (
-            "signature internal up states a: Array[0..1, Int] := fill(0) transitions internal up eff a[true] := 0 tasks {up}",
-            CheckError::WrongType(27),
-        ),
-        (
-            "signature internal up states n: Int := 0 transitions internal up eff n[0] := 1 tasks {up}",
-            CheckError::WrongType(15),
-        ),
-        (
-            "signature internal up states n: Int := 0 transitions internal up eff m := true tasks {up}",
-            CheckError::UnknownName(15),
-        ),
-        (
-            "signature internal up transitions internal up pre true mod 0 = 0 tasks {up}",
-            CheckError::WrongType(9),
-        ),
-        (
-            "signature internal up transitions internal up pre 1 mod 0 = 0 tasks {up}",
-            CheckError::WrongType(11),
-        ),
-        (
-            "signature input go(const q) transitions input go(const q)",
-            CheckError::UnknownName(7),
-        ),
-        (
-            "signature input go internal up transitions internal up tasks {up}",
-            CheckError::NoTransition(3),
-        ),
-        (
-            "(f: Int) signature input go(const f) transitions input go(f: Int)",
-            CheckError::WrongType(16),
-        ),
-        (
-            "signature internal up transitions internal up(a: Bool, b: Bool, d: Bool, e: Bool, f: Bool, g: Bool, h: Bool, i: Bool, j: Bool, k: Bool, l: Bool, m: Bool, n: Bool, o: Bool, p: Bool, q: Bool, r: Bool) tasks {up}",
-            CheckError::WrongType(7),
-        ),
-    ];
-    for (body, wanted) in rows {
-        assert!(rt; within(rt.alloc(), body)? == Some(wanted));
-    }
-    Ok(())
-}
-
-#[test]
-fn limits(rt: HostRuntime) -> Result<(), Fail> {
-    let rows = [
-        (
-            "signature internal up states q: Seq[Seq[Int, 65535], 65535] := empty transitions internal up tasks {up}",
-            CheckError::OverLimit(8),
-        ),
-        (
-            "signature internal up states q: Seq[Int, 70000] := empty transitions internal up tasks {up}",
-            CheckError::OverLimit(8),
-        ),
-        (
-            "signature internal up states q: Seq[Int, 65536] := empty transitions internal up tasks {up}",
-            CheckError::OverLimit(12),
-        ),
-        (
-            "signature internal up states q: Seq[Int, 0] := empty transitions internal up tasks {up}",
-            CheckError::OverLimit(12),
-        ),
-        (
-            "signature internal up states q: Array[0..70000, Int] := fill(0) transitions internal up tasks {up}",
-            CheckError::OverLimit(8),
-        ),
-        (
-            "signature internal up states q: Array[0..256, Int] := fill(0) transitions internal up tasks {up}",
-            CheckError::OverLimit(10),
-        ),
-        (
-            "signature output up(v: 0..9999) transitions output up(v: 0..9999) tasks {up}",
-            CheckError::OverLimit(3),
-        ),
-        (
-            "signature internal up states n: Int := 0 transitions internal up eff for i: Bool do for j: Bool do if true then for k: Bool do for l: Bool do n := 1 od od fi od od tasks {up}",
-            CheckError::OverLimit(33),
-        ),
-    ];
-    for (body, wanted) in rows {
-        assert!(rt; within(rt.alloc(), body)? == Some(wanted));
-    }
-    Ok(())
-}
-
-#[test]
-fn whole_sources(rt: HostRuntime) -> Result<(), Fail> {
-    let rows = [
-        (
-            "type A = Bool type A = Int automaton C signature input go transitions input go automaton S components c: C",
-            CheckError::DoubleName(5),
-        ),
-        (
-            "type E = enumeration of E automaton C signature input go transitions input go automaton S components c: C",
-            CheckError::DoubleName(5),
-        ),
-        (
-            "type A = A automaton C signature input go transitions input go automaton S components c: C",
-            CheckError::UnknownName(3),
-        ),
-        (
-            "automaton C(D: Int) signature input go transitions input go automaton D signature input go transitions input go automaton S components c: C(1)",
-            CheckError::DoubleName(14),
-        ),
-        (
-            "automaton C signature input go transitions input go automaton C components c: C",
-            CheckError::DoubleName(9),
-        ),
-        (
-            "automaton C signature input go transitions input go automaton S components c: C; c: C",
-            CheckError::DoubleName(15),
-        ),
-        (
-            "automaton C signature input go transitions input go automaton S components c: Nope(x)",
-            CheckError::UnknownName(15),
-        ),
-        (
-            "automaton C signature input go transitions input go automaton S components c: C(1)",
-            CheckError::WrongType(13),
-        ),
-        (
-            "automaton C(f: Bool) signature input go transitions input go automaton S components c: C(1)",
-            CheckError::WrongType(20),
-        ),
-    ];
-    for (text, wanted) in rows {
-        assert!(rt; refused(rt.alloc(), text)? == Some(wanted));
-    }
-    Ok(())
-}
-
-#[test]
-fn accepted_sources(rt: HostRuntime) -> Result<(), Fail> {
-    let rows = [
-        RING,
-        "automaton C signature internal up states n: Int := 9223372036854775807 transitions internal up eff n := n + 1 tasks {up} automaton S components c: C",
-        "automaton C signature input go transitions input go automaton S components c: Nope(1)",
-        "automaton C signature input go(v: 0..01) transitions input go(v: 0..1) automaton S components c: C; d: C",
-        "automaton C signature input a(v: Int) input b(v: Int) transitions input a(v: Int) input b(v: Int) automaton S components c: C",
-        "automaton C signature internal up states n: Int := 0 transitions internal up eff for i: Bool do n := 1 od; for i: Bool do n := 2 od tasks {up} automaton S components c: C",
-        "type go = Bool automaton C signature input go transitions input go automaton S components go: C",
-        "type T = Bool automaton C signature input go transitions input go automaton S components c: S; d: T; e: C",
-    ];
-    for text in rows {
-        assert!(rt; refused(rt.alloc(), text)?.is_none());
-    }
-    Ok(())
-}
-
-// What a source means.
-fn meaning_of(alloc: Global, text: &str) -> Result<Resolved, Fail> {
-    let source = read(alloc, text.as_bytes())?;
-    Ok(check(alloc, source)?.into_resolved())
 }
 
 // Whether this is the ring's node, but for its terms.
