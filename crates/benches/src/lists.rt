@@ -93,9 +93,16 @@ fn all_messages(alloc: Global, subject: &Subject) -> Result<Vec<Message>> {
 fn commits_all(alloc: Global, subject: &Subject) -> Result<bool> {
     let steps = orderly(alloc, subject)?;
     let mut world = World::new(alloc, Arc::try_clone(&subject.setup)?)?;
-    let replies = world.run(alloc, steps.as_slice())?;
+    if !are_all_done(alloc, &mut world, steps.as_slice())? {
+        return Ok(false);
+    }
     let text = committed_text(alloc, &world)?;
-    Ok(replies.iter().all(|reply| reply.is_ok()) && text.as_slice() == subject.text.as_slice())
+    Ok(text.as_slice() == subject.text.as_slice())
+}
+
+fn are_all_done(alloc: Global, world: &mut World<AnyTurns>, steps: &[Step]) -> Result<bool> {
+    let replies = world.run(alloc, steps)?;
+    Ok(replies.iter().all(|reply| reply.is_ok()))
 }
 
 // Whether what is committed after half of the steps begins what is committed after all of them, and that what the simulator does.
@@ -107,16 +114,24 @@ fn is_a_beginning(
 ) -> Result<bool> {
     let mut world = World::new(alloc, Arc::try_clone(&subject.setup)?)?;
     let (former, latter) = steps.split_at(steps.len() / 2);
-    let replies = world.run(alloc, former)?;
-    add_committed(replies.as_slice(), tally);
-    let half = committed_text(alloc, &world)?;
-    let replies = world.run(alloc, latter)?;
-    add_committed(replies.as_slice(), tally);
-    let whole = committed_text(alloc, &world)?;
+    let half = text_after(alloc, &mut world, former, tally)?;
+    let whole = text_after(alloc, &mut world, latter, tally)?;
     Ok(
         whole.as_slice().starts_with(half.as_slice())
             && subject.text.as_slice().starts_with(whole.as_slice()),
     )
+}
+
+// What is committed after further steps; how many turns they commit is added.
+fn text_after(
+    alloc: Global,
+    world: &mut World<AnyTurns>,
+    steps: &[Step],
+    tally: &mut Tally,
+) -> Result<Vec<u8>> {
+    let replies = world.run(alloc, steps)?;
+    add_committed(replies.as_slice(), tally);
+    committed_text(alloc, world)
 }
 
 fn add_committed(replies: &[Result<Reply, StepRefused>], tally: &mut Tally) {

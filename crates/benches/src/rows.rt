@@ -158,15 +158,32 @@ pub fn count(alloc: Global) -> Result<(u64, u64)> {
 
 // Whether the replies end as the row says, the world is equal to that of the other list, and it is equal to the start only where that list is empty.
 fn is_right(alloc: Global, row: &Row) -> Result<bool> {
-    let plan = compose_source(alloc, row.given.source().as_bytes())?;
-    let rows = read_table(alloc, row.given.table().as_bytes())?;
-    let turns = TableTurns::new(alloc, &plan, rows.as_slice())?;
-    let setup = Arc::new(alloc, Setup::new(plan, AnyTurns::Table(turns), 1_000)?)?;
-    let start = World::new(alloc, Arc::try_clone(&setup)?)?;
+    let setup = setup_of(alloc, row.given)?;
     let (world, replies) = driven(alloc, &setup, row.steps)?;
-    let (other, _) = driven(alloc, &setup, row.equal)?;
-    let is_at_start = row.equal.is_empty();
-    Ok(replies.as_str().ends_with(row.replies) && world == other && (world == start) == is_at_start)
+    if !replies.as_str().ends_with(row.replies) {
+        return Ok(false);
+    }
+    let is_equal = is_led_to(alloc, &setup, row.equal, &world)?;
+    Ok(is_equal && is_led_to(alloc, &setup, "", &world)? == row.equal.is_empty())
+}
+
+fn setup_of(alloc: Global, given: Given) -> Result<Arc<Setup<AnyTurns>>> {
+    let plan = compose_source(alloc, given.source().as_bytes())?;
+    let rows = read_table(alloc, given.table().as_bytes())?;
+    let turns = TableTurns::new(alloc, &plan, rows.as_slice())?;
+    let setup = Setup::new(plan, AnyTurns::Table(turns), 1_000)?;
+    Ok(Arc::new(alloc, setup)?)
+}
+
+// Whether these steps lead to this world.
+fn is_led_to(
+    alloc: Global,
+    setup: &Arc<Setup<AnyTurns>>,
+    steps: &str,
+    world: &World<AnyTurns>,
+) -> Result<bool> {
+    let (other, _) = driven(alloc, setup, steps)?;
+    Ok(other == *world)
 }
 
 // The world after the steps of a text, and the lines of their replies.

@@ -10,7 +10,6 @@ mod steps;
 use event_keys::Bound;
 use given::{AT_1, AT_2, AT_3, Given, PASS_2, UNSENT_2, start};
 use rollback::{ProcessRefused, Trip};
-use std::test::Fail;
 use steps::Step::{
     self, Anew, Base, Begin, Come, Drop, Go, Idled, Meet, Next, NoneDropped, Out, Passed, Process,
     RollBack, Same,
@@ -191,28 +190,27 @@ const DROPPED: [Step; 40] = [
 ];
 
 #[test]
-fn stragglers_and_antimessages(rt: HostRuntime) -> Result<(), Fail> {
-    assert_steps(&rt, &STRAGGLERS)?;
-    Ok(assert_steps(&rt, &OWED)?)
+fn stragglers_and_antimessages(rt: HostRuntime) {
+    assert_steps(&rt, &STRAGGLERS);
+    assert_steps(&rt, &OWED);
 }
 
 #[test]
-fn what_is_processed_is_taken_back(rt: HostRuntime) -> Result<(), Fail> {
-    Ok(assert_steps(&rt, &THERE_AND_BACK)?)
+fn what_is_processed_is_taken_back(rt: HostRuntime) {
+    assert_steps(&rt, &THERE_AND_BACK);
 }
 
 #[test]
-fn what_is_below_the_bound_is_dropped_in_order(rt: HostRuntime) -> Result<(), Fail> {
-    Ok(assert_steps(&rt, &DROPPED)?)
+fn what_is_below_the_bound_is_dropped_in_order(rt: HostRuntime) {
+    assert_steps(&rt, &DROPPED);
 }
 
 #[test]
-fn a_component_has_its_setup(rt: HostRuntime) -> Result<(), Fail> {
-    let first = start(rt.alloc(), Given::Ring, 0)?;
-    let second = start(rt.alloc(), Given::Ring, 1)?;
+fn a_component_has_its_setup(rt: HostRuntime) {
+    let first = start(rt.alloc(), Given::Ring, 0).expect(&rt, "memory for a component");
+    let second = start(rt.alloc(), Given::Ring, 1).expect(&rt, "memory for another");
     assert!(rt; second.setup().key(1, 1) == Some(AT_3));
     assert!(rt; second.setup() == first.setup());
-    Ok(())
 }
 
 #[test]

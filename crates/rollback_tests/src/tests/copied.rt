@@ -3,7 +3,6 @@
 use super::given::{AT_1, AT_2, AT_3, AT_4, PASS_2, PASS_3};
 use super::steps::Step::{self, Begin, Come, Copied, CopiedTwo, Copy, Out, OutTwo, RollBack};
 use super::steps::{EMPTY, ENDED, assert_steps};
-use std::test::Fail;
 
 const COPIED: [Step; 34] = [
     // what a turn sends is copied
@@ -49,6 +48,6 @@ const COPIED: [Step; 34] = [
 ];
 
 #[test]
-fn what_a_turn_sends_is_copied(rt: HostRuntime) -> Result<(), Fail> {
-    Ok(assert_steps(&rt, &COPIED)?)
+fn what_a_turn_sends_is_copied(rt: HostRuntime) {
+    assert_steps(&rt, &COPIED);
 }

@@ -3,7 +3,6 @@
 use super::given::{AT_1, AT_2, AT_3, PASS_2, UNSENT_2};
 use super::steps::Step::{self, Begin, Come, Process, Standing, StandingOther, Taken, TakenOther};
 use super::steps::assert_steps;
-use std::test::Fail;
 
 // Of the first pass: how often it is in a bag that is known, how often it and its antimessage are in one on its way, and the answer.
 const MATCHING: [Step; 43] = [
@@ -59,6 +58,6 @@ const MATCHING: [Step; 43] = [
 ];
 
 #[test]
-fn what_is_taken_and_what_stands(rt: HostRuntime) -> Result<(), Fail> {
-    Ok(assert_steps(&rt, &MATCHING)?)
+fn what_is_taken_and_what_stands(rt: HostRuntime) {
+    assert_steps(&rt, &MATCHING);
 }
