@@ -85,7 +85,10 @@ pub fn compose(alloc: Global, checked: Checked) -> Result<Plan, ComposeError>
     let internal = first_break(alloc, Rule::Internal, automata, components)?;
     let output = first_break(alloc, Rule::Output, automata, components)?;
     match least_error(unknown, own, internal, output, types, components.len()) {
-        Some(error) => Err(error),
+        Some(error) => {
+            drop(parts);
+            Err(error)
+        }
         None => {
             let plan = Plan::new(
                 alloc,

@@ -80,7 +80,13 @@ fn entry(alloc: Global, actions: &[ActionName], one: Transition) -> Result<Entry
     ensures { IfOk result (λ e. transition_of e ≡ transition (map text_of actions.now) (transition_meaning one)) }
 {
     let name = number_of(actions, one.name.as_str());
-    let params = params(alloc, one.parameters.as_slice())?;
+    let params = match params(alloc, one.parameters.as_slice()) {
+        Ok(params) => params,
+        Err(refused) => {
+            drop(one);
+            return Err(refused);
+        }
+    };
     Ok(Entry {
         name,
         kind: action_kind(one.kind),

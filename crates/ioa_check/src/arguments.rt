@@ -47,7 +47,10 @@ fn check_argument(
     let at = progress.at;
     let typed = check_term(alloc, names, argument, progress)?;
     match kind {
-        None => Ok(None),
+        None => {
+            drop(typed);
+            Ok(None)
+        }
         Some(kind) => {
             note_unfit(progress, kind, at, &typed);
             let value = value_in(alloc, kind, typed)?;
@@ -66,6 +69,8 @@ fn keep_value(
 {
     if wanted {
         values.push(value)?;
+    } else {
+        drop(value);
     }
     Ok(())
 }

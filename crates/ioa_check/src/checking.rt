@@ -73,7 +73,10 @@ pub fn check(alloc: Global, source: Source) -> Result<Checked, CheckError>
     sources_meant_law();
     let (meant, least) = judge(alloc, source.tree())?;
     match least {
-        Some(fault) => Err(refusal(fault)),
+        Some(fault) => {
+            drop(meant);
+            Err(refusal(fault))
+        }
         None => {
             let resolved = resolve(alloc, meant)?;
             Ok(Checked { resolved })

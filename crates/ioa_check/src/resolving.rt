@@ -45,7 +45,14 @@ fn transition(alloc: Global, meant: Meant) -> Result<Transition, AllocError>
     requires { IsWholeEntry (meant_tree meant) }
     ensures { IfOk result (λ t. transition_meaning t ≡ meant_tree meant) }
 {
-    let parameters = all(alloc, meant.parameters)?;
+    let parameters = match all(alloc, meant.parameters) {
+        Ok(parameters) => parameters,
+        Err(refused) => {
+            drop(meant.pre);
+            drop(meant.effect);
+            return Err(refused);
+        }
+    };
     Ok(Transition {
         kind: meant.kind,
         name: meant.name,

@@ -111,20 +111,17 @@ fn note_left(
 fn item_assigned(slot: usize, kind: Shape<'_>, index: Typed<'_>, value: Term) -> Option<Effect>
     ensures { done_tree result ≡ rule.item_assigned slot (shape_tree kind.entry) (typed_tree index.entry) (term_tree value) }
 {
-    match kind {
-        Shape::Array(by, _) => {
-            if fits(shape_of(by), index.shape) {
-                Some(Effect::AssignItem(slot, index.core, listed_of(by), value))
-            } else {
-                None
-            }
-        }
-        Shape::Truth => None,
-        Shape::Whole => None,
-        Shape::Range(_, _) => None,
-        Shape::Enumeration(_, _) => None,
-        Shape::Seq(_, _) => None,
+    let Shape::Array(by, _) = kind else {
+        drop(index);
+        drop(value);
+        return None;
+    };
+    if !fits(shape_of(by), index.shape) {
+        drop(index);
+        drop(value);
+        return None;
     }
+    Some(Effect::AssignItem(slot, index.core, listed_of(by), value))
 }
 
 fn assigned_at(
@@ -135,13 +132,35 @@ fn assigned_at(
 ) -> Option<Effect>
     ensures { done_tree result ≡ rule.at_item slot (place_kind kind.entry) (judged_tree index.entry) (core_tree value) }
 {
-    item_assigned(slot?, kind?, index?, value?)
+    let Some(slot) = slot else {
+        drop(index);
+        drop(value);
+        return None;
+    };
+    let Some(kind) = kind else {
+        drop(index);
+        drop(value);
+        return None;
+    };
+    let Some(index) = index else {
+        drop(value);
+        return None;
+    };
+    let Some(value) = value else {
+        drop(index);
+        return None;
+    };
+    item_assigned(slot, kind, index, value)
 }
 
 fn assigned(slot: Option<usize>, value: Option<Term>) -> Option<Effect>
     ensures { done_tree result ≡ rule.assigned slot (core_tree value) }
 {
-    Some(Effect::Assign(slot?, value?))
+    let Some(slot) = slot else {
+        drop(value);
+        return None;
+    };
+    Some(Effect::Assign(slot, value?))
 }
 
 fn assignment_of(

@@ -7,6 +7,7 @@ ghost use Rattle.ioa_typing.specs.KindViews.{option_tree};
 ghost use Rattle.ioa_typing.specs.TermViews.{core_tree};
 
 use ioa_typing::Kind;
+use ioa_typing::boxed::boxed_pair;
 use ioa_typing::kind::can_be_listed;
 use ioa_typing::listing::listed_of;
 use std::alloc::{AllocError, Global};
@@ -27,13 +28,15 @@ fn in_order(
     ensures { IfOk result (λ e. done_tree e ≡ rule.in_order (done_tree first) (done_tree second)) }
 {
     let Some(first) = first else {
+        drop(second);
         return Ok(None);
     };
     let Some(second) = second else {
+        drop(first);
         return Ok(None);
     };
-    let first = Box::new(alloc, first)?;
-    Ok(Some(Effect::Then(first, Box::new(alloc, second)?)))
+    let (first, second) = boxed_pair(alloc, first, second)?;
+    Ok(Some(Effect::Then(first, second)))
 }
 
 /// Effects one after the other.
@@ -63,16 +66,27 @@ fn branch_of(
 {
     let Arm { test, body } = arm;
     let Some(test) = test else {
+        drop(body);
+        drop(otherwise);
         return Ok(None);
     };
     let Some(body) = body else {
+        drop(test);
+        drop(otherwise);
         return Ok(None);
     };
     let Some(otherwise) = otherwise else {
+        drop(test);
+        drop(body);
         return Ok(None);
     };
-    let body = Box::new(alloc, body)?;
-    Ok(Some(Effect::If(test, body, Box::new(alloc, otherwise)?)))
+    match boxed_pair(alloc, body, otherwise) {
+        Ok((body, otherwise)) => Ok(Some(Effect::If(test, body, otherwise))),
+        Err(refused) => {
+            drop(test);
+            Err(refused)
+        }
+    }
 }
 
 /// The first branch whose condition holds, else what is done otherwise.
@@ -112,6 +126,7 @@ pub(crate) fn loop_of(
     ensures { IfOk result (λ e. done_tree e ≡ for_of number members (done_tree body)) }
 {
     let Some(members) = members else {
+        drop(body);
         return Ok(None);
     };
     let Some(body) = body else {

@@ -151,10 +151,16 @@ fn check_inside(
 {
     let entry = &transition.entry;
     progress.at += 2;
+    let name = entry.name.clone()?;
     let parameters = declare_bracketed(alloc, names, entry.parameters.as_slice(), progress)?;
     let pre = check_pre(alloc, names, entry.kind, &transition.pre, progress)?;
-    let effect = check_eff(alloc, names, transition.eff.as_slice(), progress)?;
-    let name = entry.name.clone()?;
+    let effect = match check_eff(alloc, names, transition.eff.as_slice(), progress) {
+        Ok(effect) => effect,
+        Err(refused) => {
+            drop(pre);
+            return Err(refused);
+        }
+    };
     Ok(Meant {
         kind: entry.kind,
         name,

@@ -78,25 +78,21 @@ fn fill_in(alloc: Global, kind: Option<Shape<'_>>, item: Put, at: u32) -> Result
     ensures misfit { IfOk result (λ p. (s : Scope) (v : PlainInit) → misfit_faults item.misfit ≡ rule.misfits s (item_of (place_kind kind.entry)) (at + 2) v → misfit_faults p.misfit ≡ rule.misfits s (place_kind kind.entry) at (tree.Fill v)) }
 {
     let Some(kind) = kind else {
+        drop(item);
         return Ok(Put {
             value: None,
             misfit: None,
         });
     };
-    match kind {
-        Shape::Array(index, _) => {
-            let value = filled(alloc, index, item.value)?;
-            Ok(Put {
-                value,
-                misfit: item.misfit,
-            })
-        }
-        Shape::Truth => Ok(misfit(at)),
-        Shape::Whole => Ok(misfit(at)),
-        Shape::Range(_, _) => Ok(misfit(at)),
-        Shape::Enumeration(_, _) => Ok(misfit(at)),
-        Shape::Seq(_, _) => Ok(misfit(at)),
-    }
+    let Shape::Array(index, _) = kind else {
+        drop(item);
+        return Ok(misfit(at));
+    };
+    let value = filled(alloc, index, item.value)?;
+    Ok(Put {
+        value,
+        misfit: item.misfit,
+    })
 }
 
 fn misfit(at: u32) -> Put
@@ -132,7 +128,10 @@ fn value_of(
     ensures { IfOk result (λ v. (s : Scope) (t : PlainTerm) → judged_tree typed.entry ≡ judge s t → core_tree v ≡ rule.put_in s (place_kind kind.entry) (tree.Value t)) }
 {
     match kind {
-        None => Ok(None),
+        None => {
+            drop(typed);
+            Ok(None)
+        }
         Some(kind) => {
             let value = value_in(alloc, kind, typed)?;
             Ok(value)

@@ -1,6 +1,7 @@
 //! What types mean, names in scope, and the checks of types and terms: their faults, and what they mean without names.
 #![tactic(auto)]
 
+pub mod boxed;
 pub mod fault;
 pub mod kind;
 pub mod listing;

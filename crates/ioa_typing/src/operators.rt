@@ -11,6 +11,7 @@ ghost use Rattle.ioa_rules.specs.TermRules as rule;
 ghost use Rattle.ioa_typing.specs.Noted.{AreNoted};
 ghost use Rattle.ioa_typing.specs.TermViews.{core_tree, judged_tree, typed_tree};
 
+use crate::boxed::boxed_pair;
 use crate::fault::FaultKind;
 use crate::kind::Kind;
 use crate::meaning::Meaning;
@@ -26,7 +27,10 @@ fn of_kind(core: Term, kind: &Option<Kind>) -> Option<Typed<'_>>
     ensures { judged_tree result ≡ rule.of_kind (term_tree core) (option_tree kind.now) }
 {
     match kind {
-        None => None,
+        None => {
+            drop(core);
+            None
+        }
         Some(kind) => Some(Typed {
             core,
             shape: shape_of(kind),
@@ -178,13 +182,14 @@ fn joined(
     ensures { IfOk result (λ c. core_tree c ≡ rule.joined operator (core_tree left) (core_tree right)) }
 {
     let Some(left) = left else {
+        drop(right);
         return Ok(None);
     };
     let Some(right) = right else {
+        drop(left);
         return Ok(None);
     };
-    let left = Box::new(alloc, left)?;
-    let right = Box::new(alloc, right)?;
+    let (left, right) = boxed_pair(alloc, left, right)?;
     Ok(Some(Term::Binary(operator, left, right)))
 }
 
@@ -236,6 +241,7 @@ pub(crate) fn modulo_of(
         return Ok(None);
     };
     if divisor == 0 {
+        drop(left);
         return Ok(None);
     }
     let left = Box::new(alloc, left)?;
@@ -258,8 +264,7 @@ fn compares(relation: Relation, left: Shape<'_>, right: Shape<'_>) -> bool
 fn compared(alloc: Global, relation: Relation, left: Term, right: Term) -> Result<Term, AllocError>
     ensures { IfOk result (λ c. term_tree c ≡ rule.compared relation (term_tree left) (term_tree right)) }
 {
-    let left = Box::new(alloc, left)?;
-    let right = Box::new(alloc, right)?;
+    let (left, right) = boxed_pair(alloc, left, right)?;
     match relation {
         Relation::Equal => Ok(Term::Binary(Operator::Same, left, right)),
         Relation::NotEqual => Ok(Term::Binary(Operator::Differs, left, right)),
@@ -284,14 +289,18 @@ pub(crate) fn end_compare<'a>(
     ensures meant { IfOk result (λ j. judged_tree j ≡ rule.compare_of relation (judged_tree left.entry) (judged_tree right.entry)) }
 {
     let Some(left) = left else {
+        drop(right);
         return Ok(None);
     };
     let Some(right) = right else {
+        drop(left);
         return Ok(None);
     };
     let fits = compares(relation, left.shape, right.shape);
     progress.note_if(!fits, place, FaultKind::WrongType);
     if !fits {
+        drop(left);
+        drop(right);
         return Ok(None);
     }
     let core = compared(alloc, relation, left.core, right.core)?;

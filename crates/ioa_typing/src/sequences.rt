@@ -7,6 +7,7 @@ ghost use Rattle.ioa_rules.specs.TermRules as rule;
 ghost use Rattle.ioa_typing.specs.Noted.{AreNoted};
 ghost use Rattle.ioa_typing.specs.TermViews.{judged_tree, typed_tree};
 
+use crate::boxed::boxed_pair;
 use crate::fault::FaultKind;
 use crate::kind::Kind;
 use crate::listing::{item_shape, listed_of};
@@ -28,10 +29,10 @@ fn called<'a>(
 {
     match call {
         Call::Head => {
+            let core = Box::new(alloc, core)?;
             let kind = item_shape(alloc, item)?;
-            let core = Term::Head(Box::new(alloc, core)?, kind);
             Ok(Typed {
-                core,
+                core: Term::Head(core, kind),
                 shape: shape_of(item),
             })
         }
@@ -63,17 +64,12 @@ fn call_of<'a>(
     let Some(of) = of else {
         return Ok(None);
     };
-    match of.shape {
-        Shape::Seq(item, most) => {
-            let found = called(alloc, call, item, most, of.core)?;
-            Ok(Some(found))
-        }
-        Shape::Truth => Ok(None),
-        Shape::Whole => Ok(None),
-        Shape::Range(_, _) => Ok(None),
-        Shape::Enumeration(_, _) => Ok(None),
-        Shape::Array(_, _) => Ok(None),
-    }
+    let Shape::Seq(item, most) = of.shape else {
+        drop(of);
+        return Ok(None);
+    };
+    let found = called(alloc, call, item, most, of.core)?;
+    Ok(Some(found))
 }
 
 /// A call on what stands at this place.
@@ -117,16 +113,25 @@ fn appended_to<'a>(
     ensures { IfOk result (λ j. judged_tree j ≡ rule.appended_to (term_tree list.entry.core) (shape_tree list.entry.shape) (typed_tree item.entry)) }
 {
     let Shape::Seq(kind, most) = list.shape else {
+        drop(list);
+        drop(item);
         return Ok(None);
     };
     if !fits(shape_of(kind), item.shape) {
+        drop(list);
+        drop(item);
         return Ok(None);
     }
-    let last = placed(alloc, shape_of(kind), item.core)?;
-    let last = Box::new(alloc, last)?;
-    let core = Term::Append(Box::new(alloc, list.core)?, last, most as usize);
+    let last = match placed(alloc, shape_of(kind), item.core) {
+        Ok(last) => last,
+        Err(refused) => {
+            drop(list);
+            return Err(refused);
+        }
+    };
+    let (core, last) = boxed_pair(alloc, list.core, last)?;
     Ok(Some(Typed {
-        core,
+        core: Term::Append(core, last, most as usize),
         shape: list.shape,
     }))
 }
@@ -139,9 +144,11 @@ fn append_of<'a>(
     ensures { IfOk result (λ j. judged_tree j ≡ rule.append_of (judged_tree list.entry) (judged_tree item.entry)) }
 {
     let Some(list) = list else {
+        drop(item);
         return Ok(None);
     };
     let Some(item) = item else {
+        drop(list);
         return Ok(None);
     };
     let found = appended_to(alloc, list, item)?;
@@ -198,15 +205,18 @@ fn element<'a>(
     ensures { IfOk result (λ j. judged_tree j ≡ rule.element (term_tree of.entry.core) (shape_tree of.entry.shape) (typed_tree index.entry)) }
 {
     let Shape::Array(by, item) = of.shape else {
+        drop(of);
+        drop(index);
         return Ok(None);
     };
     if !fits(shape_of(by), index.shape) {
+        drop(of);
+        drop(index);
         return Ok(None);
     }
-    let index = Box::new(alloc, index.core)?;
-    let core = Term::Index(Box::new(alloc, of.core)?, index, listed_of(by));
+    let (core, index) = boxed_pair(alloc, of.core, index.core)?;
     Ok(Some(Typed {
-        core,
+        core: Term::Index(core, index, listed_of(by)),
         shape: shape_of(item),
     }))
 }
@@ -219,9 +229,11 @@ fn element_of<'a>(
     ensures { IfOk result (λ j. judged_tree j ≡ rule.element_of (judged_tree of.entry) (judged_tree index.entry)) }
 {
     let Some(of) = of else {
+        drop(index);
         return Ok(None);
     };
     let Some(index) = index else {
+        drop(of);
         return Ok(None);
     };
     let found = element(alloc, of, index)?;

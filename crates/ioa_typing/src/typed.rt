@@ -69,6 +69,7 @@ pub fn truth_of(typed: Option<Typed<'_>>) -> Option<Term>
     if is_truth(typed.shape) {
         Some(typed.core)
     } else {
+        drop(typed);
         None
     }
 }
@@ -81,6 +82,7 @@ pub fn whole_of(typed: Option<Typed<'_>>) -> Option<Term>
     if is_whole(typed.shape) {
         Some(typed.core)
     } else {
+        drop(typed);
         None
     }
 }
@@ -111,6 +113,7 @@ pub fn value_in(
         return Ok(None);
     };
     if !fits(kind, typed.shape) {
+        drop(typed);
         return Ok(None);
     }
     let value = placed(alloc, kind, typed.core)?;

@@ -159,10 +159,10 @@ fn next_pair(left: &mut MessageSource<'_>, right: &mut MessageSource<'_>) -> Opt
 
 // Whether two sources give the same messages in the same order; then each has every message as often as the other.
 #[inline(always)]
-pub(crate) fn same_messages(mut left: MessageSource<'_>, mut right: MessageSource<'_>) -> bool
-    ensures { result ≡ true → (message : MessageValue) → count_source message left.entry ≡ count_source message right.entry }
+pub(crate) fn same_messages(left: &mut MessageSource<'_>, right: &mut MessageSource<'_>) -> bool
+    ensures { result ≡ true → (message : MessageValue) → count_source message left.old ≡ count_source message right.old }
 {
-    while let Some(is_same) = next_pair(&mut left, &mut right) {
+    while let Some(is_same) = next_pair(left, right) {
         if !is_same {
             return false;
         }
@@ -172,8 +172,8 @@ pub(crate) fn same_messages(mut left: MessageSource<'_>, mut right: MessageSourc
 
 // Whether the right source begins with all that the left one gives, in the same order. The right one loses it.
 #[inline(always)]
-pub(crate) fn begins_with(mut left: MessageSource<'_>, right: &mut MessageSource<'_>) -> bool
-    ensures { result ≡ true → (message : MessageValue) → count_source message right.old ≡ count_source message left.entry + count_source message right.new }
+fn begins_with(left: &mut MessageSource<'_>, right: &mut MessageSource<'_>) -> bool
+    ensures { result ≡ true → (message : MessageValue) → count_source message right.old ≡ count_source message left.old + count_source message right.new }
 {
     while let Some(message) = left.take() {
         if !is_same_next(Some(message), right.take()) {
@@ -181,6 +181,18 @@ pub(crate) fn begins_with(mut left: MessageSource<'_>, right: &mut MessageSource
         }
     }
     true
+}
+
+// Whether the third source gives all that the first one gives and then all that the second one does, in the same order.
+#[inline(always)]
+pub(crate) fn are_joined(
+    first: &mut MessageSource<'_>,
+    second: &mut MessageSource<'_>,
+    whole: &mut MessageSource<'_>,
+) -> bool
+    ensures { result ≡ true → (message : MessageValue) → count_source message whole.old ≡ count_source message first.old + count_source message second.old }
+{
+    begins_with(first, whole) && same_messages(second, whole)
 }
 
 // Whether no message has the sign.

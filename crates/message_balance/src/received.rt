@@ -3,6 +3,7 @@ ghost use Rattle.std.specs.Prelude.{◌≡◌, ◌+◌, ◌==◌, true, false};
 ghost use Rattle.std.specs.List.{list_all};
 ghost use Rattle.event_keys.specs.declared.message.Message.{Message as MessageValue};
 ghost use Rattle.message_balance.specs.Balance.{all_of, count_arrivals, count_places, is_all_taken, is_input_balanced, is_taken_if_to, is_taken_balanced};
+ghost use Rattle.message_balance.specs.Walks.{count_merged};
 
 use crate::done::Done;
 use crate::message_walk::{MergedMessages, MessageSource, same_messages, same_messages_merged};
@@ -46,15 +47,19 @@ fn pass_place(places: &mut Places<'_>, message: &Message) -> bool
 }
 
 // Whether both sides have the message as often: they are passed in pairs, so that nothing is counted.
-fn is_taken_balanced(mut arrivals: Arrivals<'_>, mut places: Places<'_>, message: &Message) -> bool
-    ensures { result ≡ (count_arrivals message.now arrivals.entry == count_places message.now places.entry) }
+fn is_taken_balanced(
+    arrivals: &mut Arrivals<'_>,
+    places: &mut Places<'_>,
+    message: &Message,
+) -> bool
+    ensures { result ≡ (count_arrivals message.now arrivals.old == count_places message.now places.old) }
 {
-    while pass_arrival(&mut arrivals, message) {
-        if !pass_place(&mut places, message) {
+    while pass_arrival(arrivals, message) {
+        if !pass_place(places, message) {
             return false;
         }
     }
-    !pass_place(&mut places, message)
+    !pass_place(places, message)
 }
 
 /// The messages to a component, wherever they are: those that others say it has taken, what waits to be delivered, and the component's own
@@ -68,22 +73,25 @@ pub struct Received<'a> {
     pub owed: &'a EventList<Signed>,
 }
 
-impl Received<'_> {
+impl<'a> Received<'a> {
     // Whether the message came as often as it is there.
     fn is_balanced(self, message: &Message) -> bool
         ensures { result ≡ is_taken_balanced self.entry message.now }
     {
-        let arrivals = Arrivals {
+        let mut arrivals = Arrivals {
             taken: self.taken.iter(),
             owed: self.owed.iter(),
             tray: self.tray.iter(),
         };
-        let places = Places {
+        let mut places = Places {
             done: self.done.iter(),
             pending: self.pending.iter(),
             tray: self.tray.iter(),
         };
-        is_taken_balanced(arrivals, places, message)
+        let is_balanced = is_taken_balanced(&mut arrivals, &mut places, message);
+        drop(arrivals);
+        drop(places);
+        is_balanced
     }
 
     // The same of each of these that is sent to the component.
@@ -127,8 +135,12 @@ impl Received<'_> {
         if !self.tray.is_empty() || is_something(self.pending) || is_something(self.owed) {
             return false;
         }
-        let arrivals = MessageSource::with_sign(self.taken.iter(), Sign::Plus);
-        same_messages(arrivals, MessageSource::inputs(self.done.iter()))
+        let mut arrivals = MessageSource::with_sign(self.taken.iter(), Sign::Plus);
+        let mut inputs = MessageSource::inputs(self.done.iter());
+        let is_same = same_messages(&mut arrivals, &mut inputs);
+        drop(arrivals);
+        drop(inputs);
+        is_same
     }
 
     // Whether one walk along both sides finds the same messages; then each is level.
@@ -138,22 +150,39 @@ impl Received<'_> {
         self.has_same_done() || self.has_same_merged()
     }
 
+    // The messages that came, or are still to be removed.
+    fn merged_arrivals(self) -> MergedMessages<'a>
+        ensures { (message : MessageValue) → count_merged message result ≡ count_arrivals message (record { taken = self.entry.taken.now; owed = all_of self.entry.owed.now; tray = self.entry.tray.now }) }
+    {
+        MergedMessages::new(
+            MessageSource::with_sign(self.taken.iter(), Sign::Plus),
+            MessageSource::with_sign(self.owed.iter(), Sign::Minus),
+            MessageSource::with_sign(self.tray.iter(), Sign::Minus),
+        )
+    }
+
+    // Those that are done, are pending or wait.
+    fn merged_places(self) -> MergedMessages<'a>
+        ensures { (message : MessageValue) → count_merged message result ≡ count_places message (record { done = all_of self.entry.done.now; pending = all_of self.entry.pending.now; tray = self.entry.tray.now }) }
+    {
+        MergedMessages::new(
+            MessageSource::inputs(self.done.iter()),
+            MessageSource::with_sign(self.pending.iter(), Sign::Plus),
+            MessageSource::with_sign(self.tray.iter(), Sign::Plus),
+        )
+    }
+
     // The same where something waits, which is rare, so that it stays a call.
     #[inline(never)]
     fn has_same_merged(self) -> bool
         ensures { result ≡ true → (message : MessageValue) → is_taken_balanced self.entry message ≡ true }
     {
-        let mut arrivals = MergedMessages::new(
-            MessageSource::with_sign(self.taken.iter(), Sign::Plus),
-            MessageSource::with_sign(self.owed.iter(), Sign::Minus),
-            MessageSource::with_sign(self.tray.iter(), Sign::Minus),
-        );
-        let mut places = MergedMessages::new(
-            MessageSource::Inputs(self.done.iter()),
-            MessageSource::with_sign(self.pending.iter(), Sign::Plus),
-            MessageSource::with_sign(self.tray.iter(), Sign::Plus),
-        );
-        same_messages_merged(&mut arrivals, &mut places)
+        let mut arrivals = self.merged_arrivals();
+        let mut places = self.merged_places();
+        let is_same = same_messages_merged(&mut arrivals, &mut places);
+        drop(arrivals);
+        drop(places);
+        is_same
     }
 
     /// Whether all messages to component `to` are balanced: each came as often as it is there. It is told by one walk, and where that finds a

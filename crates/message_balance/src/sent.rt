@@ -8,7 +8,7 @@ ghost use Rattle.message_balance.specs.Walks.{count_turns};
 
 use crate::done::Done;
 use crate::message_walk::{
-    MergedMessages, MessageSource, begins_with, has_none_with, same_messages, same_messages_merged,
+    MergedMessages, MessageSource, are_joined, has_none_with, same_messages_merged,
 };
 use crate::passing::{pass_one, pass_sending};
 use antimessage::Bag;
@@ -45,18 +45,18 @@ fn pass_sent(sent: &mut SentMessages<'_>, message: &Message) -> bool
 }
 
 fn is_sent_balanced(
-    mut standing: StandingMessages<'_>,
-    mut sent: SentMessages<'_>,
+    standing: &mut StandingMessages<'_>,
+    sent: &mut SentMessages<'_>,
     message: &Message,
 ) -> bool
-    ensures { result ≡ (count_standing message.now standing.entry == count_sent message.now sent.entry) }
+    ensures { result ≡ (count_standing message.now standing.old == count_sent message.now sent.old) }
 {
-    while pass_standing(&mut standing, message) {
-        if !pass_sent(&mut sent, message) {
+    while pass_standing(standing, message) {
+        if !pass_sent(sent, message) {
             return false;
         }
     }
-    !pass_sent(&mut sent, message)
+    !pass_sent(sent, message)
 }
 
 /// The messages that a component has sent, wherever they are: those that others say stand, what has not left yet, and what it has done.
@@ -72,15 +72,18 @@ impl Sent<'_> {
     fn is_balanced(self, message: &Message) -> bool
         ensures { result ≡ is_sent_balanced self.entry message.now }
     {
-        let standing = StandingMessages {
+        let mut standing = StandingMessages {
             standing: self.standing.iter(),
             out: self.out.iter(),
         };
-        let sent = SentMessages {
+        let mut sent = SentMessages {
             done: self.done.iter(),
             out: self.out.iter(),
         };
-        is_sent_balanced(standing, sent, message)
+        let is_balanced = is_sent_balanced(&mut standing, &mut sent, message);
+        drop(standing);
+        drop(sent);
+        is_balanced
     }
 
     // The same of each of these that has a key of component `from`.
@@ -126,11 +129,13 @@ impl Sent<'_> {
         }
         let none = EventList::new();
         let mut sent = MessageSource::antimessages(none.iter(), self.done.iter());
-        let standing = MessageSource::with_sign(self.standing.iter(), Sign::Plus);
-        if !begins_with(standing, &mut sent) {
-            return false;
-        }
-        same_messages(MessageSource::with_sign(self.out.iter(), Sign::Plus), sent)
+        let mut standing = MessageSource::with_sign(self.standing.iter(), Sign::Plus);
+        let mut out = MessageSource::with_sign(self.out.iter(), Sign::Plus);
+        let is_same = are_joined(&mut standing, &mut out, &mut sent);
+        drop(standing);
+        drop(out);
+        drop(sent);
+        is_same
     }
 
     /// Whether one walk along both sides finds the same messages.
@@ -156,7 +161,10 @@ impl Sent<'_> {
             MessageSource::with_sign(self.out.iter(), Sign::Minus),
             MessageSource::Nothing,
         );
-        same_messages_merged(&mut standing, &mut sent)
+        let is_same = same_messages_merged(&mut standing, &mut sent);
+        drop(standing);
+        drop(sent);
+        is_same
     }
 
     /// Whether each message of component `from` stands as often as it was sent: it is looked for one by one.

@@ -93,8 +93,8 @@ fn start<T: Turns, R: Wait>(
 {
     let (exchange, leases) = start_exchange(alloc, setup)?;
     let components = leases.len();
-    let (pool, passes) = Pool::new(rt, alloc, pace_all(alloc, leases, budget)?, workers)?;
     let lent = Vec::from_array(alloc, [lend_out(alloc, exchange)?])?;
+    let (pool, passes) = Pool::new(rt, alloc, pace_all(alloc, leases, budget)?, workers)?;
     let (exchange, mut locks) = Pool::new(rt, alloc, lent, workers + 1)?;
     let (published, mut seats) = Published::new(alloc, workers + 1)?;
     let (Some(lock), Some(seat)) = (locks.pop(), seats.pop()) else {

@@ -10,7 +10,7 @@ all-requires c = below slot_tree c.args.meant.parameters.items refl c.requires.p
 
 pub returns : goal.returns
 returns c =
-    let parameters = raised slot_tree c.in_ok-parameters.parameters.items c.args.meant.parameters.items c.in_ok-parameters.ensures in
+    let parameters = raised slot_tree c.in-Ok.parameters.items c.args.meant.parameters.items c.in-Ok.ensures in
     let pre = sym c.there.ensures in
     let effect = sym c.there-2.ensures in
     λ i. record { kind = c.args.meant.kind; name = string_bytes c.args.meant.name; parameters = parameters i; pre = core_tree (pre i); effect = done_tree (effect i) }

@@ -10,7 +10,6 @@ returns c one_is message =
     let nothing : count_as Minus message (all_of c.new-none.result) ≡ 0 = ap (λ a. count_as Minus message (all_of a)) c.new-none.ensures in
     let sent = c.antimessages-sent.ensures message ∙ (λ v. count_as Minus message (c.iter-2.ensures v) + count_turns message (c.iter-3.ensures v)) in
     let standing = c.with_sign-standing.ensures message ∙ ap (count_as Plus message) c.iter-4.ensures.items in
-    let first = c.begins_with.ensures c.if-not-begins_with.false message in
-    let out = c.with_sign.ensures message ∙ ap (count_as Plus message) c.iter-5.ensures.items in
-    let second = c.same_messages.ensures one_is message in
-    omega (arith, minuses, nothing, sent, standing, first, out, second)
+    let out = c.with_sign-out.ensures message ∙ ap (count_as Plus message) c.iter-5.ensures.items in
+    let whole = c.are_joined-is_same.ensures one_is message in
+    omega (arith, minuses, nothing, sent, standing, out, whole)
