@@ -198,7 +198,13 @@ pub(crate) fn check_assignment(
     progress.at += 1;
     let index = check_at(alloc, names, index, progress)?;
     progress.at += 1;
-    let put = check_init(alloc, names, left_kind(kind, &index), init, progress)?;
+    let put = match check_init(alloc, names, left_kind(kind, &index), init, progress) {
+        Ok(put) => put,
+        Err(refused) => {
+            drop(index);
+            return Err(refused);
+        }
+    };
     note_left(progress, at, kind, &index);
     progress.note_if(put.misfit.is_some(), at, FaultKind::WrongType);
     Ok(assignment_of(cell, kind, index, put.value))

@@ -47,9 +47,18 @@ impl Names {
         ensures err { OnErr result (names_tree self.new ≡ names_tree self.old) }
     {
         if self.get(name.as_str()).is_some() {
+            drop(meaning);
             return Ok(false);
         }
-        self.table.insert(name.clone()?, meaning)?;
+        let name = match name.clone() {
+            Ok(name) => name,
+            Err(refused) => {
+                drop(meaning);
+                return Err(refused);
+            }
+        };
+        let former = self.table.insert(name, meaning)?;
+        drop(former);
         Ok(true)
     }
 

@@ -23,7 +23,7 @@ returns-clause-faults c =
     let k = rule.cell_kind (named q s) in
     let k_is : place_kind c.cell_kind-kind.result ≡ k = search rules in
     let left_is : place_kind c.left_kind.result ≡ rule.left_kind k i = c.left_kind.ensures s i (search rules) ∙ ap (λ x. rule.left_kind x i) k_is in
-    let wrong : is_some c.in_ok-put.put.misfit ≡ is_misfit s (rule.left_kind k i) v = misfit_is s (place_kind c.left_kind.result) (c.check_at.new.progress.at + 1) v c.in_ok-put.put.misfit (search rules) ∙ ap (λ x. is_misfit s x v) left_is in
+    let wrong : is_some c.in-Ok.put.misfit ≡ is_misfit s (rule.left_kind k i) v = misfit_is s (place_kind c.left_kind.result) (c.check_at.new.progress.at + 1) v c.in-Ok.put.misfit (search rules) ∙ ap (λ x. is_misfit s x v) left_is in
     keep_five (least_tree c.args.progress.now.least) (least_tree c.note_if.new.self.least) (least_tree c.check_at.new.progress.least) (least_tree c.check_init.new.progress.least) (least_tree c.note_left.new.progress.least) (least_tree c.note_if-2.new.self.least)
     (where_wrong (not (is_variable (named q s))) at 10)
     (rule.at_faults s (at + 1) i)
