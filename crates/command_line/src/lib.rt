@@ -100,16 +100,25 @@ pub fn read_words<'a>(alloc: Global, words: &'a [String]) -> Result<Asked<'a>, R
     let mut command = described(alloc)?;
     let matches = match command.try_get_matches_from_mut(words) {
         Ok(matches) => matches,
-        Err(error) => return Err(refusal_of(error)),
+        Err(error) => {
+            drop(command);
+            return Err(refusal_of(error));
+        }
     };
-    match asked_by(&matches) {
-        Some(asked) => Ok(asked),
+    let asked = asked_by(&matches);
+    drop(matches);
+    match asked {
+        Some(asked) => {
+            drop(command);
+            Ok(asked)
+        }
         None => {
             let error = command.error(
                 ErrorKind::MissingSubcommand,
                 "a subcommand and its file are wanted",
-            )?;
-            Err(Refused::Words(error))
+            );
+            drop(command);
+            Err(Refused::Words(error?))
         }
     }
 }

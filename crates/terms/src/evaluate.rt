@@ -79,28 +79,47 @@ fn look<'a, C: Cells>(
         Term::Cell(n) => Ok(cell_of(cells, *n)),
         Term::Not(a) => {
             let a = look(alloc, a, env, cells)?;
-            Ok(Seen::of_scalar(Scalar::Bool(!a.truth())))
+            let truth = a.truth();
+            drop(a);
+            Ok(Seen::of_scalar(Scalar::Bool(!truth)))
         }
         Term::Negative(a) => {
             let a = look(alloc, a, env, cells)?;
-            Ok(Seen::of_scalar(Scalar::Int(number::negative(a.number()))))
+            let number = a.number();
+            drop(a);
+            Ok(Seen::of_scalar(Scalar::Int(number::negative(number))))
         }
         Term::Modulo(a, k) => {
             let a = look(alloc, a, env, cells)?;
-            Ok(Seen::of_scalar(Scalar::Int(number::modulo(a.number(), *k))))
+            let number = a.number();
+            drop(a);
+            Ok(Seen::of_scalar(Scalar::Int(number::modulo(number, *k))))
         }
         Term::Nearest(a, low, high) => {
             let a = look(alloc, a, env, cells)?;
-            Ok(Seen::of_scalar(Scalar::Int(number::clamped(a.number(), *low, *high))))
+            let number = a.number();
+            drop(a);
+            Ok(Seen::of_scalar(Scalar::Int(number::clamped(number, *low, *high))))
         }
         Term::Binary(operator, a, b) => {
             let a = look(alloc, a, env, cells)?;
-            let b = look(alloc, b, env, cells)?;
-            Ok(Seen::of_scalar(combine(*operator, a.value(), b.value())))
+            let b = match look(alloc, b, env, cells) {
+                Ok(b) => b,
+                Err(refused) => {
+                    drop(a);
+                    return Err(refused);
+                }
+            };
+            let scalar = combine(*operator, a.value(), b.value());
+            drop(a);
+            drop(b);
+            Ok(Seen::of_scalar(scalar))
         }
         Term::Length(a) => {
             let a = look(alloc, a, env, cells)?;
-            Ok(Seen::of_scalar(Scalar::Int(a.length())))
+            let length = a.length();
+            drop(a);
+            Ok(Seen::of_scalar(Scalar::Int(length)))
         }
         Term::Head(a, shape) => {
             let a = look(alloc, a, env, cells)?;
@@ -112,18 +131,33 @@ fn look<'a, C: Cells>(
         }
         Term::Append(a, b, room) => {
             let a = look(alloc, a, env, cells)?.into_value(alloc)?;
-            let b = look(alloc, b, env, cells)?.into_value(alloc)?;
-            Ok(Seen::Own(parts::append(alloc, a, b, *room)?))
+            match look(alloc, b, env, cells) {
+                Ok(b) => parts::append(alloc, a, b, *room),
+                Err(refused) => {
+                    drop(a);
+                    Err(refused)
+                }
+            }
         }
         Term::Index(a, b, listed) => {
             let a = look(alloc, a, env, cells)?;
-            let b = look(alloc, b, env, cells)?;
-            Ok(parts::item(alloc, a, parts::place_in(*listed, b.value().scalar())))
+            let b = match look(alloc, b, env, cells) {
+                Ok(b) => b,
+                Err(refused) => {
+                    drop(a);
+                    return Err(refused);
+                }
+            };
+            let place = parts::place_in(*listed, b.value().scalar());
+            drop(b);
+            Ok(parts::item(alloc, a, place))
         }
         Term::Empty => Ok(Seen::Own(Value::of_items(Vec::new(alloc)))),
         Term::Fill(n, a) => {
             let a = look(alloc, a, env, cells)?;
-            Ok(Seen::Own(Value::of_items(parts::repeated(alloc, a.value(), *n)?)))
+            let items = parts::repeated(alloc, a.value(), *n);
+            drop(a);
+            Ok(Seen::Own(Value::of_items(items?)))
         }
     }
 }

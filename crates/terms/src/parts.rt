@@ -148,17 +148,19 @@ pub(crate) fn tail(alloc: Global, list: Seen) -> Result<Value, NoMemory>
 }
 
 /// With one more item, unless it is full.
-pub(crate) fn append(
+pub(crate) fn append<'a>(
     alloc: Global,
     list: Value,
-    item: Value,
+    item: Seen<'_>,
     room: usize,
-) -> Result<Value, NoMemory>
-    ensures { IfOk result (λ v. v ≡ appended room list item) }
+) -> Result<Seen<'a>, NoMemory>
+    ensures { IfOk result (λ v. seen v ≡ appended room list (seen item.entry)) }
 {
     let mut items = list.into_items(alloc);
     if items.len() < room {
-        items.push(item)?;
+        items.push(item.into_value(alloc)?)?;
+    } else {
+        drop(item);
     }
-    Ok(Value::of_items(items))
+    Ok(Seen::Own(Value::of_items(items)))
 }

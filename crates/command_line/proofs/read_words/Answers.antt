@@ -28,8 +28,8 @@ returns-in-Some c =
     let named : IsNamed (subcommand_of warp words) c.in-Some.asked = subst (λ entered. IsNamed entered c.in-Some.asked) matched c.in-Some.ensures in
     (faultless, named)
 
-pub returns : goal.returns
-returns c =
+pub returns-in_ok-error-in-None : goal.returns-in_ok-error-in-None
+returns-in_ok-error-in-None c =
     let words : List Text = map string_bytes c.args.words.now in
     let app = c.in_ok-command.ensures.app in
     let free : is_simple_and_free (app_of c.in_ok-command.command) ≡ true = ap is_simple_and_free app ∙ warp_is_free in
