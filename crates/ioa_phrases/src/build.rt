@@ -4,6 +4,7 @@ ghost use Rattle.ioa_trees.specs.Trees.{Not, Minus, Compare, Group, Called};
 ghost use Rattle.ioa_phrases.specs.Items.{or_tree, and_tree, index_tree, product_tree, sum_tree};
 ghost use Rattle.ioa_trees.specs.Views.{view, view_factor, view_addend};
 
+use crate::stop::or_stop;
 use ioa_trees::tree::{Addend, Call, Factor, Relation, Term};
 use std::alloc::{AllocError, Global};
 
@@ -88,7 +89,7 @@ pub(crate) fn compare_of(
 ) -> Result<Term, AllocError>
     ensures { IfOk result (λ t. view t ≡ Compare (view left) relation (view right)) }
 {
-    let left = Box::new(alloc, left)?;
+    let left = or_stop!(Box::new(alloc, left), right);
     let right = Box::new(alloc, right)?;
     Ok(Term::Compare(left, relation, right))
 }

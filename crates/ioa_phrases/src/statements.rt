@@ -12,7 +12,7 @@ ghost use Rattle.ioa_trees.specs.Views.{view_branch, view_declared, view_stateme
 ghost use Rattle.ioa_phrases.specs.Reads.{Branches, Gives, GivesLow, Perhaps};
 
 use crate::front::{expect, expect_inner_name, past};
-use crate::stop::Stop;
+use crate::stop::{Stop, or_stop};
 use crate::term::read_term;
 use crate::types::read_type;
 use crate::values::read_init;
@@ -92,8 +92,8 @@ fn read_assignment<'a, 'b>(
 {
     let name = String::from_str(alloc, name)?;
     let (index, rest) = read_index(alloc, tokens, depth)?;
-    let rest = expect(rest, Word::Assign)?;
-    let (value, rest) = read_init(alloc, rest, depth)?;
+    let rest = or_stop!(expect(rest, Word::Assign), index);
+    let (value, rest) = or_stop!(read_init(alloc, rest, depth), index);
     Ok((Statement::Assign(name, index, value), rest))
 }
 
@@ -112,7 +112,7 @@ fn read_index<'a, 'b>(
         return Ok((None, tokens));
     };
     let (index, rest) = read_term(alloc, rest, depth + 1)?;
-    let rest = expect(rest, Word::CloseBracket)?;
+    let rest = or_stop!(expect(rest, Word::CloseBracket), index);
     Ok((Some(index), rest))
 }
 
@@ -129,8 +129,8 @@ fn read_choice<'a, 'b>(
     ensures low { IfOk result (λ x. depth ≤ 64) }
 {
     let (test, rest) = read_term(alloc, tokens, depth)?;
-    let rest = expect(rest, Word::Then)?;
-    let (body, rest) = read_statements(alloc, rest, depth)?;
+    let rest = or_stop!(expect(rest, Word::Then), test);
+    let (body, rest) = or_stop!(read_statements(alloc, rest, depth), test);
     Ok((Branch { test, body }, rest))
 }
 
@@ -232,8 +232,8 @@ fn read_loop<'a, 'b>(
     ensures gives { Gives (λ x. statement_node (view_statement x.0)) (λ x. toks_of x.1.now) (λ k. at statement (loop_head (view_declared declared)) loop_parts k) depth (toks_of tokens.now) result }
     ensures shorter { IfOk result (λ x. length x.1.now ≤ length tokens.now) }
 {
-    let rest = expect(tokens, Word::Do)?;
-    let (body, rest) = read_statements(alloc, rest, depth + 1)?;
-    let rest = expect(rest, Word::Od)?;
+    let rest = or_stop!(expect(tokens, Word::Do), declared);
+    let (body, rest) = or_stop!(read_statements(alloc, rest, depth + 1), declared);
+    let rest = or_stop!(expect(rest, Word::Od), body, declared);
     Ok((Statement::For(declared, body), rest))
 }

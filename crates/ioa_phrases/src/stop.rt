@@ -31,3 +31,18 @@ impl<T: Drop> From<AllocFailed<T>> for Stop {
         Stop::Memory
     }
 }
+
+// What there is. Where it is an error, the function ends with that, and lets these values go by a call each. A `?` takes them apart in place, which is dear to prove.
+macro_rules! or_stop {
+    ($read:expr, $($held:ident),+) => {
+        match $read {
+            Ok(found) => found,
+            Err(stop) => {
+                $(drop($held);)+
+                return Err(stop.into());
+            }
+        }
+    };
+}
+
+pub(crate) use or_stop;

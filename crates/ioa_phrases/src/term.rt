@@ -14,7 +14,7 @@ use crate::build::{
     and_of, call_of, compare_of, group_of, index_of, minus_of, not_of, or_of, product_of, sum_of,
 };
 use crate::front::{MAX_DEPTH, expect, expect_number, past};
-use crate::stop::Stop;
+use crate::stop::{Stop, or_stop};
 use ioa_tokens::{Kind, Token, Word};
 use ioa_trees::tree::{Addend, Call, Factor, Relation, Sign, Term};
 use std::alloc::Global;
@@ -111,8 +111,8 @@ pub fn read_term<'a, 'b>(
     let (first, mut rest) = read_conjunction(alloc, tokens, depth)?;
     let mut others = Vec::new(alloc);
     while let Some(after) = past(rest, Word::Or) {
-        let (next, after) = read_conjunction(alloc, after, depth)?;
-        others.push(next)?;
+        let (next, after) = or_stop!(read_conjunction(alloc, after, depth), first);
+        or_stop!(others.push(next), first);
         rest = after;
     }
     Ok((or_of(alloc, first, others)?, rest))
@@ -133,8 +133,8 @@ fn read_conjunction<'a, 'b>(
     let (first, mut rest) = read_negation(alloc, tokens, depth)?;
     let mut others = Vec::new(alloc);
     while let Some(after) = past(rest, Word::And) {
-        let (next, after) = read_negation(alloc, after, depth)?;
-        others.push(next)?;
+        let (next, after) = or_stop!(read_negation(alloc, after, depth), first);
+        or_stop!(others.push(next), first);
         rest = after;
     }
     Ok((and_of(alloc, first, others)?, rest))
@@ -190,7 +190,7 @@ fn read_comparison<'a, 'b>(
     let Some((relation, after)) = past_relation(rest) else {
         return Ok((left, rest));
     };
-    let (right, rest) = read_sum(alloc, after, depth)?;
+    let (right, rest) = or_stop!(read_sum(alloc, after, depth), left);
     Ok((compare_of(alloc, left, relation, right)?, rest))
 }
 
@@ -207,8 +207,8 @@ fn read_sum<'a, 'b>(
 {
     let (first, mut rest) = read_product(alloc, tokens, depth)?;
     let mut others = Vec::new(alloc);
-    while let Some((addend, after)) = read_addend(alloc, rest, depth)? {
-        others.push(addend)?;
+    while let Some((addend, after)) = or_stop!(read_addend(alloc, rest, depth), first) {
+        or_stop!(others.push(addend), first);
         rest = after;
     }
     Ok((sum_of(alloc, first, others)?, rest))
@@ -244,8 +244,8 @@ fn read_product<'a, 'b>(
 {
     let (first, mut rest) = read_unary(alloc, tokens, depth)?;
     let mut others = Vec::new(alloc);
-    while let Some((factor, after)) = read_factor(alloc, rest, depth)? {
-        others.push(factor)?;
+    while let Some((factor, after)) = or_stop!(read_factor(alloc, rest, depth), first) {
+        or_stop!(others.push(factor), first);
         rest = after;
     }
     Ok((product_of(alloc, first, others)?, rest))
@@ -322,9 +322,9 @@ fn read_postfix<'a, 'b>(
     let (first, mut rest) = read_primary(alloc, tokens, depth)?;
     let mut others = Vec::new(alloc);
     while let Some(after) = past(rest, Word::OpenBracket) {
-        let (index, after) = read_term(alloc, after, depth + 1)?;
-        others.push(index)?;
-        rest = expect(after, Word::CloseBracket)?;
+        let (index, after) = or_stop!(read_term(alloc, after, depth + 1), first);
+        or_stop!(others.push(index), first);
+        rest = or_stop!(expect(after, Word::CloseBracket), first);
     }
     Ok((index_of(alloc, first, others)?, rest))
 }
@@ -368,7 +368,7 @@ fn read_group<'a, 'b>(
     ensures shorter { IfOk result (λ x. length x.1.now ≤ length tokens.now) }
 {
     let (inside, rest) = read_term(alloc, tokens, depth + 1)?;
-    let rest = expect(rest, Word::Close)?;
+    let rest = or_stop!(expect(rest, Word::Close), inside);
     Ok((group_of(alloc, inside)?, rest))
 }
 
@@ -386,7 +386,7 @@ fn read_call<'a, 'b>(
 {
     let rest = expect(tokens, Word::Open)?;
     let (inside, rest) = read_term(alloc, rest, depth + 1)?;
-    let rest = expect(rest, Word::Close)?;
+    let rest = or_stop!(expect(rest, Word::Close), inside);
     Ok((call_of(alloc, call, inside)?, rest))
 }
 
@@ -403,7 +403,7 @@ fn read_append<'a, 'b>(
 {
     let rest = expect(tokens, Word::Open)?;
     let (list, rest) = read_term(alloc, rest, depth + 1)?;
-    let rest = expect(rest, Word::Comma)?;
+    let rest = or_stop!(expect(rest, Word::Comma), list);
     read_second(alloc, list, rest, depth)
 }
 

@@ -13,7 +13,7 @@ use crate::entries::read_entry;
 use crate::front::{expect, expect_name, past};
 use crate::names::read_names;
 use crate::statements::read_statements;
-use crate::stop::Stop;
+use crate::stop::{Stop, or_stop};
 use crate::term::read_term;
 use crate::types::read_type;
 use crate::values::read_init;
@@ -45,8 +45,8 @@ fn read_start<'a, 'b>(
     ensures gives { GivesLow (λ x. variable_node (view_variable x.0)) (λ x. toks_of x.1.now) (λ k. at variable (variable_head (view_declared declared)) value_parts k) 0 (toks_of tokens.now) result }
     ensures shorter { IfOk result (λ x. length x.1.now ≤ length tokens.now) }
 {
-    let rest = expect(tokens, Word::Assign)?;
-    let (start, rest) = read_init(alloc, rest, 0)?;
+    let rest = or_stop!(expect(tokens, Word::Assign), declared);
+    let (start, rest) = or_stop!(read_init(alloc, rest, 0), declared);
     Ok((Variable { declared, start }, rest))
 }
 
@@ -91,8 +91,8 @@ pub fn read_transition<'a, 'b>(
     ensures shorter { IfOk result (λ x. length x.1.now + 1 ≤ length tokens.now) }
 {
     let (entry, rest) = read_entry(alloc, tokens)?;
-    let (pre, rest) = read_pre(alloc, rest)?;
-    let (eff, rest) = read_eff(alloc, rest)?;
+    let (pre, rest) = or_stop!(read_pre(alloc, rest), entry);
+    let (eff, rest) = or_stop!(read_eff(alloc, rest), pre, entry);
     Ok((Transition { entry, pre, eff }, rest))
 }
 

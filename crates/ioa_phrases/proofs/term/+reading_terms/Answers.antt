@@ -20,7 +20,7 @@ read_comparison-returns-in_default-clause-gives t c = λ k d.
 
 pub read_term-returns-clause-gives : goal.read_term-returns-clause-gives
 read_term-returns-clause-gives t c = λ k d.
-    let first = view c.loop-after.first-1 in
+    let first = view c.in_ok-first.first in
     let others = c.loop-after.others.items in
     let rest = toks_of c.loop-after.rest.now in
     c.loop-after.invariant.reads k d
@@ -29,7 +29,7 @@ read_term-returns-clause-gives t c = λ k d.
 
 pub read_conjunction-returns-clause-gives : goal.read_conjunction-returns-clause-gives
 read_conjunction-returns-clause-gives t c = λ k d.
-    let first = view c.loop-after.first-1 in
+    let first = view c.in_ok-first.first in
     let others = c.loop-after.others.items in
     let rest = toks_of c.loop-after.rest.now in
     c.loop-after.invariant.reads k d
@@ -38,7 +38,7 @@ read_conjunction-returns-clause-gives t c = λ k d.
 
 pub read_postfix-returns-clause-gives : goal.read_postfix-returns-clause-gives
 read_postfix-returns-clause-gives t c = λ k d l.
-    let first = view c.loop-after.first-1 in
+    let first = view c.in_ok-first.first in
     let others = c.loop-after.others.items in
     let rest = toks_of c.loop-after.rest.now in
     c.loop-after.invariant.reads k d l

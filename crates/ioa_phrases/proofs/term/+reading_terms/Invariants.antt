@@ -77,23 +77,23 @@ invariant-read_conjunction-loop-after l = record {
 abbrev pub decreases-read_conjunction-loop-after : goal.decreases-read_conjunction-loop-after
 decreases-read_conjunction-loop-after l = length l.rest
 
-abbrev pub invariant-read_sum-loop-others : goal.invariant-read_sum-loop-others
-invariant-read_sum-loop-others l = record {
+abbrev pub invariant-read_sum-loop-found : goal.invariant-read_sum-loop-found
+invariant-read_sum-loop-found l = record {
   reads : (k : Frames) → depth k ≡ l.depth → go true (want sum k) (toks_of l.tokens) ≡ go true (At sum (node (view l.first) ∷ map addend_item l.others.items) (many addend outside ∷ []) k) (toks_of l.rest);
   shorter : length l.rest ≤ length l.tokens;
 }
 
-abbrev pub decreases-read_sum-loop-others : goal.decreases-read_sum-loop-others
-decreases-read_sum-loop-others l = length l.rest
+abbrev pub decreases-read_sum-loop-found : goal.decreases-read_sum-loop-found
+decreases-read_sum-loop-found l = length l.rest
 
-abbrev pub invariant-read_product-loop-others : goal.invariant-read_product-loop-others
-invariant-read_product-loop-others l = record {
+abbrev pub invariant-read_product-loop-found : goal.invariant-read_product-loop-found
+invariant-read_product-loop-found l = record {
   reads : (k : Frames) → depth k ≡ l.depth → go true (want product k) (toks_of l.tokens) ≡ go true (At product (node (view l.first) ∷ map factor_item l.others.items) (many factor outside ∷ []) k) (toks_of l.rest);
   shorter : length l.rest ≤ length l.tokens;
 }
 
-abbrev pub decreases-read_product-loop-others : goal.decreases-read_product-loop-others
-decreases-read_product-loop-others l = length l.rest
+abbrev pub decreases-read_product-loop-found : goal.decreases-read_product-loop-found
+decreases-read_product-loop-found l = length l.rest
 
 abbrev pub invariant-read_postfix-loop-after : goal.invariant-read_postfix-loop-after
 invariant-read_postfix-loop-after l = record {
