@@ -91,7 +91,10 @@ impl Case {
             return Ok(false);
         };
         match check(alloc, source) {
-            Ok(_) => Ok(self.is_accepted()),
+            Ok(checked) => {
+                drop(checked);
+                Ok(self.is_accepted())
+            }
             Err(fault) => Ok(self.has_refusal(fault.number(), fault.place())),
         }
     }
@@ -106,7 +109,10 @@ impl Case {
             return Ok(false);
         };
         match compose(alloc, checked) {
-            Ok(_) => Ok(self.is_accepted()),
+            Ok(plan) => {
+                drop(plan);
+                Ok(self.is_accepted())
+            }
             Err(fault) => Ok(self.has_refusal(fault.number(), fault.place())),
         }
     }

@@ -100,10 +100,9 @@ pub fn run_all<R: Threads + Wait + Sync + Eprint>(
     }
     for k in 0..RUNS {
         let text = texts[(k % texts.len() as u64) as usize].as_str();
-        if is_same(rt, alloc, k, Source { text })? {
-            count.pass();
-        } else {
-            count.fail();
+        let is_well = is_same(rt, alloc, k, Source { text })?;
+        count.add(is_well);
+        if !is_well {
             eprintln!(rt; "run {k}: failed")?;
         }
     }

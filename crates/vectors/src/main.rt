@@ -7,13 +7,18 @@
 //! For the composition: the same under the name `composed`, and the number of the component.
 //!
 //! A file whose name ends with `.ioa` is a source, which is run by 1 to 8 workers and has to come out as by one thread, 200 runs of all sources.
+//!
+//! The word `lists` names no file: worlds are driven by twelve lists of steps whose replies are known, and worlds and exchanges of three small
+//! compositions by a thousand random lists each, whose committed turns are compared with those of the one-thread simulator.
 #![tactic(auto)]
 
 mod case;
 mod crew;
+mod lists;
 
 use crate::case::Case;
 use crate::crew::run_all;
+use crate::lists::try_lists;
 use std::alloc::Global;
 use std::process::ExitCode;
 use std::sync::Wait;
@@ -28,12 +33,12 @@ struct Count {
 }
 
 impl Count {
-    fn pass(&mut self) {
-        self.passed = self.passed.saturating_add(1);
-    }
-
-    fn fail(&mut self) {
-        self.failed = self.failed.saturating_add(1);
+    fn add(&mut self, is_well: bool) {
+        if is_well {
+            self.passed = self.passed.saturating_add(1);
+        } else {
+            self.failed = self.failed.saturating_add(1);
+        }
     }
 }
 
@@ -45,6 +50,10 @@ fn main(rt: HostRuntime) -> anyhow::Result<ExitCode> {
     };
     let mut sources = Vec::new(alloc);
     for name in env::args(&rt)?.skip(1) {
+        if name.as_str() == "lists" {
+            try_lists(alloc, &mut count)?;
+            continue;
+        }
         let text = fs::read_to_string(&rt, name.as_str())?;
         if name.as_str().ends_with(".ioa") {
             sources.push(text)?;
@@ -66,10 +75,9 @@ fn try_all<R: Threads + Wait + Sync + Eprint>(
     count: &mut Count,
 ) -> anyhow::Result<()> {
     for (number, line) in text.lines().enumerate() {
-        if has_passed(rt, alloc, line)? {
-            count.pass();
-        } else {
-            count.fail();
+        let is_well = has_passed(rt, alloc, line)?;
+        count.add(is_well);
+        if !is_well {
             eprintln!(rt; "{name}:{}: failed", number.saturating_add(1))?;
         }
     }
@@ -78,5 +86,7 @@ fn try_all<R: Threads + Wait + Sync + Eprint>(
 
 fn has_passed<R: Threads + Wait + Sync>(rt: &R, alloc: Global, line: &str) -> anyhow::Result<bool> {
     let case = Case::read(alloc, line)?;
-    Ok(case.comes_out(rt, alloc)?)
+    let has_passed = case.comes_out(rt, alloc);
+    drop(case);
+    Ok(has_passed?)
 }

@@ -1,8 +1,10 @@
 //! Lists of steps with known replies, worked out by hand.
 
-use crate::subject::RING;
+use crate::Count;
+use crate::lists::subject::{RING, shared};
 use anyhow::Result;
 use compose::compose_source;
+use plans::Plan;
 use std::alloc::Global;
 use std::sync::Arc;
 use task_seed::{AnyTurns, Setup, TableTurns, read_table};
@@ -145,34 +147,55 @@ const ROWS: [Row; 12] = [
     },
 ];
 
-/// How many rows come out as they should, and how many there are.
-pub fn count(alloc: Global) -> Result<(u64, u64)> {
-    let mut passed = 0u64;
+/// Counts the rows that come out as they should.
+pub fn try_rows(alloc: Global, count: &mut Count) -> Result<()> {
     for row in &ROWS {
-        if is_right(alloc, row)? {
-            passed = passed.saturating_add(1);
-        }
+        count.add(is_right(alloc, row)?);
     }
-    Ok((passed, ROWS.len() as u64))
+    Ok(())
 }
 
-// Whether the replies end as the row says, the world is equal to that of the other list, and it is equal to the start only where that list is empty.
 fn is_right(alloc: Global, row: &Row) -> Result<bool> {
     let setup = setup_of(alloc, row.given)?;
-    let (world, replies) = driven(alloc, &setup, row.steps)?;
-    if !replies.as_str().ends_with(row.replies) {
-        return Ok(false);
-    }
-    let is_equal = is_led_to(alloc, &setup, row.equal, &world)?;
-    Ok(is_equal && is_led_to(alloc, &setup, "", &world)? == row.equal.is_empty())
+    let is_right = comes_out(alloc, &setup, row);
+    drop(setup);
+    is_right
 }
 
 fn setup_of(alloc: Global, given: Given) -> Result<Arc<Setup<AnyTurns>>> {
     let plan = compose_source(alloc, given.source().as_bytes())?;
-    let rows = read_table(alloc, given.table().as_bytes())?;
-    let turns = TableTurns::new(alloc, &plan, rows.as_slice())?;
-    let setup = Setup::new(plan, AnyTurns::Table(turns), 1_000)?;
-    Ok(Arc::new(alloc, setup)?)
+    match turns_of(alloc, &plan, given.table()) {
+        Ok(turns) => shared(alloc, plan, AnyTurns::Table(turns), 1_000),
+        Err(error) => {
+            drop(plan);
+            Err(error)
+        }
+    }
+}
+
+fn turns_of(alloc: Global, plan: &Plan, table: &str) -> Result<TableTurns> {
+    let rows = read_table(alloc, table.as_bytes())?;
+    Ok(TableTurns::new(alloc, plan, rows.as_slice())?)
+}
+
+fn comes_out(alloc: Global, setup: &Arc<Setup<AnyTurns>>, row: &Row) -> Result<bool> {
+    let mut world = World::new(alloc, Arc::try_clone(setup)?)?;
+    let is_right = is_as_told(alloc, setup, row, &mut world);
+    drop(world);
+    is_right
+}
+
+// Whether the replies end as the row says, the world is equal to that of the other list, and it is equal to the start only where that list is empty.
+fn is_as_told(
+    alloc: Global,
+    setup: &Arc<Setup<AnyTurns>>,
+    row: &Row,
+    world: &mut World<AnyTurns>,
+) -> Result<bool> {
+    let told = replies(alloc, world, row.steps)?;
+    let is_equal = is_led_to(alloc, setup, row.equal, world)?;
+    let is_start = is_led_to(alloc, setup, "", world)?;
+    Ok(told.as_str().ends_with(row.replies) && is_equal && is_start == row.equal.is_empty())
 }
 
 // Whether these steps lead to this world.
@@ -182,24 +205,39 @@ fn is_led_to(
     steps: &str,
     world: &World<AnyTurns>,
 ) -> Result<bool> {
-    let (other, _) = driven(alloc, setup, steps)?;
-    Ok(other == *world)
+    let mut other = World::new(alloc, Arc::try_clone(setup)?)?;
+    let is_equal = becomes(alloc, &mut other, steps, world);
+    drop(other);
+    is_equal
 }
 
-// The world after the steps of a text, and the lines of their replies.
-fn driven(
+fn becomes(
     alloc: Global,
-    setup: &Arc<Setup<AnyTurns>>,
+    other: &mut World<AnyTurns>,
     steps: &str,
-) -> Result<(World<AnyTurns>, String)> {
-    let steps = read_steps(alloc, setup.plan(), steps.as_bytes())?;
-    let mut world = World::new(alloc, Arc::try_clone(setup)?)?;
-    let replies = world.run(alloc, steps.as_slice())?;
+    world: &World<AnyTurns>,
+) -> Result<bool> {
+    driven(alloc, other, steps)?;
+    Ok(*other == *world)
+}
+
+// The lines of the replies to the steps of a text.
+fn replies(alloc: Global, world: &mut World<AnyTurns>, steps: &str) -> Result<String> {
+    let replies = driven(alloc, world, steps)?;
     let mut lines = String::new(alloc);
     for reply in &replies {
         lines.push_str(line_of(alloc, reply)?.as_str())?;
     }
-    Ok((world, lines))
+    Ok(lines)
+}
+
+fn driven(
+    alloc: Global,
+    world: &mut World<AnyTurns>,
+    steps: &str,
+) -> Result<Vec<Result<Reply, StepRefused>>> {
+    let steps = read_steps(alloc, world.setup().plan(), steps.as_bytes())?;
+    Ok(world.run(alloc, steps.as_slice())?)
 }
 
 fn line_of(alloc: Global, reply: &Result<Reply, StepRefused>) -> Result<String> {

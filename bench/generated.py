@@ -1,0 +1,43 @@
+"""Sources and lists of steps to measure the program on, beside bench/loads."""
+from pathlib import Path
+
+RING = Path(__file__).parent / "loads/ring8.ioa"
+EFFECT = ("automaton C signature internal up states n: Int := 0 transitions internal up pre n < 5 eff n := 0", " tasks {up} automaton S components c: C\n")
+STATEMENT = "; if n = 1 and not (n < 2) then n := n + 1 * (2 - n) mod 7 else n := len(q[0]) fi"
+
+
+def source(size):
+    """Returns a source of so many bytes, with as many statements as fit."""
+    before, after = EFFECT
+    return (before + STATEMENT * ((size - len(before + after)) // len(STATEMENT))).ljust(size - len(after)) + after
+
+
+def ring(size):
+    """Returns the source of a token ring of so many nodes."""
+    head = RING.read_text().partition("c0:")[0].replace("0..7", f"0..{size - 1}")
+    return head + ";\n".join(f"c{it}: Node({it}, {(it + 1) % size}, {str(it == 0).lower()})" for it in range(size)) + "\n"
+
+
+def in_order(turns):
+    """Returns steps of a token ring in the order of its turns, the lines that `reference` writes: each turn is done, each message is delivered
+    and done at once, and before each 64th turn those before it are committed."""
+    steps = []
+    for place, turn in enumerate(turns):
+        key, _, did = turn.rpartition(" ")
+        component, to = key.split()[1], did[5:-1]
+        steps += [f"commit {key}"] * (place % 64 == 0) + [f"process {component}"]
+        if did != "idle":
+            steps += [f"deliver + {to} {key} {did}", f"process {to}"]
+    return steps
+
+
+def there_and_back(times):
+    """Returns steps of a ring of two: so often component 1 does an entry and rolls it back."""
+    return ["process 1", "back 1"] * times
+
+
+def stragglers(turns, depth, times):
+    """Returns steps of a ring of two: so often component 1 does so many entries, which a message of component 0 takes back, and this is taken
+    back itself."""
+    message = "1 " + next(turn for turn in turns if turn.endswith(" pass(1)"))
+    return (["process 1"] * depth + ["process 0", f"deliver + {message}", "back 0", f"deliver - {message}"]) * times
