@@ -4,11 +4,10 @@ mod bags;
 mod bounds;
 mod keys;
 mod nodes;
+mod seats;
 mod shared_actions;
 mod stores;
-mod tables;
-mod terms_and_effects;
-mod words;
+mod token_lists;
 mod writers;
 
 use event_keys::Key;

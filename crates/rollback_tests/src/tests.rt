@@ -8,13 +8,13 @@ mod refused;
 mod steps;
 
 use event_keys::Bound;
-use given::{AT_1, AT_2, AT_3, Given, PASS_2, UNSENT_2, start};
+use given::{AT_1, AT_2, AT_3, Given, PASS_2, UNSENT_2};
 use rollback::{ProcessRefused, Trip};
 use steps::Step::{
     self, Anew, Base, Begin, Come, Drop, Go, Idled, Meet, Next, NoneDropped, Out, Passed, Process,
     RollBack, Same,
 };
-use steps::{EMPTY, ENDED, assert_steps};
+use steps::{EMPTY, ENDED, assert_steps, at_start};
 use terms::{NoMemory, Refusal};
 
 const STRAGGLERS: [Step; 48] = [
@@ -207,10 +207,12 @@ fn what_is_below_the_bound_is_dropped_in_order(rt: HostRuntime) {
 
 #[test]
 fn a_component_has_its_setup(rt: HostRuntime) {
-    let first = start(rt.alloc(), Given::Ring, 0).expect(&rt, "memory for a component");
-    let second = start(rt.alloc(), Given::Ring, 1).expect(&rt, "memory for another");
-    assert!(rt; second.setup().key(1, 1) == Some(AT_3));
-    assert!(rt; second.setup() == first.setup());
+    let first = at_start(rt.alloc(), Given::Ring, 0).expect(&rt, "memory for a component");
+    let second = at_start(rt.alloc(), Given::Ring, 1).expect(&rt, "memory for another");
+    assert!(rt; second.node.setup().key(1, 1) == Some(AT_3));
+    assert!(rt; second.node.setup() == first.node.setup());
+    drop(first);
+    drop(second);
 }
 
 #[test]

@@ -3,5 +3,3 @@
 
 #[cfg(test)]
 mod tests;
-#[cfg(test)]
-mod words;

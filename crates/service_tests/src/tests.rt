@@ -111,9 +111,14 @@ fn is_served<R: Abort + AllocGlobal + Threads + Wait + Sync>(
     let mut out = Counted::new(Narrow { held, room });
     let mut err = Counted::new(Vec::new(rt.alloc()));
     let ended = serve(rt, rt.alloc(), words.as_slice(), files, &mut out, &mut err);
-    ended == status
-        && is_wanted(out.into_inner().held.as_slice(), printed)
-        && is_wanted(err.into_inner().as_slice(), said)
+    drop(words);
+    let (out, err) = (out.into_inner(), err.into_inner());
+    let is_right = ended == status
+        && is_wanted(out.held.as_slice(), printed)
+        && is_wanted(err.as_slice(), said);
+    drop(out);
+    drop(err);
+    is_right
 }
 
 // The ring of two, and a table of its turns with what all of them write.
@@ -126,83 +131,47 @@ const TURNS: &str = "1 1 0 idle\n2 0 0 pass(1)\n3 1 1 pass(0)\n4 0 1 pass(1)\n";
 
 const CUT: &str = "1 1 0 idle\n2 0 0 pass(1)\n3 1 1 pass(0)\n4 0 1 pass(1)";
 
-const PASSES: &str = "2 0 0 pass(1)\n3 1 1 pass(0)\n4 0 1 pass(1)\n";
-
-// The words that run the ring with its table.
-const RUN: &str = "run source --table table --workers 3 --budget 1";
-
-// Tables with the bytes that can be written, what is printed, what is said, and the exit status.
-const TABLES: [(&str, usize, &str, &str, u8); 16] = [
-    (ROWS, 100, TURNS, "", 0),
-    (ROWS, 53, TURNS, "", 0),
-    (ROWS, 52, CUT, "fault 60\n", 3),
-    (ROWS, 11, "1 1 0 idle\n", "fault 60\n", 3),
-    (ROWS, 5, "1 1 0", "fault 60\n", 3),
-    (ROWS, 0, "", "fault 60\n", 3),
+// Words on the ring and its table: runs and prints with little room, help and the version, also where these are cut.
+const SERVED: [Row; 22] = [
     (
-        "0 1 0 0\n1 1 0 0",
-        100,
-        "1 0 0 pass(1)\n1 1 0 pass(0)\n",
-        "",
-        0,
-    ),
-    ("1 7 0 0\n", 100, "7 1 0 idle\n", "", 0),
-    ("1 1001 0 0\n", 100, "", "", 0),
-    ("", 100, "", "", 0),
-    ("1 0 0 0\n", 100, "", "refused 27 at 1\n", 1),
-    ("0 1 1 0\n", 100, "", "refused 28 at 1\n", 1),
-    ("0 1 0\n", 100, "", "refused 29 at 1\n", 1),
-    ("2 1 0 0\n", 100, "", "refused 30 at 1\n", 1),
-    (
-        "0 1 0 0\n2 0 1 0\n1 0 0 0\n",
-        100,
-        "",
-        "refused 27 at 2\n",
-        1,
-    ),
-    ("2 0 1 0\n\n", 100, "", "refused 29 at 2\n", 1),
-];
-
-#[test]
-fn tables_are_run_or_refused(rt: HostRuntime) {
-    for (k, (table, room, printed, said, status)) in TABLES.iter().enumerate() {
-        let files = TwoFiles {
-            source: RING.as_bytes(),
-            table: table.as_bytes(),
-        };
-        let row = (RUN, *room, Is(printed), Is(said), *status);
-        assert!(rt; is_served(&rt, &files, &row), "row {k}");
-    }
-}
-
-// Words on the ring and its table: other options, a file that isn't there, help and the version, also where these are cut.
-const SERVED: [Row; 21] = [
-    ("run source --table table", 100, Is(TURNS), Is(""), 0),
-    (
-        "run source --table table --trace",
-        100,
-        Is(PASSES),
+        "run source --table table --workers 3",
+        53,
+        Is(TURNS),
         Is(""),
         0,
     ),
     (
-        "run source --table=table --ticks 1",
-        100,
-        Is("1 1 0 idle\n"),
-        Is(""),
-        0,
-    ),
-    ("run source --table=table --ticks 0", 100, Is(""), Is(""), 0),
-    ("run source --ticks 0", 100, Is(""), Is(""), 0),
-    ("run missing", 100, Is(""), Is("fault 63\n"), 3),
-    (
-        "run source --table missing",
-        100,
-        Is(""),
-        Is("fault 63\n"),
+        "run source --table table --workers 3",
+        52,
+        Is(CUT),
+        Is("fault 60\n"),
         3,
     ),
-    ("print missing", 100, Is(""), Is("fault 63\n"), 3),
+    (
+        "run source --table table --budget 1",
+        11,
+        Is("1 1 0 idle\n"),
+        Is("fault 60\n"),
+        3,
+    ),
+    (
+        "run source --table table --budget 1",
+        5,
+        Is("1 1 0"),
+        Is("fault 60\n"),
+        3,
+    ),
+    (
+        "run source --table table",
+        0,
+        Is(""),
+        Is("fault 60\n"),
+        3,
+    ),
+    ("print source", 317, Is(RING), Is(""), 0),
+    ("print source", 5, Is("type "), Is("fault 60\n"), 3),
+    ("print source", 0, Is(""), Is("fault 60\n"), 3),
+    ("run missing", 100, Is(""), Is("fault 63\n"), 3),
     ("help", 9999, Has("Usage: warp <COMMAND>"), Is(""), 0),
     ("help", 9999, Has("run"), Is(""), 0),
     ("--help", 9999, Has("Usage: warp <COMMAND>"), Is(""), 0),
@@ -265,58 +234,10 @@ fn words_are_served_or_refused(rt: HostRuntime) {
     }
 }
 
-const COUNTER: &str =
-    "automaton C signature internal up states n: Int := 9223372036854775807 transitions internal up eff n := n + 1 tasks {up} automaton S components c: C";
-
-const TEN_LINES: &str =
-    "automaton C\nsignature\ninternal up\nstates n: Int := 9223372036854775807\ntransitions\ninternal up\neff n := n + 1\ntasks { up }\nautomaton S\ncomponents c: C\n";
-
-// Whether this source is printed or refused so, where so many bytes can be written.
-fn is_printed<R: Abort + AllocGlobal + Threads + Wait + Sync>(
-    rt: &R,
-    source: &[u8],
-    room: usize,
-    printed: &str,
-    said: &str,
-    status: u8,
-) -> bool {
-    let files = TwoFiles { source, table: b"" };
-    is_served(
-        rt,
-        &files,
-        &("print source", room, Is(printed), Is(said), status),
-    )
-}
-
-#[test]
-fn sources_are_printed_or_refused(rt: HostRuntime) {
-    let (ring, counter) = (RING.as_bytes(), COUNTER.as_bytes());
-    let (letters, letter) = (b"type A = enumeration of a, b", b"typ\xc8 A = 0..1");
-    assert!(rt; is_printed(&rt, ring, 1000, RING, "", 0));
-    assert!(rt; is_printed(&rt, counter, 1000, TEN_LINES, "", 0));
-    assert!(rt; is_printed(&rt, counter, 5, "autom", "fault 60\n", 3));
-    assert!(rt; is_printed(&rt, counter, 0, "", "fault 60\n", 3));
-    assert!(rt; is_printed(&rt, letters, 1000, "", "refused 4 at 28\n", 1));
-    assert!(rt; is_printed(&rt, letter, 1000, "", "refused 2 at 3\n", 1));
-}
-
 fn extend(rt: &impl Abort, bytes: &mut Vec<u8>, more: &[u8]) {
     bytes
         .extend_from_slice(more)
         .expect(rt, "memory for more bytes");
-}
-
-#[test]
-fn the_limit_of_a_source(rt: HostRuntime) {
-    // Blanks up to the limit of 65,536 bytes, and one more.
-    let mut bytes = Vec::new(rt.alloc());
-    extend(&rt, &mut bytes, RING.as_bytes());
-    for _k in bytes.len()..65_536 {
-        extend(&rt, &mut bytes, b" ");
-    }
-    assert!(rt; is_printed(&rt, bytes.as_slice(), 1000, RING, "", 0));
-    extend(&rt, &mut bytes, b" ");
-    assert!(rt; is_printed(&rt, bytes.as_slice(), 1000, "", "refused 5\n", 1));
 }
 
 // Whether words with this table print nothing and say so.

@@ -16,7 +16,7 @@ use workers::{Gate, RunFault, Summary, Unheld};
 fn a_failing_writer_has_a_beginning(rt: HostRuntime) {
     for room in 0..53usize {
         let mut out = page_of(rt.alloc(), room, 100);
-        let ran = run_ring(&rt, 2, &Unheld, &mut out);
+        let ran = run_ring(&rt, (2, 64), &Unheld, &mut out);
         let fault = WriteFault::WriteFailed(room as u64);
         assert!(rt; ran == Err(RunFault::Write(fault)), "{room}");
         assert!(rt; out.failures() == 1);
@@ -28,7 +28,7 @@ fn a_failing_writer_has_a_beginning(rt: HostRuntime) {
 fn a_writer_with_just_room_has_all(rt: HostRuntime) {
     for most in [1usize, 53] {
         let mut out = page_of(rt.alloc(), 53, most);
-        let ran = run_ring(&rt, 2, &Unheld, &mut out);
+        let ran = run_ring(&rt, (2, 64), &Unheld, &mut out);
         assert!(rt; ran == Ok(Summary { turns: 4 }) && out.failures() == 0);
         assert_held(&rt, out, TEXT.as_bytes());
     }
@@ -58,12 +58,12 @@ impl Gate<AnyTurns> for Few {
 #[test]
 fn a_worker_that_may_not_start_ends_the_run(rt: HostRuntime) {
     let mut out = page_of(rt.alloc(), 100, 100);
-    let ran = run_ring(&rt, 2, &Few { workers: 0 }, &mut out);
+    let ran = run_ring(&rt, (2, 64), &Few { workers: 0 }, &mut out);
     assert!(rt; ran == Err(RunFault::ThreadRefused));
     assert_held(&rt, out, b"");
     for workers in [1u16, 2] {
         let mut out = page_of(rt.alloc(), 100, 100);
-        let ran = run_ring(&rt, 3, &Few { workers }, &mut out);
+        let ran = run_ring(&rt, (3, 64), &Few { workers }, &mut out);
         assert!(rt; ran == Err(RunFault::ThreadRefused));
         assert!(rt;
             TEXT.as_bytes()
@@ -125,7 +125,7 @@ fn a_held_worker_does_not_hide_a_failed_write(rt: HostRuntime) {
         held: AtomicBool::new(false),
     };
     let mut out = Counted::new(Failing { failed: &failed });
-    let ran = run_ring(&rt, 2, &gate, &mut out);
+    let ran = run_ring(&rt, (2, 64), &gate, &mut out);
     assert!(rt; ran == Err(RunFault::Write(WriteFault::WriteFailed(0))));
     assert!(rt; failed.load(Ordering::SeqCst) && out.failures() == 1);
 }

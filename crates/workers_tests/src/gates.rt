@@ -64,7 +64,7 @@ fn two_leases_are_away_at_once(rt: HostRuntime) {
         gave_up: AtomicBool::new(false),
     };
     let mut out = Counted::new(Vec::new(rt.alloc()));
-    let ran = run_ring(&rt, 2, &gate, &mut out);
+    let ran = run_ring(&rt, (2, 64), &gate, &mut out);
     assert!(rt; ran == Ok(Summary { turns: 4 }));
     assert!(rt; out.into_inner().as_slice() == TEXT.as_bytes());
     assert!(rt; !gate.gave_up.load(Ordering::SeqCst));
@@ -146,7 +146,7 @@ fn what_is_written_comes_of_the_leases(rt: HostRuntime) {
         held: Vec::new(rt.alloc()),
         taken: &taken,
     });
-    let ran = run_ring(&rt, 2, &gate, &mut out);
+    let ran = run_ring(&rt, (2, 64), &gate, &mut out);
     assert!(rt; ran == Ok(Summary { turns: 4 }));
     assert!(rt; out.into_inner().held.as_slice() == TEXT.as_bytes());
     assert!(rt; gate.calls.load(Ordering::SeqCst) < u64::from(MOST));

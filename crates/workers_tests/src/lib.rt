@@ -1,6 +1,8 @@
-//! The tests of `workers`, in a crate of their own, so that it isn't proved a second time with them.
+//! The tests of `exchange`, `pools` and `workers`, in a crate of their own, so that those aren't proved a second time with them.
 #![tactic(auto)]
 
+#[cfg(test)]
+mod exchanges;
 #[cfg(test)]
 mod faults;
 #[cfg(test)]

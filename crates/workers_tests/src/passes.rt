@@ -78,5 +78,9 @@ fn each_mark_is_in_one_place(rt: HostRuntime) -> Result<(), Fail> {
     };
     take_both(&rt, &pool, &mut one, &mut two);
     take_both(&rt, &pool, &mut one, &mut two);
+    drop(passes);
+    drop(one);
+    drop(two);
+    drop(pool);
     Ok(())
 }

@@ -8,12 +8,52 @@ use std::process::Abort;
 use std::sync::{Arc, Wait};
 use std::thread::Threads;
 use task_seed::{AnyTurns, Row, Setup, TableTurns};
-use terms::NoMemory;
 use trace::{Counted, Lines};
 use workers::{Gate, RunFault, Summary, Unheld, run};
 
-// Component 0 has turns at the ticks 2 and 4, component 1 at 1 and 3.
-const TURNS: [(u64, u32); 4] = [(0, 2), (0, 2), (1, 1), (1, 2)];
+/// Component 0 has turns at the ticks 2 and 4, component 1 at 1 and 3.
+pub(crate) const ROWS: [Row; 4] = [
+    Row {
+        component: 0,
+        gap: 2,
+        task: 0,
+        choice: 0,
+    },
+    Row {
+        component: 0,
+        gap: 2,
+        task: 0,
+        choice: 0,
+    },
+    Row {
+        component: 1,
+        gap: 1,
+        task: 0,
+        choice: 0,
+    },
+    Row {
+        component: 1,
+        gap: 2,
+        task: 0,
+        choice: 0,
+    },
+];
+
+// Each component has a turn at the tick 1.
+const TWO: [Row; 2] = [
+    Row {
+        component: 0,
+        gap: 1,
+        task: 0,
+        choice: 0,
+    },
+    Row {
+        component: 1,
+        gap: 1,
+        task: 0,
+        choice: 0,
+    },
+];
 
 pub(crate) const TEXT: &str = "1 1 0 idle\n2 0 0 pass(1)\n3 1 1 pass(0)\n4 0 1 pass(1)\n";
 
@@ -48,34 +88,21 @@ pub(crate) fn page_of(alloc: Global, room: usize, most: usize) -> Counted<Narrow
     })
 }
 
+/// A setup of the ring with the turns of a table.
 pub(crate) fn ring_setup(
-    alloc: Global,
-    turns: &[(u64, u32)],
+    rt: &(impl Abort + AllocGlobal),
+    rows: &[Row],
     horizon: u64,
-) -> Result<Setup<AnyTurns>, NoMemory> {
-    let mut rows = Vec::new(alloc);
-    for (component, gap) in turns {
-        rows.push(Row {
-            component: *component,
-            gap: *gap,
-            task: 0,
-            choice: 0,
-        })?;
-    }
-    let plan = ring(alloc)?;
-    let Ok(turns) = TableTurns::new(alloc, &plan, rows.as_slice()) else {
-        return Err(NoMemory);
-    };
-    match Setup::new(plan, AnyTurns::Table(turns), horizon) {
-        Ok(setup) => Ok(setup),
-        Err(_) => Err(NoMemory),
-    }
+) -> Setup<AnyTurns> {
+    let plan = ring(rt.alloc()).expect(rt, "memory for a plan");
+    let turns = TableTurns::new(rt.alloc(), &plan, rows).expect(rt, "turns of the ring");
+    Setup::new(plan, AnyTurns::Table(turns), horizon).expect(rt, "a setup")
 }
 
 // Runs the ring with these turns.
-pub(crate) fn run_with<W: Write + Drop, G: Gate<AnyTurns>, R: Threads + Wait + Sync + AllocGlobal>(
+fn run_with<W: Write + Drop, G: Gate<AnyTurns>, R: Abort + Threads + Wait + Sync + AllocGlobal>(
     rt: &R,
-    turns: &[(u64, u32)],
+    rows: &[Row],
     horizon: u64,
     crew: (u16, u32),
     gate: &G,
@@ -85,21 +112,25 @@ pub(crate) fn run_with<W: Write + Drop, G: Gate<AnyTurns>, R: Threads + Wait + S
     requires workers { (1 ≤ crew.0) × (crew.0 ≤ 64) }
     requires budget { (1 ≤ crew.1) × (crew.1 ≤ 65535) }
 {
-    let alloc = rt.alloc();
-    let setup = Arc::new(alloc, ring_setup(alloc, turns, horizon)?)?;
-    run(rt, alloc, setup, crew.0, crew.1, gate, lines, out)
+    let setup = Arc::new(rt.alloc(), ring_setup(rt, rows, horizon)).expect(rt, "memory for it");
+    run(rt, rt.alloc(), setup, crew.0, crew.1, gate, lines, out)
 }
 
 // Runs the ring with its turns.
-pub(crate) fn run_ring<W: Write + Drop, G: Gate<AnyTurns>, R: Threads + Wait + Sync + AllocGlobal>(
+pub(crate) fn run_ring<
+    W: Write + Drop,
+    G: Gate<AnyTurns>,
+    R: Abort + Threads + Wait + Sync + AllocGlobal,
+>(
     rt: &R,
-    workers: u16,
+    crew: (u16, u32),
     gate: &G,
     out: &mut Counted<W>,
 ) -> Result<Summary, RunFault>
-    requires workers { (1 ≤ workers) × (workers ≤ 64) }
+    requires workers { (1 ≤ crew.0) × (crew.0 ≤ 64) }
+    requires budget { (1 ≤ crew.1) × (crew.1 ≤ 65535) }
 {
-    run_with(rt, &TURNS, 1000, (workers, 64), gate, Lines::All, out)
+    run_with(rt, &ROWS, 1000, crew, gate, Lines::All, out)
 }
 
 pub(crate) fn assert_held(rt: &impl Abort, out: Counted<Narrow>, wanted: &[u8]) {
@@ -119,7 +150,7 @@ fn any_crew_writes_all(rt: HostRuntime) {
         (64, 1),
     ] {
         let mut out = page_of(rt.alloc(), 100, 100);
-        let ran = run_with(&rt, &TURNS, 1000, crew, &Unheld, Lines::All, &mut out);
+        let ran = run_ring(&rt, crew, &Unheld, &mut out);
         assert!(rt; ran == Ok(Summary { turns: 4 }));
         assert_held(&rt, out, TEXT.as_bytes());
     }
@@ -127,11 +158,11 @@ fn any_crew_writes_all(rt: HostRuntime) {
 
 #[test]
 fn other_turns_and_lines(rt: HostRuntime) {
-    let rows: [(&[(u64, u32)], u64, Lines, u64, &str); 4] = [
-        (&TURNS, 1000, Lines::Trace, 4, TRACE),
-        (&TURNS, 0, Lines::All, 0, ""),
+    let tables: [(&[Row], u64, Lines, u64, &str); 4] = [
+        (&ROWS, 1000, Lines::Trace, 4, TRACE),
+        (&ROWS, 0, Lines::All, 0, ""),
         (
-            &[(0, 1), (1, 1)],
+            &TWO,
             1000,
             Lines::All,
             2,
@@ -139,9 +170,9 @@ fn other_turns_and_lines(rt: HostRuntime) {
         ),
         (&[], 1000, Lines::All, 0, ""),
     ];
-    for (turns, horizon, lines, count, wanted) in rows {
+    for (rows, horizon, lines, count, wanted) in tables {
         let mut out = page_of(rt.alloc(), 100, 100);
-        let ran = run_with(&rt, turns, horizon, (2, 64), &Unheld, lines, &mut out);
+        let ran = run_with(&rt, rows, horizon, (2, 64), &Unheld, lines, &mut out);
         assert!(rt; ran == Ok(Summary { turns: count }));
         assert_held(&rt, out, wanted.as_bytes());
     }

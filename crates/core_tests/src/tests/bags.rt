@@ -77,7 +77,11 @@ fn posts(alloc: Global, bag: &mut Bag, signed: Signed) -> bool {
 
 fn is(taken: Option<EventCell<Signed>>, wanted: &Signed) -> bool {
     match taken {
-        Some(cell) => *cell.value() == *wanted,
+        Some(cell) => {
+            let is_wanted = *cell.value() == *wanted;
+            drop(cell);
+            is_wanted
+        }
         None => false,
     }
 }
@@ -295,5 +299,8 @@ fn bags_hold_what_was_posted(rt: HostRuntime) {
     assert!(rt;
         messages.next().is_some() && messages.next().is_some() && messages.next().is_none()
     );
+    drop(messages);
     may_cross(&bag, &other);
+    drop(bag);
+    drop(other);
 }

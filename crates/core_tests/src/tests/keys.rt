@@ -92,6 +92,8 @@ fn messages_rise_by_key_then_action_then_receiver_and_then_by_sign(rt: HostRunti
     assert!(rt; rise(&actions));
     let copy = actions[0].clone().expect(&rt, "memory for a copy");
     assert!(rt; copy == actions[0]);
+    drop(copy);
+    drop(actions);
     let messages = [
         message(&rt, key(1, 1, 1), 3, 2, 9),
         message(&rt, key(1, 2, 0), 3, -5, 4),
@@ -99,6 +101,7 @@ fn messages_rise_by_key_then_action_then_receiver_and_then_by_sign(rt: HostRunti
         message(&rt, key(1, 2, 0), 3, 2, 0),
     ];
     assert!(rt; rise(&messages));
+    drop(messages);
     let signed = [
         Signed {
             message: message(&rt, key(1, 0, 0), 3, 0, 1),
@@ -114,6 +117,7 @@ fn messages_rise_by_key_then_action_then_receiver_and_then_by_sign(rt: HostRunti
         },
     ];
     assert!(rt; rise(&signed));
+    drop(signed);
 }
 
 // An idle turn is before any action, and an own turn before an input of the same action.
@@ -131,9 +135,11 @@ fn entries_rise_by_key_then_action_and_then_by_receiver(rt: HostRuntime) {
     ];
     assert!(rt; rise(&entries));
     assert!(rt; entries[0].key() == key(5, 9, 9) && entries[1].key() == at);
+    drop(entries);
     let turns = [
         turned(&rt, at, Some((0, 0))),
         turned(&rt, key(6, 2, 2), None),
     ];
     assert!(rt; rise(&turns));
+    drop(turns);
 }

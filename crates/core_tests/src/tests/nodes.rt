@@ -232,6 +232,8 @@ fn lists_answer_on_both_sides_of_the_cursor(rt: HostRuntime) {
         count(rt.alloc(), &mut list, &mut other, &CALLS),
         CALLS.len(),
     );
+    drop(list);
+    drop(other);
 }
 
 #[test]
@@ -243,40 +245,40 @@ fn drops_a_long_list(rt: HostRuntime) {
     assert!(rt; list.peek_last().copied() == Some(999_999));
     let cell = EventCell::new(rt.alloc(), 0u64).expect(&rt, "memory for a node");
     nodes_may_cross(&list, &cell, &list, &cell);
+    drop(cell);
+    drop(list);
 }
 
-// Plays the row on shared items, and lets go of all that it has after so many calls.
+// Plays the row on shared items, up to so many calls.
 fn play(
-    mut list: EventList<Rc<u64>>,
+    list: &mut EventList<Rc<u64>>,
     cell: EventCell<Rc<u64>>,
     five: &Rc<u64>,
     six: &Rc<u64>,
     calls: u32,
 ) {
-    if calls == 0 {
-        return;
+    if calls > 0 {
+        list.insert_sorted(cell);
+    } else {
+        drop(cell);
     }
-    list.insert_sorted(cell);
-    if calls == 1 {
-        return;
+    if calls > 1 {
+        drop(list.take_equal(five));
+        drop(list.take_equal(six));
     }
-    drop(list.take_equal(five));
-    drop(list.take_equal(six));
-    if calls == 2 {
-        return;
+    if calls > 2 {
+        list.pass_back();
+        drop(list.take_last());
     }
-    list.pass_back();
-    drop(list.take_last());
-    if calls == 3 {
-        return;
+    if calls > 3 {
+        list.pass_next();
+        drop(list.take_first());
     }
-    list.pass_next();
-    drop(list.take_first());
-    if calls == 4 {
-        return;
+    if calls > 4 {
+        let mut other = EventList::new();
+        other.append_all(list);
+        drop(other);
     }
-    let mut other = EventList::new();
-    other.append_all(&mut list);
 }
 
 #[test]
@@ -301,7 +303,8 @@ fn drops_each_item_once(rt: HostRuntime) {
         for item in [&one, &three, &five, &seven, &another_five] {
             assert!(rt; Rc::strong_count(item) == 2);
         }
-        play(list, cell, &five, &six, calls);
+        play(&mut list, cell, &five, &six, calls);
+        drop(list);
         for item in [&one, &three, &five, &seven, &another_five] {
             assert!(rt; Rc::strong_count(item) == 1, "after {calls} calls");
         }

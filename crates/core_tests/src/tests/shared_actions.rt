@@ -1,11 +1,10 @@
-//! Parameters and entries against each other, by values worked out by hand.
+//! Parameters against each other, by values worked out by hand.
 
 use Listed::{Enumeration, Range};
 use Param::{Between, Const, Member, Whole};
-use compatibility::{Span, is_shared, meet, overlap, span_of};
-use plans::{Entry, Kind, Param};
-use std::alloc::Global;
-use terms::{Effect, Listed, NoMemory, Scalar, Term};
+use compatibility::{Span, meet, overlap, span_of};
+use plans::Param;
+use terms::{Listed, Scalar};
 
 const FORMALS: [Scalar; 3] = [Scalar::Int(3), Scalar::Bool(true), Scalar::Member(3)];
 
@@ -60,18 +59,8 @@ const ROWS: [(Param, Param, bool); 20] = [
     ),
 ];
 
-fn entry(alloc: Global, name: u16, param: Param) -> Result<Entry, NoMemory> {
-    Ok(Entry {
-        name,
-        kind: Kind::Output,
-        params: Vec::from_array(alloc, [param])?,
-        pre: Term::Known(Scalar::Bool(true)),
-        effect: Effect::Nothing,
-    })
-}
-
 #[test]
-fn entries_share_an_action_where_their_parameters_have_values_in_common(rt: HostRuntime) {
+fn parameters_have_values_in_common(rt: HostRuntime) {
     for (k, (param, other, wanted)) in ROWS.iter().enumerate() {
         let is_met = meet(span_of(&FORMALS, param), span_of(&OTHERS, other));
         assert!(rt; is_met == *wanted, "row {k}");
@@ -85,10 +74,4 @@ fn entries_share_an_action_where_their_parameters_have_values_in_common(rt: Host
     assert!(rt; !overlap(&FORMALS, &pair, &OTHERS, &[FIRST_FOUR, LATER_TWO]));
     assert!(rt; !overlap(&FORMALS, &pair, &OTHERS, &[FIRST_FOUR]));
     assert!(rt; !overlap(&FORMALS, &[], &OTHERS, &pair));
-    let three = entry(rt.alloc(), 1, Const(0)).expect(&rt, "memory for an entry");
-    let any = entry(rt.alloc(), 1, Whole).expect(&rt, "memory for an entry");
-    let other = entry(rt.alloc(), 2, Whole).expect(&rt, "memory for an entry");
-    assert!(rt; is_shared(&FORMALS, &three, &OTHERS, &any));
-    assert!(rt; !is_shared(&FORMALS, &three, &OTHERS, &other));
-    assert!(rt; !is_shared(&FORMALS, &three, &OTHERS, &three));
 }

@@ -1,14 +1,12 @@
 //! Stores of three variables, against values worked out by hand: a number, an array of two numbers, and a sequence of two.
 
 use super::assert_all;
-use super::words::{are, env, list};
 use Step::{
-    AssignItem, Clear, Forget, Mark, Marks, Number, Pair, Put, Same, Set, SetTwice, Start, Swap,
-    Undo,
+    Clear, Forget, Mark, Marks, Number, Pair, Put, Same, Set, SetTwice, Start, Swap, Undo,
 };
 use std::alloc::Global;
-use std::mem::swap;
-use terms::{Cells, Effect, Listed, NoMemory, Scalar, State, Term, Value, run};
+use std::mem::{replace, swap};
+use terms::{Cells, NoMemory, Scalar, State, Value};
 use undo_records::Store;
 
 /// What is done with a store and another one, with its answer, or what is seen.
@@ -30,8 +28,6 @@ enum Step {
     SetTwice(i64),
     /// The cell 2 gets the empty list.
     Clear,
-    /// The item 1 of the cell 1 is assigned 5.
-    AssignItem,
     /// The number in the cell 0.
     Number(i64),
     /// The two items of the cell 1.
@@ -50,23 +46,28 @@ fn is_number(value: &Value, n: i64) -> bool {
     !value.is_list() && value.scalar() == Scalar::Int(n)
 }
 
+// The list of two numbers.
+fn pair(alloc: Global, first: i64, second: i64) -> Result<Value, NoMemory> {
+    let items = Vec::from_array(alloc, [number(first), number(second)])?;
+    Ok(Value::of_items(items))
+}
+
+fn is_pair(value: &Value, first: i64, second: i64) -> bool {
+    match value.items() {
+        [one, two] => value.is_list() && is_number(one, first) && is_number(two, second),
+        _ => false,
+    }
+}
+
 const START: (i64, i64, i64) = (5, 2, 4);
 
 // A store with this number, 1 and the second number in the array, and 3 and the last number in the sequence.
 fn store(alloc: Global, start: (i64, i64, i64)) -> Result<Store, NoMemory> {
     let (n, second, last) = start;
-    let array = list(alloc, &[1, second])?;
-    let sequence = list(alloc, &[3, last])?;
+    let array = pair(alloc, 1, second)?;
+    let sequence = pair(alloc, 3, last)?;
     let cells = Vec::from_array(alloc, [number(n), array, sequence])?;
     Store::new(alloc, State::new(cells))
-}
-
-// The item of the array at 1 is assigned 5.
-fn assign_item(alloc: Global, store: &mut Store) -> Result<(), NoMemory> {
-    let pair = Listed::Range { low: 0, count: 2 };
-    let at = Term::Known(Scalar::Int(1));
-    let effect = Effect::AssignItem(1, at, pair, Term::Known(Scalar::Int(5)));
-    run(alloc, &effect, &env(), store)
 }
 
 // Whether there was a state to forget.
@@ -85,8 +86,8 @@ fn restart(
     other: &mut Store,
     start: (i64, i64, i64),
 ) -> Result<(), NoMemory> {
-    *one = store(alloc, START)?;
-    *other = store(alloc, start)?;
+    drop(replace(one, store(alloc, START)?));
+    drop(replace(other, store(alloc, start)?));
     Ok(())
 }
 
@@ -99,14 +100,13 @@ fn does(alloc: Global, store: &mut Store, other: &mut Store, step: Step) -> bool
         Marks(count) => store.marks() == count,
         Set(n) => store.set(0, number(n)).is_ok(),
         Put(cell, at, n) => store.set_at(cell, at, number(n)).is_ok(),
-        SetTwice(n) => match list(alloc, &[n, n]) {
+        SetTwice(n) => match pair(alloc, n, n) {
             Ok(twice) => store.set(1, twice).is_ok(),
             Err(_) => false,
         },
         Clear => store.set(2, Value::of_items(Vec::new(alloc))).is_ok(),
-        AssignItem => assign_item(alloc, store).is_ok(),
         Number(n) => matches!(store.get(0), Some(value) if is_number(value, n)),
-        Pair(first, second) => matches!(store.get(1), Some(value) if are(value, &[first, second])),
+        Pair(first, second) => matches!(store.get(1), Some(value) if is_pair(value, first, second)),
         Swap => {
             swap(store, other);
             true
@@ -154,10 +154,10 @@ const OF_ONE: [Step; 59] = [
     Undo(true),
     Number(6),
     Undo(false),
-    // an item of an array, assigned and set; there is no third item
+    // an item of an array, set twice; there is no third item
     Start(5, 2, 4),
     Mark,
-    AssignItem,
+    Put(1, 1, 5),
     Pair(1, 5),
     Undo(true),
     Pair(1, 2),
@@ -308,6 +308,9 @@ fn stores_go_back_to_their_marks(rt: HostRuntime) {
     let cells = Vec::from_array(rt.alloc(), [number(5)]).expect(&rt, "memory for a state");
     let fewer = Store::new(rt.alloc(), State::new(cells)).expect(&rt, "memory for a store");
     assert!(rt; !one.has_same_first(&fewer));
+    drop(one);
+    drop(other);
+    drop(fewer);
 }
 
 // A store that is made whichever single request for memory is refused.
@@ -338,6 +341,8 @@ fn a_refused_call_leaves_the_store(rt: HostRuntime) {
     }
     let last = [Marks(2), Number(6), Pair(1, 9)];
     assert_all(&rt, count(rt.alloc(), &mut store, &mut other, &last), 3);
+    drop(store);
+    drop(other);
 }
 
 /// Under `rt try --test --fail-alloc N`, with each N in turn: the last mark is served, as it asks for no memory.
@@ -347,4 +352,5 @@ fn a_mark_after_undo_is_served(rt: HostRuntime) {
     let is_marked = store.mark(rt.alloc()).is_ok() || store.mark(rt.alloc()).is_ok();
     assert!(rt; is_marked && store.undo());
     assert!(rt; store.mark(rt.alloc()).is_ok());
+    drop(store);
 }

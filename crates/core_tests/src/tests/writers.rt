@@ -57,6 +57,8 @@ fn does_not_count_a_flush(rt: HostRuntime) {
     assert!(rt; !stuck.flush() && stuck.failures() == 0);
     let mut fine = counted(&rt, 1, 1, None);
     assert!(rt; fine.flush() && fine.failures() == 0);
+    drop(stuck);
+    drop(fine);
 }
 
 #[test]
@@ -82,4 +84,5 @@ fn counts_errors_and_writes_of_no_bytes(rt: HostRuntime) {
     assert!(rt; pieces.write_piece(b"hello") == Ok(()) && pieces.failures() == 0);
     assert!(rt; pieces.write_piece(b"world") == Err(4) && pieces.failures() == 1);
     assert!(rt; pieces.into_inner().held.as_slice() == b"helloworl".as_slice());
+    drop(stuck);
 }

@@ -10,7 +10,7 @@ use ring_source::ring;
 use rollback::Component;
 use std::alloc::Global;
 use std::sync::Arc;
-use task_seed::{Row, Setup, TableTurns};
+use task_seed::{Row, Setup, TableTurns, TableTurnsError};
 use terms::{Action, NoMemory, Scalar};
 
 pub(crate) type Node = Component<TableTurns>;
@@ -56,18 +56,28 @@ const fn row(component: u64, gap: u32) -> Row {
 }
 
 // In the ring component 0 has turns at the ticks 2 and 4, component 1 at 1 and 3; in the fan component 0 at 1 and 2.
-fn setup(alloc: Global, given: Given) -> Result<Setup<TableTurns>, NoMemory> {
-    let plan = plan(alloc, given)?;
-    let turns = match given {
+fn turns(alloc: Global, plan: &Plan, given: Given) -> Result<TableTurns, TableTurnsError> {
+    match given {
         Given::Ring => {
             let rows = [row(0, 2), row(0, 2), row(1, 1), row(1, 2)];
-            TableTurns::new(alloc, &plan, &rows)
+            TableTurns::new(alloc, plan, &rows)
         }
-        Given::Fan => TableTurns::new(alloc, &plan, &[row(0, 1), row(0, 1)]),
-    };
-    let Ok(turns) = turns else {
-        return Err(NoMemory);
-    };
+        Given::Fan => TableTurns::new(alloc, plan, &[row(0, 1), row(0, 1)]),
+    }
+}
+
+fn setup(alloc: Global, given: Given) -> Result<Setup<TableTurns>, NoMemory> {
+    let plan = plan(alloc, given)?;
+    match turns(alloc, &plan, given) {
+        Ok(turns) => timed(plan, turns),
+        Err(_) => {
+            drop(plan);
+            Err(NoMemory)
+        }
+    }
+}
+
+fn timed(plan: Plan, turns: TableTurns) -> Result<Setup<TableTurns>, NoMemory> {
     match Setup::new(plan, turns, 1000) {
         Ok(setup) => Ok(setup),
         Err(_) => Err(NoMemory),
@@ -78,6 +88,7 @@ fn setup(alloc: Global, given: Given) -> Result<Setup<TableTurns>, NoMemory> {
 pub(crate) fn start(alloc: Global, given: Given, number: u16) -> Result<Node, NoMemory> {
     let setup = setup(alloc, given)?;
     if number >= setup.plan().components() {
+        drop(setup);
         return Err(NoMemory);
     }
     Component::new(alloc, Arc::new(alloc, setup)?, number)
@@ -213,12 +224,24 @@ fn post(alloc: Global, bag: &mut Bag, pass: Pass, count: u32) -> Result<(), NoMe
     Ok(())
 }
 
+fn post_held(alloc: Global, bag: &mut Bag, held: Held) -> Result<(), NoMemory> {
+    post(alloc, bag, plus(held.key), held.pluses)?;
+    post(alloc, bag, minus(held.key), held.minuses)
+}
+
+fn post_both(alloc: Global, bag: &mut Bag, first: Held, second: Held) -> Result<(), NoMemory> {
+    post_held(alloc, bag, first)?;
+    post_held(alloc, bag, second)
+}
+
 /// A bag of both.
 pub(crate) fn bag(alloc: Global, first: Held, second: Held) -> Result<Bag, NoMemory> {
     let mut bag = Bag::new();
-    for held in [first, second] {
-        post(alloc, &mut bag, plus(held.key), held.pluses)?;
-        post(alloc, &mut bag, minus(held.key), held.minuses)?;
+    match post_both(alloc, &mut bag, first, second) {
+        Ok(()) => Ok(bag),
+        Err(refused) => {
+            drop(bag);
+            Err(refused)
+        }
     }
-    Ok(bag)
 }

@@ -1,11 +1,12 @@
 //! Calls that are refused their memory, under `rt try --test --fail-alloc N` with each N in turn.
 
-use super::given::{AT_1, AT_2, AT_3, AT_4, Given, NOTHING, PASS_2, bag, key, passes};
-use super::steps::{Bench, Step, at_start, does};
+use super::given::{AT_1, AT_2, AT_3, AT_4, Given, NOTHING, PASS_2, bag, cell, key, passes};
+use super::steps::{Bench, at_start, deliver};
 use antimessage::Bag;
 use event_keys::Key;
 use rollback::ProcessRefused;
 use std::alloc::{AllocGlobal, Global};
+use std::mem;
 use std::process::Abort;
 use terms::NoMemory;
 
@@ -25,25 +26,39 @@ fn posted(alloc: Global) -> Result<Bag, NoMemory> {
     bag(alloc, passes(key(9, 0, 7), 1, 0), NOTHING)
 }
 
-// A component, component 1 with the first pass pending, after so many entries, with bags of other messages.
-fn ready(alloc: Global, refusal: Refusal) -> Result<Bench, NoMemory> {
-    let mut bench = at_start(alloc, refusal.given, refusal.number)?;
+// Component 1 gets the first pass, so many entries are done, and there are bags of other messages.
+fn prepare(alloc: Global, bench: &mut Bench, refusal: Refusal) -> Result<(), NoMemory> {
     if refusal.number == 1 {
-        does(alloc, &mut bench, Step::Come(PASS_2, 0))?;
+        deliver(bench, cell(alloc, PASS_2)?);
     }
     for _ in 0..refusal.entries {
         if bench.node.process(alloc, &mut bench.out).is_err() {
             return Err(NoMemory);
         }
     }
-    bench.out = posted(alloc)?;
-    bench.copies.of_sender = posted(alloc)?;
-    bench.copies.of_receiver = posted(alloc)?;
-    Ok(bench)
+    replace(alloc, &mut bench.out)?;
+    replace(alloc, &mut bench.copies.of_sender)?;
+    replace(alloc, &mut bench.copies.of_receiver)
+}
+
+fn replace(alloc: Global, bag: &mut Bag) -> Result<(), NoMemory> {
+    drop(mem::replace(bag, posted(alloc)?));
+    Ok(())
+}
+
+fn ready(alloc: Global, refusal: Refusal) -> Result<Box<Bench>, NoMemory> {
+    let mut bench = at_start(alloc, refusal.given, refusal.number)?;
+    match prepare(alloc, &mut *bench, refusal) {
+        Ok(()) => Ok(bench),
+        Err(refused) => {
+            drop(bench);
+            Err(refused)
+        }
+    }
 }
 
 // The same whichever single request for memory is refused.
-fn made(alloc: Global, refusal: Refusal) -> Result<Bench, NoMemory> {
+fn made(alloc: Global, refusal: Refusal) -> Result<Box<Bench>, NoMemory> {
     match ready(alloc, refusal) {
         Ok(bench) => Ok(bench),
         Err(_) => ready(alloc, refusal),
@@ -91,8 +106,10 @@ fn assert_served_or_kept(rt: &(impl Abort + AllocGlobal), refusal: Refusal) {
     let mut bench = made(rt.alloc(), refusal).expect(rt, "memory for a component");
     let mut twin = made(rt.alloc(), refusal).expect(rt, "memory for its twin");
     let (is_copied, key) = (refusal.is_copied, refusal.key);
-    let is_right = is_served_or_kept(rt.alloc(), &mut bench, &mut twin, is_copied, key);
+    let is_right = is_served_or_kept(rt.alloc(), &mut *bench, &mut *twin, is_copied, key);
     assert!(rt; is_right);
+    drop(bench);
+    drop(twin);
 }
 
 // The first turn of the fan's component 0, which sends to two listeners.

@@ -59,7 +59,9 @@ fn writes(
     let is_counted = out.failures() == u64::from(is_short);
     let part = bytes.get(..room).unwrap_or(bytes);
     let writer = out.into_inner();
-    answer == wanted && is_counted && writer.held.as_slice() == part
+    let is_part = writer.held.as_slice() == part;
+    drop(writer);
+    answer == wanted && is_counted && is_part
 }
 
 #[test]
@@ -87,6 +89,7 @@ fn writes_turns_up_to_where_the_writer_fails(rt: HostRuntime) {
             assert!(rt; is_beginning, "room for {room}");
         }
     }
+    drop(turns);
     let others = [
         turned(&rt, key(u64::MAX, u16::MAX, 10), Some(0), &TWO_ARGUMENTS),
         turned(&rt, key(7, 0, u64::MAX), Some(0), &[]),
@@ -96,6 +99,8 @@ fn writes_turns_up_to_where_the_writer_fails(rt: HostRuntime) {
     assert!(rt; writes(all, &plan, &others, Lines::All, 200, ARGUMENTS));
     let external = counted(&rt, 100, 200, None);
     assert!(rt; writes(external, &plan, &others, Lines::Trace, 200, ""));
+    drop(others);
+    drop(plan);
     let fault = WriteFault::WriteFailed(5);
     assert!(rt; fault.number() == 60 && fault.place().is_none());
 }

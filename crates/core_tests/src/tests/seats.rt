@@ -21,6 +21,10 @@ fn a_seat_reads_the_greatest_count_of_all(rt: HostRuntime) -> Result<(), Fail> {
     assert_eq!(rt; published.read(&mut first), 5);
     published.publish(&mut first, 9);
     assert_eq!(rt; published.read(&mut second), 9);
+    drop(seats);
+    drop(first);
+    drop(second);
+    drop(published);
     Ok(())
 }
 

@@ -1,13 +1,13 @@
 //! Steps of exchanges of the ring and of their leases, each with its answer, and what runs them.
 
+use crate::rings::ROWS;
 use event_keys::{Bound, Key, Outcome};
 use exchange::{Chunk, Exchange, Lease, MeetRefused};
 use ring_source::ring;
 use std::alloc::{AllocGlobal, Global};
 use std::process::Abort;
 use std::sync::Arc;
-use task_seed::{Row, Setup, TableTurns};
-use terms::NoMemory;
+use task_seed::{Setup, TableTurns};
 
 type Shared = Exchange<TableTurns>;
 
@@ -96,26 +96,10 @@ pub(crate) const AT_4: Bound = Bound::At(Key {
 // All turns in order, and whether each is idle.
 const TURNS: [(Bound, bool); 4] = [(AT_1, true), (AT_2, false), (AT_3, false), (AT_4, false)];
 
-const fn row(component: u64, gap: u32) -> Row {
-    Row {
-        component,
-        gap,
-        task: 0,
-        choice: 0,
-    }
-}
-
-// Component 0 has turns at the ticks 2 and 4, component 1 at 1 and 3.
-fn setup(alloc: Global, horizon: u64) -> Result<Arc<Setup<TableTurns>>, NoMemory> {
-    let plan = ring(alloc)?;
-    let rows = [row(0, 2), row(0, 2), row(1, 1), row(1, 2)];
-    let Ok(turns) = TableTurns::new(alloc, &plan, &rows) else {
-        return Err(NoMemory);
-    };
-    match Setup::new(plan, turns, horizon) {
-        Ok(setup) => Ok(Arc::new(alloc, setup)?),
-        Err(_) => Err(NoMemory),
-    }
+fn setup(rt: &(impl Abort + AllocGlobal), horizon: u64) -> Setup<TableTurns> {
+    let plan = ring(rt.alloc()).expect(rt, "memory for a plan");
+    let turns = TableTurns::new(rt.alloc(), &plan, &ROWS).expect(rt, "turns of the ring");
+    Setup::new(plan, turns, horizon).expect(rt, "a setup")
 }
 
 fn tells(alloc: Global, lease: &mut Held, away: Away) -> bool {
@@ -152,7 +136,10 @@ fn answers(exchange: &mut Shared, here: Here) -> bool {
     match here {
         Here::Commits(count, bound) => exchange.commit() == count && exchange.bound() == bound,
         Here::Gives(from, to) => {
-            has_turns(&exchange.take_chunk(), from, to) && exchange.given() == to as u64
+            let chunk = exchange.take_chunk();
+            let is_right = has_turns(&chunk, from, to);
+            drop(chunk);
+            is_right && exchange.given() == to as u64
         }
         Here::Mail(number, wanted) => exchange.has_mail(number) == wanted,
         Here::Finished(wanted) => exchange.finished() == wanted,
@@ -214,10 +201,12 @@ pub(crate) fn assert_steps(rt: &(impl Abort + AllocGlobal), steps: &[Step]) {
     let mut exchanges = Vec::new(rt.alloc());
     let mut leases = Vec::new(rt.alloc());
     for horizon in [1000, 1000, 1000, 1000, 999] {
-        let setup = setup(rt.alloc(), horizon).expect(rt, "memory for a setup");
+        let setup = Arc::new(rt.alloc(), setup(rt, horizon)).expect(rt, "memory for a setup");
         let started = Exchange::new(rt.alloc(), setup);
         let (exchange, mut own) = started.expect(rt, "memory for an exchange");
-        assert!(rt; exchanges.push(exchange).is_ok() && leases.append(&mut own).is_ok());
+        exchanges.push(exchange).expect(rt, "memory for exchanges");
+        leases.append(&mut own).expect(rt, "memory for leases");
+        drop(own);
     }
     let right = count(
         rt.alloc(),
@@ -226,4 +215,6 @@ pub(crate) fn assert_steps(rt: &(impl Abort + AllocGlobal), steps: &[Step]) {
         steps,
     );
     assert_eq!(rt; right, steps.len());
+    drop(exchanges);
+    drop(leases);
 }
