@@ -116,8 +116,7 @@ pub fn read_states<'a, 'b>(
     let Some(rest) = past(tokens, Word::States) else {
         return Ok((Vec::new(alloc), tokens));
     };
-    let (all, rest) = read_variable_list(alloc, rest)?;
-    Ok((all, rest))
+    read_variable_list(alloc, rest)
 }
 
 fn starts_task(tokens: &[Token]) -> bool

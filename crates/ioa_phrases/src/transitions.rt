@@ -78,8 +78,7 @@ fn read_eff<'a, 'b>(
     let Some(rest) = past(tokens, Word::Eff) else {
         return Ok((Vec::new(alloc), tokens));
     };
-    let (eff, rest) = read_statements(alloc, rest, 0)?;
-    Ok((eff, rest))
+    read_statements(alloc, rest, 0)
 }
 
 /// Reads a transition.
