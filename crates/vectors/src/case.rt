@@ -1,5 +1,6 @@
 //! One case.
 
+use crate::crew::owned;
 use compose::compose;
 use ioa_check::check;
 use ioa_front::read;
@@ -75,13 +76,21 @@ impl Case {
         rt: &R,
         alloc: Global,
     ) -> Result<bool, AllocError> {
-        if let Some(source) = self.value.get("source").and_then(Value::as_str) {
+        if let Some(source) = self.text("source") {
             return self.is_checked(alloc, source);
         }
-        match self.value.get("composed").and_then(Value::as_str) {
+        match self.text("composed") {
             Some(source) => self.is_composed(alloc, source),
             None => self.is_served(rt, alloc),
         }
+    }
+
+    fn text(&self, name: &str) -> Option<&str> {
+        self.value.get(name).and_then(Value::as_str)
+    }
+
+    fn number(&self, name: &str) -> Option<u64> {
+        self.value.get(name).and_then(Value::as_u64)
     }
 
     // Whether the check accepts the source, or refuses it with the wanted number at the wanted token.
@@ -118,13 +127,15 @@ impl Case {
     }
 
     fn is_accepted(&self) -> bool {
-        self.value.get("number").and_then(Value::as_u64).is_none()
+        self.number("number").is_none()
     }
 
     fn has_refusal(&self, number: u8, place: Option<usize>) -> bool {
-        let wanted = self.value.get("number").and_then(Value::as_u64);
-        let wanted_place = self.value.get("place").and_then(Value::as_u64);
-        wanted == Some(u64::from(number)) && wanted_place == place.map(|place| place as u64)
+        let place = match place {
+            Some(place) => Some(place as u64),
+            None => None,
+        };
+        self.number("number") == Some(u64::from(number)) && self.number("place") == place
     }
 
     // Whether the service answers with the wanted status and texts: to the words of the case, and to a run with every other crew.
@@ -162,16 +173,14 @@ impl Case {
         let mut out = Counted::new(Vec::new(alloc));
         let mut err = Counted::new(Vec::new(alloc));
         let status = serve(rt, alloc, words, &files, &mut out, &mut err);
-        let status_is_right = self.value.get("status").and_then(Value::as_u64)
-            == Some(u64::from(status));
+        let status_is_right = self.number("status") == Some(u64::from(status));
         let out_is_right = self.has_text(alloc, "stdout", out.into_inner().as_slice())?;
         let err_is_right = self.has_text(alloc, "stderr", err.into_inner().as_slice())?;
         Ok(status_is_right && out_is_right && err_is_right)
     }
 
     fn is_done_run(&self, words: &[String]) -> bool {
-        let status = self.value.get("status").and_then(Value::as_u64);
-        status == Some(0) && words.first().is_some_and(|word| word.as_str() == "run")
+        self.number("status") == Some(0) && words.first().is_some_and(|word| word.as_str() == "run")
     }
 
     fn words(&self, alloc: Global) -> Result<Vec<String>, AllocError> {
@@ -188,7 +197,7 @@ impl Case {
 
     // Whether the bytes are what the case wants under this name; anything will do where it says nothing.
     fn has_text(&self, alloc: Global, name: &str, bytes: &[u8]) -> Result<bool, AllocError> {
-        let Some(wanted) = self.value.get(name).and_then(Value::as_str) else {
+        let Some(wanted) = self.text(name) else {
             return Ok(true);
         };
         let wanted = bytes_of(alloc, wanted)?;
@@ -203,10 +212,17 @@ fn with_crew(
     workers: &str,
     budget: &str,
 ) -> Result<Vec<String>, AllocError> {
-    let mut crewed = Vec::new(alloc);
-    for word in ["run", "--workers", workers, "--budget", budget] {
-        crewed.push(String::from_str(alloc, word)?)?;
-    }
+    let mut crewed = owned(alloc, &["run", "--workers", workers, "--budget", budget])?;
+    push_others(alloc, words, &mut crewed)?;
+    Ok(crewed)
+}
+
+// Appends the words of a run without those of its crew.
+fn push_others(
+    alloc: Global,
+    words: &[String],
+    crewed: &mut Vec<String>,
+) -> Result<(), AllocError> {
     let mut is_value = false;
     for word in words.iter().skip(1) {
         let word = word.as_str();
@@ -218,5 +234,5 @@ fn with_crew(
             crewed.push(String::from_str(alloc, word)?)?;
         }
     }
-    Ok(crewed)
+    Ok(())
 }

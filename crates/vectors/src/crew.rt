@@ -2,7 +2,7 @@
 use crate::Count;
 use service::serve::serve;
 use service::{FileFault, Files};
-use std::alloc::Global;
+use std::alloc::{AllocError, Global};
 use std::sync::Wait;
 use std::thread::Threads;
 use trace::Counted;
@@ -10,7 +10,9 @@ use trace::Counted;
 // How often a source is run, in all.
 const RUNS: u64 = 200;
 
-const BUDGETS: [u64; 5] = [1, 2, 7, 64, 1000];
+const WORKERS: [&str; 8] = ["1", "2", "3", "4", "5", "6", "7", "8"];
+
+const BUDGETS: [&str; 5] = ["1", "2", "7", "64", "1000"];
 
 // One file in memory, under the name F.
 #[derive(Clone, Copy)]
@@ -35,24 +37,31 @@ impl<'a> Files for Source<'a> {
     }
 }
 
-// What the program writes to these words, where all goes well.
+// What the program writes to these words; nothing where it fails, or writes an error.
 fn written<R: Threads + Wait + Sync>(
     rt: &R,
     alloc: Global,
     words: &[&str],
     source: Source,
-) -> anyhow::Result<Option<Vec<u8>>> {
-    let mut said = Vec::new(alloc);
-    for word in words {
-        said.push(String::from_str(alloc, word)?)?;
-    }
+) -> anyhow::Result<Vec<u8>> {
+    let said = owned(alloc, words)?;
     let mut out = Counted::new(Vec::new(alloc));
     let mut err = Counted::new(Vec::new(alloc));
     let status = serve(rt, alloc, said.as_slice(), &source, &mut out, &mut err);
+    let mut text = out.into_inner();
     if status != 0 || !err.into_inner().is_empty() {
-        return Ok(None);
+        text.clear();
     }
-    Ok(Some(out.into_inner()))
+    Ok(text)
+}
+
+/// The words as values of their own.
+pub fn owned(alloc: Global, words: &[&str]) -> Result<Vec<String>, AllocError> {
+    let mut owned = Vec::new(alloc);
+    for word in words {
+        owned.push(String::from_str(alloc, word)?)?;
+    }
+    Ok(owned)
 }
 
 // Whether run number k of a source writes just what one thread does, and something.
@@ -63,9 +72,19 @@ fn is_same<R: Threads + Wait + Sync>(
     source: Source,
 ) -> anyhow::Result<bool> {
     let seed = format!(in alloc; "{k}")?;
-    let workers = format!(in alloc; "{}", k % 8 + 1)?;
-    let budget = format!(in alloc; "{}", BUDGETS[(k % 5) as usize])?;
-    let seed = seed.as_str();
+    let workers = WORKERS[(k % 8) as usize];
+    let budget = BUDGETS[(k % 5) as usize];
+    is_same_by(rt, alloc, seed.as_str(), workers, budget, source)
+}
+
+fn is_same_by<R: Threads + Wait + Sync>(
+    rt: &R,
+    alloc: Global,
+    seed: &str,
+    workers: &str,
+    budget: &str,
+    source: Source,
+) -> anyhow::Result<bool> {
     let alone = ["reference", "F", "--seed", seed, "--ticks", "500"];
     let shared = [
         "run",
@@ -75,16 +94,12 @@ fn is_same<R: Threads + Wait + Sync>(
         "--ticks",
         "500",
         "--workers",
-        workers.as_str(),
+        workers,
         "--budget",
-        budget.as_str(),
+        budget,
     ];
-    let Some(wanted) = written(rt, alloc, &alone, source)? else {
-        return Ok(false);
-    };
-    let Some(given) = written(rt, alloc, &shared, source)? else {
-        return Ok(false);
-    };
+    let wanted = written(rt, alloc, &alone, source)?;
+    let given = written(rt, alloc, &shared, source)?;
     Ok(given.as_slice() == wanted.as_slice() && !wanted.is_empty())
 }
 

@@ -19,8 +19,9 @@ mod lists;
 use crate::case::Case;
 use crate::crew::run_all;
 use crate::lists::try_lists;
-use std::alloc::Global;
+use std::alloc::{AllocGlobal, Global};
 use std::process::ExitCode;
+use std::rt::Files;
 use std::sync::Wait;
 use std::thread::Threads;
 use std::{env, fs};
@@ -50,20 +51,29 @@ fn main(rt: HostRuntime) -> anyhow::Result<ExitCode> {
     };
     let mut sources = Vec::new(alloc);
     for name in env::args(&rt)?.skip(1) {
-        if name.as_str() == "lists" {
-            try_lists(alloc, &mut count)?;
-            continue;
-        }
-        let text = fs::read_to_string(&rt, name.as_str())?;
-        if name.as_str().ends_with(".ioa") {
-            sources.push(text)?;
-        } else {
-            try_all(&rt, alloc, name.as_str(), text.as_str(), &mut count)?;
-        }
+        try_word(&rt, alloc, name.as_str(), &mut sources, &mut count)?;
     }
     run_all(&rt, alloc, sources.as_slice(), &mut count)?;
     println!(rt; "{} passed, {} failed", count.passed, count.failed)?;
     Ok(ExitCode::from(if count.failed == 0 { 0 } else { 1 }))
+}
+
+// Tries the lists, or the cases of a file; a source is kept.
+fn try_word<R: AllocGlobal + Files + Threads + Wait + Sync + Eprint>(
+    rt: &R,
+    alloc: Global,
+    word: &str,
+    sources: &mut Vec<String>,
+    count: &mut Count,
+) -> anyhow::Result<()> {
+    if word == "lists" {
+        return try_lists(alloc, count);
+    }
+    let text = fs::read_to_string(rt, word)?;
+    if word.ends_with(".ioa") {
+        return Ok(sources.push(text)?);
+    }
+    try_all(rt, alloc, word, text.as_str(), count)
 }
 
 // Tries the cases of a file.

@@ -48,17 +48,22 @@ fn push_deliveries(
     steps: &mut Vec<Step>,
 ) -> Result<()> {
     for to in &setup.plan().receivers(alloc, action, key.component)? {
-        let message = Message {
-            key,
-            action: action.clone()?,
-            to: *to,
-        };
-        steps.push(Step::Deliver(Signed {
-            message,
-            sign: Sign::Plus,
-        }))?;
-        steps.push(Step::Process(*to))?;
+        push_delivery(key, action, *to, steps)?;
     }
+    Ok(())
+}
+
+fn push_delivery(key: Key, action: &Action, to: u16, steps: &mut Vec<Step>) -> Result<()> {
+    let message = Message {
+        key,
+        action: action.clone()?,
+        to,
+    };
+    steps.push(Step::Deliver(Signed {
+        message,
+        sign: Sign::Plus,
+    }))?;
+    steps.push(Step::Process(to))?;
     Ok(())
 }
 

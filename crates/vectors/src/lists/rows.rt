@@ -4,6 +4,7 @@ use crate::Count;
 use crate::lists::subject::{RING, shared};
 use anyhow::Result;
 use compose::compose_source;
+use event_keys::Key;
 use plans::Plan;
 use std::alloc::Global;
 use std::sync::Arc;
@@ -226,7 +227,7 @@ fn replies(alloc: Global, world: &mut World<AnyTurns>, steps: &str) -> Result<St
     let replies = driven(alloc, world, steps)?;
     let mut lines = String::new(alloc);
     for reply in &replies {
-        lines.push_str(line_of(alloc, reply)?.as_str())?;
+        push_line(alloc, reply, &mut lines)?;
     }
     Ok(lines)
 }
@@ -240,19 +241,23 @@ fn driven(
     Ok(world.run(alloc, steps.as_slice())?)
 }
 
-fn line_of(alloc: Global, reply: &Result<Reply, StepRefused>) -> Result<String> {
-    Ok(match reply {
-        Ok(Reply::Processed(key)) => format!(in alloc;
-            "processed {} {} {}\n",
-            key.tick, key.component, key.number
-        )?,
-        Ok(Reply::Delivered(count)) => format!(in alloc; "delivered {count}\n")?,
-        Ok(Reply::Met) => String::from_str(alloc, "met\n")?,
-        Ok(Reply::RolledBack(key)) => format!(in alloc;
-            "rolled back {} {} {}\n",
-            key.tick, key.component, key.number
-        )?,
-        Ok(Reply::Committed(count)) => format!(in alloc; "committed {count}\n")?,
-        Err(refusal) => format!(in alloc; "refused {}\n", refusal.number())?,
-    })
+fn push_line(alloc: Global, reply: &Result<Reply, StepRefused>, lines: &mut String) -> Result<()> {
+    match reply {
+        Ok(Reply::Processed(key)) => push_key(alloc, "processed", *key, lines),
+        Ok(Reply::Delivered(count)) => push_number(alloc, "delivered", *count, lines),
+        Ok(Reply::Met) => Ok(lines.push_str("met\n")?),
+        Ok(Reply::RolledBack(key)) => push_key(alloc, "rolled back", *key, lines),
+        Ok(Reply::Committed(count)) => push_number(alloc, "committed", *count, lines),
+        Err(refusal) => push_number(alloc, "refused", u64::from(refusal.number()), lines),
+    }
+}
+
+fn push_key(alloc: Global, word: &str, key: Key, lines: &mut String) -> Result<()> {
+    let line = format!(in alloc; "{word} {} {} {}\n", key.tick, key.component, key.number)?;
+    Ok(lines.push_str(line.as_str())?)
+}
+
+fn push_number(alloc: Global, word: &str, number: u64, lines: &mut String) -> Result<()> {
+    let line = format!(in alloc; "{word} {number}\n")?;
+    Ok(lines.push_str(line.as_str())?)
 }

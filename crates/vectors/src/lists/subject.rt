@@ -56,15 +56,18 @@ pub fn shared(
 
 /// How many turns have come when further ones follow the first `count`, if these are the next.
 pub fn turns_after(turns: &[Turned], count: usize, further: &EventList<Turned>) -> Option<usize> {
-    let mut count = count;
+    let mut count = Some(count);
     for turned in further.iter() {
-        let Some(next) = turns.get(count) else {
-            return None;
-        };
-        if next != turned {
-            return None;
-        }
-        count = count.saturating_add(1);
+        count = turns_with(turns, count, turned);
     }
-    Some(count)
+    count
+}
+
+fn turns_with(turns: &[Turned], count: Option<usize>, turned: &Turned) -> Option<usize> {
+    let count = count?;
+    let next = turns.get(count)?;
+    if next == turned {
+        return count.checked_add(1);
+    }
+    None
 }
