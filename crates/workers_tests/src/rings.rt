@@ -121,12 +121,7 @@ pub(crate) fn run_ring<
     W: Write + Drop,
     G: Gate<AnyTurns>,
     R: Abort + Threads + Wait + Sync + AllocGlobal,
->(
-    rt: &R,
-    crew: (u16, u32),
-    gate: &G,
-    out: &mut Counted<W>,
-) -> Result<Summary, RunFault>
+>(rt: &R, crew: (u16, u32), gate: &G, out: &mut Counted<W>) -> Result<Summary, RunFault>
     requires workers { (1 ≤ crew.0) × (crew.0 ≤ 64) }
     requires budget { (1 ≤ crew.1) × (crew.1 ≤ 65535) }
 {
@@ -161,13 +156,7 @@ fn other_turns_and_lines(rt: HostRuntime) {
     let tables: [(&[Row], u64, Lines, u64, &str); 4] = [
         (&ROWS, 1000, Lines::Trace, 4, TRACE),
         (&ROWS, 0, Lines::All, 0, ""),
-        (
-            &TWO,
-            1000,
-            Lines::All,
-            2,
-            "1 0 0 pass(1)\n1 1 0 pass(0)\n",
-        ),
+        (&TWO, 1000, Lines::All, 2, "1 0 0 pass(1)\n1 1 0 pass(0)\n"),
         (&[], 1000, Lines::All, 0, ""),
     ];
     for (rows, horizon, lines, count, wanted) in tables {

@@ -1,9 +1,7 @@
 //! Stores of three variables, against values worked out by hand: a number, an array of two numbers, and a sequence of two.
 
 use super::assert_all;
-use Step::{
-    Clear, Forget, Mark, Marks, Number, Pair, Put, Same, Set, SetTwice, Start, Swap, Undo,
-};
+use Step::{Clear, Forget, Mark, Marks, Number, Pair, Put, Same, Set, SetTwice, Start, Swap, Undo};
 use std::alloc::Global;
 use std::mem::{replace, swap};
 use terms::{Cells, NoMemory, Scalar, State, Value};
