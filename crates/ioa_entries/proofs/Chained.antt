@@ -11,18 +11,10 @@ use Rattle.ioa_rules.specs.TermRules.{judge, truth_of}
 use Rattle.ioa_entries.specs.EffectLists.{before, chained, choice, effect_list, arm_list, for_of}
 use Rattle.ioa_entries.specs.EffectViews.{members_of}
 
-pub before_last : (es : List (Option EffectTree)) (e last : Option EffectTree) → before (es ++ e ∷ []) last ≡ before es (in_order e last)
-before_last [] e last = refl
-before_last (x ∷ es) e last = ap (in_order x) (before_last es e last)
-
 pub chained_last : (es : List (Option EffectTree)) (e : Option EffectTree) → chained (es ++ e ∷ []) ≡ before es e
 chained_last [] e = refl
 chained_last (x ∷ []) e = refl
 chained_last (x ∷ y ∷ es) e = ap (in_order x) (chained_last (y ∷ es) e)
-
-pub choice_last : (as' : List (Option TermTree × Option EffectTree)) (a : Option TermTree × Option EffectTree) (otherwise : Option EffectTree) → choice (as' ++ a ∷ []) otherwise ≡ choice as' (branch_of a.0 a.1 otherwise)
-choice_last [] a otherwise = refl
-choice_last (x ∷ as') a otherwise = ap (branch_of x.0 x.1) (choice_last as' a otherwise)
 
 pub map_last : {A B : Type 0} (f : A → B) (xs : List A) (x : A) → map f (xs ++ x ∷ []) ≡ map f xs ++ f x ∷ []
 map_last f [] x = refl

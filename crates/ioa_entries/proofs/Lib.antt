@@ -4,3 +4,4 @@ pub mod ParameterParts
 pub mod Rows
 pub mod Scans
 pub mod StatementParts
+mod Led

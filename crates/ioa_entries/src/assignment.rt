@@ -23,7 +23,7 @@ use ioa_typing::shape::{fits, shape_of};
 use ioa_typing::typed::note_unfit;
 use ioa_typing::{FaultKind, Meaning, Names, Progress, Shape, Typed, check_term};
 use std::alloc::{AllocError, Global};
-use terms::{Effect, Term};
+use terms::{Effect, Last, Term};
 
 // The number of the state variable of this name.
 fn cell_named(names: &Names, name: &str) -> Option<usize>
@@ -108,7 +108,13 @@ fn note_left(
 }
 
 // The assignment to an item of an array.
-fn item_assigned(slot: usize, kind: Shape<'_>, index: Typed<'_>, value: Term) -> Option<Effect>
+fn item_assigned(
+    alloc: Global,
+    slot: usize,
+    kind: Shape<'_>,
+    index: Typed<'_>,
+    value: Term,
+) -> Option<Effect>
     ensures { done_tree result ≡ rule.item_assigned slot (shape_tree kind.entry) (typed_tree index.entry) (term_tree value) }
 {
     let Shape::Array(by, _) = kind else {
@@ -121,10 +127,12 @@ fn item_assigned(slot: usize, kind: Shape<'_>, index: Typed<'_>, value: Term) ->
         drop(value);
         return None;
     }
-    Some(Effect::AssignItem(slot, index.core, listed_of(by), value))
+    let last = Last::AssignItem(slot, index.core, listed_of(by), value);
+    Some(Effect::of(alloc, last))
 }
 
 fn assigned_at(
+    alloc: Global,
     slot: Option<usize>,
     kind: Option<Shape<'_>>,
     index: Option<Typed<'_>>,
@@ -150,20 +158,21 @@ fn assigned_at(
         drop(index);
         return None;
     };
-    item_assigned(slot, kind, index, value)
+    item_assigned(alloc, slot, kind, index, value)
 }
 
-fn assigned(slot: Option<usize>, value: Option<Term>) -> Option<Effect>
+fn assigned(alloc: Global, slot: Option<usize>, value: Option<Term>) -> Option<Effect>
     ensures { done_tree result ≡ rule.assigned slot (core_tree value) }
 {
     let Some(slot) = slot else {
         drop(value);
         return None;
     };
-    Some(Effect::Assign(slot, value?))
+    Some(Effect::of(alloc, Last::Assign(slot, value?)))
 }
 
 fn assignment_of(
+    alloc: Global,
     slot: Option<usize>,
     kind: Option<Shape<'_>>,
     index: Option<Option<Typed<'_>>>,
@@ -172,8 +181,8 @@ fn assignment_of(
     ensures { (s : Scope) (m : Option scopes.Meaning) (i : Option PlainTerm) (v : PlainInit) → slot ≡ rule.cell_of m → place_kind kind.entry ≡ rule.cell_kind m → judged_at index.entry ≡ option_map (judge s) i → core_tree value ≡ put_in s (rule.left_kind (rule.cell_kind m) i) v → done_tree result ≡ rule.assignment_of s m i v }
 {
     match index {
-        None => assigned(slot, value),
-        Some(index) => assigned_at(slot, kind, index, value),
+        None => assigned(alloc, slot, value),
+        Some(index) => assigned_at(alloc, slot, kind, index, value),
     }
 }
 
@@ -207,5 +216,5 @@ pub(crate) fn check_assignment(
     };
     note_left(progress, at, kind, &index);
     progress.note_if(put.misfit.is_some(), at, FaultKind::WrongType);
-    Ok(assignment_of(cell, kind, index, put.value))
+    Ok(assignment_of(alloc, cell, kind, index, put.value))
 }

@@ -21,7 +21,7 @@ use ioa_trees::tree::{Entry, EntryKind, Parameter, Statement, Term as TermTree, 
 use ioa_typing::typed::{note_unless_truth, truth_of};
 use ioa_typing::{FaultKind, Names, Progress, check_term};
 use std::alloc::{AllocError, Global};
-use terms::{Effect, Scalar, Term};
+use terms::{Effect, Operand, Scalar, Term};
 
 /// What a transition means, if no fault is inside: its head is that of its entry.
 #[derive(Drop)]
@@ -99,7 +99,7 @@ fn check_pre(
     ensures truth { IfOk result (λ t. core_tree t ≡ rule.pre_of (names_tree names.now) (option_view pre.now)) }
 {
     match pre {
-        None => Ok(Some(Term::Known(Scalar::Bool(true)))),
+        None => Ok(Some(Term::of(alloc, Operand::Known(Scalar::Bool(true))))),
         Some(tree) => {
             progress.note_if(is_input(kind), progress.at, FaultKind::InputWithPre);
             progress.at += 1;

@@ -23,7 +23,7 @@ use ioa_typing::shape::{fits, is_seq, shape_of};
 use ioa_typing::typed::value_in;
 use ioa_typing::{Kind, Names, Progress, Shape, Typed, check_term};
 use std::alloc::{AllocError, Global};
-use terms::Term;
+use terms::{Operand, Term};
 
 /// A value in its place: what it means there, and the token of the innermost value that doesn't fit.
 #[derive(Drop)]
@@ -46,7 +46,7 @@ pub(crate) fn item_of(kind: Option<Shape<'_>>) -> Option<Shape<'_>>
     }
 }
 
-fn empty_in(kind: Option<Shape<'_>>, at: u32) -> Put
+fn empty_in(alloc: Global, kind: Option<Shape<'_>>, at: u32) -> Put
     ensures value { (s : Scope) → core_tree result.value ≡ rule.put_in s (place_kind kind.entry) tree.Empty }
     ensures misfit { (s : Scope) → misfit_faults result.misfit ≡ rule.misfits s (place_kind kind.entry) at tree.Empty }
 {
@@ -54,7 +54,7 @@ fn empty_in(kind: Option<Shape<'_>>, at: u32) -> Put
         None => (None, None),
         Some(kind) => {
             if is_seq(kind) {
-                (Some(Term::Empty), None)
+                (Some(Term::of(alloc, Operand::Empty)), None)
             } else {
                 (None, Some(at))
             }
@@ -69,7 +69,10 @@ fn filled(alloc: Global, index: &Kind, item: Option<Term>) -> Result<Option<Term
 {
     match item {
         None => Ok(None),
-        Some(item) => Ok(Some(Term::Fill(small_count(index), Box::new(alloc, item)?))),
+        Some(item) => {
+            let item = Box::new(alloc, item)?;
+            Ok(Some(Term::of(alloc, Operand::Fill(small_count(index), item))))
+        }
     }
 }
 
@@ -158,7 +161,7 @@ pub fn check_init(
     match init {
         Init::Empty => {
             progress.at += 1;
-            Ok(empty_in(kind, at))
+            Ok(empty_in(alloc, kind, at))
         }
         Init::Fill(item) => {
             progress.at += 2;

@@ -11,7 +11,6 @@ ghost use Rattle.ioa_rules.specs.TermRules as rule;
 ghost use Rattle.ioa_typing.specs.Noted.{AreNoted};
 ghost use Rattle.ioa_typing.specs.TermViews.{core_tree, judged_tree, typed_tree};
 
-use crate::boxed::boxed_pair;
 use crate::fault::FaultKind;
 use crate::kind::Kind;
 use crate::meaning::Meaning;
@@ -21,7 +20,7 @@ use crate::shape::{Shape, fits, is_whole, shape_of};
 use crate::typed::{Typed, note_unless_truth, note_unless_whole, truth_of, whole_of};
 use ioa_trees::tree::{Relation, Sign};
 use std::alloc::{AllocError, Global};
-use terms::{Operator, Scalar, Term};
+use terms::{Link, Operand, Operator, Scalar, Term};
 
 fn of_kind(core: Term, kind: &Option<Kind>) -> Option<Typed<'_>>
     ensures { judged_tree result ≡ rule.of_kind (term_tree core) (option_tree kind.now) }
@@ -38,21 +37,29 @@ fn of_kind(core: Term, kind: &Option<Kind>) -> Option<Typed<'_>>
     }
 }
 
-fn value_named<'a>(names: &'a Names, name: &str) -> Option<Typed<'a>>
+fn value_named<'a>(alloc: Global, names: &'a Names, name: &str) -> Option<Typed<'a>>
     ensures { judged_tree result ≡ rule.value_meant (named name.now (names_tree names.now)) }
 {
     match names.get(name) {
         None => None,
         Some(Meaning::Type(_)) => None,
         Some(Meaning::Member(at, first, count)) => Some(Typed {
-            core: Term::Known(Scalar::Member(*at)),
+            core: Term::of(alloc, Operand::Known(Scalar::Member(*at))),
             shape: Shape::Enumeration(*first, *count),
         }),
         Some(Meaning::Automaton(_)) => None,
-        Some(Meaning::Formal(number, kind)) => of_kind(Term::Formal(*number), kind),
-        Some(Meaning::Variable(number, kind)) => of_kind(Term::Cell(*number), kind),
-        Some(Meaning::Parameter(number, kind)) => of_kind(Term::Parameter(*number), kind),
-        Some(Meaning::Loop(number, kind)) => of_kind(Term::Loop(*number), kind),
+        Some(Meaning::Formal(number, kind)) => {
+            of_kind(Term::of(alloc, Operand::Formal(*number)), kind)
+        }
+        Some(Meaning::Variable(number, kind)) => {
+            of_kind(Term::of(alloc, Operand::Cell(*number)), kind)
+        }
+        Some(Meaning::Parameter(number, kind)) => {
+            of_kind(Term::of(alloc, Operand::Parameter(*number)), kind)
+        }
+        Some(Meaning::Loop(number, kind)) => {
+            of_kind(Term::of(alloc, Operand::Loop(*number)), kind)
+        }
     }
 }
 
@@ -73,6 +80,7 @@ fn is_value_named(names: &Names, name: &str) -> bool
 
 /// A name in a term.
 pub(crate) fn check_name<'a>(
+    alloc: Global,
     names: &'a Names,
     name: &str,
     place: u32,
@@ -83,11 +91,12 @@ pub(crate) fn check_name<'a>(
     ensures meant { judged_tree result ≡ rule.value_meant (named name.now (names_tree names.now)) }
 {
     progress.note_if(!is_value_named(names, name), place, FaultKind::UnknownName);
-    value_named(names, name)
+    value_named(alloc, names, name)
 }
 
 /// A literal, which is one token.
 pub(crate) fn known<'a>(
+    alloc: Global,
     progress: &mut Progress,
     scalar: Scalar,
     shape: Shape<'a>,
@@ -99,7 +108,7 @@ pub(crate) fn known<'a>(
 {
     progress.at += 1;
     Some(Typed {
-        core: Term::Known(scalar),
+        core: Term::of(alloc, Operand::Known(scalar)),
         shape,
     })
 }
@@ -119,7 +128,10 @@ fn negative_of(alloc: Global, of: Option<Term>) -> Result<Option<Term>, AllocErr
 {
     match of {
         None => Ok(None),
-        Some(of) => Ok(Some(Term::Negative(Box::new(alloc, of)?))),
+        Some(of) => {
+            let of = Box::new(alloc, of)?;
+            Ok(Some(Term::of(alloc, Operand::Negative(of))))
+        }
     }
 }
 
@@ -128,7 +140,10 @@ fn not_of(alloc: Global, of: Option<Term>) -> Result<Option<Term>, AllocError>
 {
     match of {
         None => Ok(None),
-        Some(of) => Ok(Some(Term::Not(Box::new(alloc, of)?))),
+        Some(of) => {
+            let of = Box::new(alloc, of)?;
+            Ok(Some(Term::of(alloc, Operand::Not(of))))
+        }
     }
 }
 
@@ -174,7 +189,6 @@ pub(crate) fn operator_of(sign: Sign) -> Operator
 }
 
 fn joined(
-    alloc: Global,
     operator: Operator,
     left: Option<Term>,
     right: Option<Term>,
@@ -189,13 +203,11 @@ fn joined(
         drop(left);
         return Ok(None);
     };
-    let (left, right) = boxed_pair(alloc, left, right)?;
-    Ok(Some(Term::Binary(operator, left, right)))
+    Ok(Some(left.with(Link::Operator(operator, right))?))
 }
 
 /// `and` or `or` with one more operand at this place.
 pub(crate) fn join_truth(
-    alloc: Global,
     operator: Operator,
     left: Option<Term>,
     right: Option<Typed<'_>>,
@@ -207,13 +219,12 @@ pub(crate) fn join_truth(
     ensures meant { IfOk result (λ c. core_tree c ≡ rule.joined operator (core_tree left) (rule.truth_of (judged_tree right.entry))) }
 {
     note_unless_truth(progress, place, &right);
-    let core = joined(alloc, operator, left, truth_of(right))?;
+    let core = joined(operator, left, truth_of(right))?;
     Ok(core)
 }
 
 /// A sum or a product with one more operand at this place.
 pub(crate) fn join_whole(
-    alloc: Global,
     operator: Operator,
     left: Option<Term>,
     right: Option<Typed<'_>>,
@@ -225,16 +236,12 @@ pub(crate) fn join_whole(
     ensures meant { IfOk result (λ c. core_tree c ≡ rule.joined operator (core_tree left) (rule.whole_of (judged_tree right.entry))) }
 {
     note_unless_whole(progress, place, &right);
-    let core = joined(alloc, operator, left, whole_of(right))?;
+    let core = joined(operator, left, whole_of(right))?;
     Ok(core)
 }
 
 /// The remainder by a number, which isn't 0.
-pub(crate) fn modulo_of(
-    alloc: Global,
-    divisor: u64,
-    left: Option<Term>,
-) -> Result<Option<Term>, AllocError>
+pub(crate) fn modulo_of(divisor: u64, left: Option<Term>) -> Result<Option<Term>, AllocError>
     ensures { IfOk result (λ c. core_tree c ≡ rule.modulo_of divisor (core_tree left)) }
 {
     let Some(left) = left else {
@@ -244,8 +251,7 @@ pub(crate) fn modulo_of(
         drop(left);
         return Ok(None);
     }
-    let left = Box::new(alloc, left)?;
-    Ok(Some(Term::Modulo(left, divisor.cast_signed())))
+    Ok(Some(left.with(Link::Modulo(divisor.cast_signed()))?))
 }
 
 fn compares(relation: Relation, left: Shape<'_>, right: Shape<'_>) -> bool
@@ -261,23 +267,21 @@ fn compares(relation: Relation, left: Shape<'_>, right: Shape<'_>) -> bool
     }
 }
 
-fn compared(alloc: Global, relation: Relation, left: Term, right: Term) -> Result<Term, AllocError>
+fn compared(relation: Relation, left: Term, right: Term) -> Result<Term, AllocError>
     ensures { IfOk result (λ c. term_tree c ≡ rule.compared relation (term_tree left) (term_tree right)) }
 {
-    let (left, right) = boxed_pair(alloc, left, right)?;
     match relation {
-        Relation::Equal => Ok(Term::Binary(Operator::Same, left, right)),
-        Relation::NotEqual => Ok(Term::Binary(Operator::Differs, left, right)),
-        Relation::Less => Ok(Term::Binary(Operator::Less, left, right)),
-        Relation::AtMost => Ok(Term::Binary(Operator::AtMost, left, right)),
-        Relation::Greater => Ok(Term::Binary(Operator::Less, right, left)),
-        Relation::AtLeast => Ok(Term::Binary(Operator::AtMost, right, left)),
+        Relation::Equal => left.with(Link::Operator(Operator::Same, right)),
+        Relation::NotEqual => left.with(Link::Operator(Operator::Differs, right)),
+        Relation::Less => left.with(Link::Operator(Operator::Less, right)),
+        Relation::AtMost => left.with(Link::Operator(Operator::AtMost, right)),
+        Relation::Greater => right.with(Link::Operator(Operator::Less, left)),
+        Relation::AtLeast => right.with(Link::Operator(Operator::AtMost, left)),
     }
 }
 
 /// A comparison whose right operand stands at this place.
 pub(crate) fn end_compare<'a>(
-    alloc: Global,
     relation: Relation,
     left: Option<Typed<'a>>,
     right: Option<Typed<'a>>,
@@ -303,7 +307,7 @@ pub(crate) fn end_compare<'a>(
         drop(right);
         return Ok(None);
     }
-    let core = compared(alloc, relation, left.core, right.core)?;
+    let core = compared(relation, left.core, right.core)?;
     Ok(Some(Typed {
         core,
         shape: Shape::Truth,

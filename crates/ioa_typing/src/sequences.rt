@@ -16,7 +16,7 @@ use crate::shape::{Shape, fits, shape_of};
 use crate::typed::{Typed, note_unfit, note_unless_seq, placed};
 use ioa_trees::tree::Call;
 use std::alloc::{AllocError, Global};
-use terms::Term;
+use terms::{Operand, Term};
 
 fn called<'a>(
     alloc: Global,
@@ -32,21 +32,21 @@ fn called<'a>(
             let core = Box::new(alloc, core)?;
             let kind = item_shape(alloc, item)?;
             Ok(Typed {
-                core: Term::Head(core, kind),
+                core: Term::of(alloc, Operand::Head(core, kind)),
                 shape: shape_of(item),
             })
         }
         Call::Tail => {
-            let core = Term::Tail(Box::new(alloc, core)?);
+            let core = Box::new(alloc, core)?;
             Ok(Typed {
-                core,
+                core: Term::of(alloc, Operand::Tail(core)),
                 shape: Shape::Seq(item, most),
             })
         }
         Call::Len => {
-            let core = Term::Length(Box::new(alloc, core)?);
+            let core = Box::new(alloc, core)?;
             Ok(Typed {
-                core,
+                core: Term::of(alloc, Operand::Length(core)),
                 shape: Shape::Whole,
             })
         }
@@ -131,7 +131,7 @@ fn appended_to<'a>(
     };
     let (core, last) = boxed_pair(alloc, list.core, last)?;
     Ok(Some(Typed {
-        core: Term::Append(core, last, most as usize),
+        core: Term::of(alloc, Operand::Append(core, last, most as usize)),
         shape: list.shape,
     }))
 }
@@ -216,7 +216,7 @@ fn element<'a>(
     }
     let (core, index) = boxed_pair(alloc, of.core, index.core)?;
     Ok(Some(Typed {
-        core: Term::Index(core, index, listed_of(by)),
+        core: Term::of(alloc, Operand::Index(core, index, listed_of(by))),
         shape: shape_of(item),
     }))
 }

@@ -40,15 +40,16 @@ pub fn check_term<'a>(
     let at = progress.at;
     match term {
         Term::Number(number) => Ok(known(
+            alloc,
             progress,
             Scalar::Int(number.cast_signed()),
             Shape::Whole,
         )),
-        Term::True => Ok(known(progress, Scalar::Bool(true), Shape::Truth)),
-        Term::False => Ok(known(progress, Scalar::Bool(false), Shape::Truth)),
+        Term::True => Ok(known(alloc, progress, Scalar::Bool(true), Shape::Truth)),
+        Term::False => Ok(known(alloc, progress, Scalar::Bool(false), Shape::Truth)),
         Term::Name(name) => {
             progress.at += 1;
-            Ok(check_name(names, name.as_str(), at, progress))
+            Ok(check_name(alloc, names, name.as_str(), at, progress))
         }
         Term::Group(inner) => check_group(alloc, names, inner, progress),
         Term::Call(call, of) => check_call(alloc, names, *call, of, progress),
@@ -231,7 +232,7 @@ fn check_right<'a>(
     progress.at += 1;
     let place = progress.at;
     let right = check_term(alloc, names, right, progress)?;
-    let found = end_compare(alloc, relation, left, right, place, progress)?;
+    let found = end_compare(relation, left, right, place, progress)?;
     Ok(found)
 }
 
@@ -361,13 +362,13 @@ fn check_factor(
     match factor {
         Factor::Times(term) => {
             let right = check_term(alloc, names, term, progress)?;
-            let core = join_whole(alloc, Operator::Times, left, right, place, progress)?;
+            let core = join_whole(Operator::Times, left, right, place, progress)?;
             Ok(core)
         }
         Factor::Modulo(divisor) => {
             progress.at += 1;
             progress.note_if(*divisor == 0, place, FaultKind::WrongType);
-            let core = modulo_of(alloc, *divisor, left)?;
+            let core = modulo_of(*divisor, left)?;
             Ok(core)
         }
     }
@@ -392,14 +393,7 @@ fn check_addends(
         progress.at += 1;
         let place = progress.at;
         let right = check_term(alloc, names, &addend.term, progress)?;
-        core = join_whole(
-            alloc,
-            operator_of(addend.sign),
-            core,
-            right,
-            place,
-            progress,
-        )?;
+        core = join_whole(operator_of(addend.sign), core, right, place, progress)?;
     }
     Ok(core)
 }
@@ -424,7 +418,7 @@ fn check_truths(
         progress.at += 1;
         let place = progress.at;
         let right = check_term(alloc, names, other, progress)?;
-        core = join_truth(alloc, operator, core, right, place, progress)?;
+        core = join_truth(operator, core, right, place, progress)?;
     }
     Ok(core)
 }

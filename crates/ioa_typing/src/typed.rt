@@ -12,7 +12,7 @@ use crate::fault::FaultKind;
 use crate::progress::Progress;
 use crate::shape::{Shape, fits, is_seq, is_truth, is_whole};
 use std::alloc::{AllocError, Global};
-use terms::Term;
+use terms::{Operand, Term};
 
 /// A term without names, and its kind.
 #[derive(Drop)]
@@ -92,7 +92,10 @@ pub fn placed(alloc: Global, kind: Shape<'_>, core: Term) -> Result<Term, AllocE
     ensures { IfOk result (λ t. term_tree t ≡ rule.placed (shape_tree kind.entry) (term_tree core)) }
 {
     match kind {
-        Shape::Range(low, high) => Ok(Term::Nearest(Box::new(alloc, core)?, low, high)),
+        Shape::Range(low, high) => {
+            let core = Box::new(alloc, core)?;
+            Ok(Term::of(alloc, Operand::Nearest(core, low, high)))
+        }
         Shape::Truth => Ok(core),
         Shape::Whole => Ok(core),
         Shape::Enumeration(_, _) => Ok(core),

@@ -1,6 +1,7 @@
 pub mod Datum
 pub mod EffectTree
 pub mod Items
+pub mod Linked
 pub mod Meaning
 pub mod Nodes
 pub mod NodesFall
@@ -12,6 +13,6 @@ pub mod TermTree
 pub mod Turns
 pub mod Named
 pub mod Orders
-pub mod DerivedSame
 pub mod SameTrees
 pub mod SameTreeLaws
+pub mod DerivedSame

@@ -1,20 +1,22 @@
 -- Comparing trees tells exactly whether they are the same.
-use Rattle.std.specs.Prelude.{◌≡◌, ℕ, ℤ, Bool as Truth, true, false, ◌&&◌, nat_eq, refl}
+use Rattle.std.specs.Prelude.{◌≡◌, ◌+◌, ℕ, suc, ℤ, Bool as Truth, true, false, ◌&&◌, nat_eq, List, [], ◌∷◌, length, refl}
 use Rattle.std.specs.Bool.{Decides}
 use Rattle.std.specs.Ordering.{int_eq}
 use Rattle.std.specs.Cmp.{IsEquivalence}
-use Rattle.std.proofs.Common.{ap, sym, ◌∙◌, rules, arith, subst}
+use Rattle.std.proofs.Common.{ap, sym, ◌∙◌, rules, arith, subst, true≢false}
 use Rattle.std.proofs.lemmas.Grind.{common_steps}
 use Rattle.std.proofs.lemmas.Bool.Decides.{Decides-eqb, Decides-int_eq}
 use Rattle.terms.specs.Same.{scalar_is, scalar_refl}
-use Rattle.terms.specs.SameTrees.{same_shape, same_term, same_effect}
+use Rattle.terms.specs.SameTrees.{same_shape, same_term, same_link, same_links, spine, same_effect, same_part, same_parts, tail}
 use Rattle.terms.specs.ShapeTree.{ShapeTree}
 use Rattle.terms.specs.ShapeTree as shape
-use Rattle.terms.specs.TermTree.{TermTree}
+use Rattle.terms.specs.TermTree.{TermTree, LinkTree, linked, term_tree}
 use Rattle.terms.specs.TermTree as term
-use Rattle.terms.specs.EffectTree.{EffectTree}
+use Rattle.terms.specs.EffectTree.{EffectTree, PartTree, followed, ended, effect_tree}
 use Rattle.terms.specs.EffectTree as effect
 use Rattle.terms.specs.declared.scalar.Listed.{Listed}
+use Rattle.terms.specs.declared.term.Term.{Term}
+use Rattle.terms.specs.declared.effect.Effect.{Effect}
 use Rattle.terms.specs.declared.term.Operator.{Operator}
 use Rattle.terms.specs.contracts.scalar.ListedPartialEq.TheImpl as listed_eq
 use Rattle.terms.specs.contracts.term.OperatorPartialEq.TheImpl as operator_eq
@@ -216,6 +218,20 @@ module _ {A : Type 0} (same : A → A → Truth) (same_is : (a b : A) → same a
     congr = λ a b c h. ap (λ (x : A). same x c) (same_is a b h);
   }
 
+-- what decides equality of trees compares what stands for them too
+equivalence_over : {A B : Type 0} (tree : A → B) (same : B → B → Truth) → IsEquivalence same → IsEquivalence (λ (a b : A). same (tree a) (tree b))
+equivalence_over tree same laws = record {
+  refl = λ a. laws.refl (tree a);
+  symm = λ a b. laws.symm (tree a) (tree b);
+  congr = λ a b c h. laws.congr (tree a) (tree b) (tree c) h;
+}
+
+pub term_laws : IsEquivalence (λ (a b : Term). same_term (term_tree a) (term_tree b))
+term_laws = equivalence_over term_tree same_term (equivalence_by same_term term_is term_refl)
+
+pub effect_laws : IsEquivalence (λ (a b : Effect). same_effect (effect_tree a) (effect_tree b))
+effect_laws = equivalence_over effect_tree same_effect (equivalence_by same_effect effect_is effect_refl)
+
 pub term_decides : (a b : TermTree) → Decides (same_term a b) (a ≡ b)
 term_decides = decides_by same_term term_is term_refl
 
@@ -224,3 +240,98 @@ shape_decides = decides_by same_shape shape_is shape_refl
 
 pub effect_decides : (a b : EffectTree) → Decides (same_effect a b) (a ≡ b)
 effect_decides = decides_by same_effect effect_is effect_refl
+
+and_true : (a : Truth) → a ≡ a && true
+and_true true = refl
+and_true false = refl
+
+and_false : (a : Truth) → a && false ≡ false
+and_false true = refl
+and_false false = refl
+
+and_assoc : (a b c : Truth) → (a && b) && c ≡ a && (b && c)
+and_assoc true b c = refl
+and_assoc false b c = refl
+
+and_moved : (a b c d : Truth) → (a && (b && c)) && d ≡ b && ((a && c) && d)
+and_moved true b c d = and_assoc b c d
+and_moved false true c d = refl
+and_moved false false c d = refl
+
+and_fourth : (a b c d : Truth) → a && (b && (c && d)) ≡ ((a && b) && c) && d
+and_fourth true b c d = sym (and_assoc b c d)
+and_fourth false b c d = refl
+
+zero_suc : {n : ℕ} → 0 ≡ suc n → ⊥
+zero_suc h = omega (arith, h)
+
+pub not_true : (a : Truth) → (a ≡ true → ⊥) → a ≡ false
+not_true true h = absurd (h refl)
+not_true false h = refl
+
+both_false : (a b c : Truth) → a ≡ false → (b && c ≡ true → ⊥) → a ≡ b && c
+both_false a b c h k = h ∙ sym (not_true (b && c) k)
+
+spine_linked : (t : TermTree) (ls : List LinkTree) → spine (linked t ls) ≡ length ls + spine t
+spine_linked t [] = omega arith
+spine_linked t (term.On o b ∷ ls) = omega (arith, spine_linked (term.Binary o t b) ls)
+spine_linked t (term.Remainder k ∷ ls) = omega (arith, spine_linked (term.Modulo t k) ls)
+
+pub links_long : (ls ms : List LinkTree) → same_links ls ms ≡ true → length ls ≡ length ms
+links_long [] [] h = refl
+links_long [] (m ∷ ms) h = cc
+links_long (l ∷ ls) [] h = cc
+links_long (l ∷ ls) (m ∷ ms) h = ap suc (links_long ls ms (both_true (same_link l m) (same_links ls ms) h).1)
+
+-- terms with as many links are the same where they begin alike and go on alike
+as_long : (t u : TermTree) (ls ms : List LinkTree) → length ls ≡ length ms → same_term (linked t ls) (linked u ms) ≡ same_term t u && same_links ls ms
+as_long t u [] [] h = and_true (same_term t u)
+as_long t u [] (m ∷ ms) h = absurd (omega (arith, h))
+as_long t u (l ∷ ls) [] h = absurd (omega (arith, h))
+as_long t u (term.On o b ∷ ls) (term.On p d ∷ ms) h =
+    as_long (term.Binary o t b) (term.Binary p u d) ls ms (omega (arith, h))
+    ∙ and_moved (operator_eq.ghosts.eq o p) (same_term t u) (same_term b d) (same_links ls ms)
+as_long t u (term.On o b ∷ ls) (term.Remainder l ∷ ms) h =
+    as_long (term.Binary o t b) (term.Modulo u l) ls ms (omega (arith, h)) ∙ sym (and_false (same_term t u))
+as_long t u (term.Remainder k ∷ ls) (term.On p d ∷ ms) h =
+    as_long (term.Modulo t k) (term.Binary p u d) ls ms (omega (arith, h)) ∙ sym (and_false (same_term t u))
+as_long t u (term.Remainder k ∷ ls) (term.Remainder l ∷ ms) h =
+    as_long (term.Modulo t k) (term.Modulo u l) ls ms (omega (arith, h)) ∙ and_assoc (same_term t u) (int_eq k l) (same_links ls ms)
+
+-- terms that begin with operands are the same where they begin alike and go on alike
+pub linked_same : (t u : TermTree) → spine t ≡ 0 → spine u ≡ 0 → (ls ms : List LinkTree) → same_term (linked t ls) (linked u ms) ≡ same_term t u && same_links ls ms
+linked_same t u h k ls ms = go (nat_eq (length ls) (length ms)) refl where
+  go : (b : Truth) → nat_eq (length ls) (length ms) ≡ b → same_term (linked t ls) (linked u ms) ≡ same_term t u && same_links ls ms
+  go true e = as_long t u ls ms (number_is (length ls) (length ms) e)
+  go false e =
+      let apart : length ls ≡ length ms → ⊥ = λ f. true≢false (sym (subst (λ n. nat_eq (length ls) n ≡ true) f (number_refl (length ls))) ∙ e) in
+      both_false (same_term (linked t ls) (linked u ms)) (same_term t u) (same_links ls ms)
+      (not_true (same_term (linked t ls) (linked u ms)) (λ s. apart (omega (arith, ap spine (term_is (linked t ls) (linked u ms) s), spine_linked t ls, spine_linked u ms, h, k))))
+      (λ s. apart (links_long ls ms (both_true (same_term t u) (same_links ls ms) s).1))
+
+x_apart : (x : EffectTree) (p : PartTree) (rest : EffectTree) → tail x ≡ 0 → same_effect x (followed p rest) ≡ false
+x_apart x (effect.Before e) rest h = not_true (same_effect x (effect.Then e rest)) (λ s. zero_suc (sym h ∙ ap tail (effect_is x (effect.Then e rest) s)))
+x_apart x (effect.Branch t e) rest h = not_true (same_effect x (effect.If t e rest)) (λ s. zero_suc (sym h ∙ ap tail (effect_is x (effect.If t e rest) s)))
+
+apart_x : (x : EffectTree) (p : PartTree) (rest : EffectTree) → tail x ≡ 0 → same_effect (followed p rest) x ≡ false
+apart_x x (effect.Before e) rest h = not_true (same_effect (effect.Then e rest) x) (λ s. zero_suc (sym h ∙ ap tail (sym (effect_is (effect.Then e rest) x s))))
+apart_x x (effect.Branch t e) rest h = not_true (same_effect (effect.If t e rest) x) (λ s. zero_suc (sym h ∙ ap tail (sym (effect_is (effect.If t e rest) x s))))
+
+-- effects that end with what has no parts are the same where their parts and their ends are
+pub ended_same : (ps qs : List PartTree) (x y : EffectTree) → tail x ≡ 0 → tail y ≡ 0 → same_effect (ended ps x) (ended qs y) ≡ same_parts ps qs && same_effect x y
+ended_same [] [] x y h k = refl
+ended_same [] (q ∷ qs) x y h k = x_apart x q (ended qs y) h
+ended_same (p ∷ ps) [] x y h k = apart_x y p (ended ps x) k
+ended_same (effect.Before e ∷ ps) (effect.Before f ∷ qs) x y h k =
+    ap (λ b. same_effect e f && b) (ended_same ps qs x y h k) ∙ sym (and_assoc (same_effect e f) (same_parts ps qs) (same_effect x y))
+ended_same (effect.Before e ∷ ps) (effect.Branch u f ∷ qs) x y h k = refl
+ended_same (effect.Branch t e ∷ ps) (effect.Before f ∷ qs) x y h k = refl
+ended_same (effect.Branch t e ∷ ps) (effect.Branch u f ∷ qs) x y h k =
+    ap (λ b. same_term t u && (same_effect e f && b)) (ended_same ps qs x y h k)
+    ∙ and_fourth (same_term t u) (same_effect e f) (same_parts ps qs) (same_effect x y)
+
+pub parts_long : (ps qs : List PartTree) → same_parts ps qs ≡ true → length ps ≡ length qs
+parts_long [] [] h = refl
+parts_long [] (q ∷ qs) h = cc
+parts_long (p ∷ ps) [] h = cc
+parts_long (p ∷ ps) (q ∷ qs) h = ap suc (parts_long ps qs (both_true (same_part p q) (same_parts ps qs) h).1)

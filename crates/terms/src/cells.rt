@@ -1,6 +1,6 @@
 //! What terms are evaluated in: a state, and the values of formals, parameters and loop variables.
 ghost use Rattle.std.specs.Prelude.{◌≡◌, OnOk, OnErr, List, slice_get, slice_set, option_copied};
-ghost use Rattle.terms.specs.Datum.{Datum};
+ghost use Rattle.terms.specs.Datum.{Datum, Just};
 ghost use Rattle.terms.specs.Shapes.{set_item};
 
 use crate::refusal::NoMemory;
@@ -22,6 +22,12 @@ pub trait Cells {
     /// Puts a value into a cell; nothing changes where there is no such cell. A refused call changes nothing.
     fn set(&mut self, cell: usize, value: Value) -> Result<(), NoMemory>
         ensures ok { OnOk result (values self.new ≡ slice_set (values self.old) cell value) }
+        ensures err { OnErr result (values self.new ≡ values self.old) }
+        ensures marked { marked self.new ≡ marked self.old };
+
+    /// Puts a scalar into a cell, as [`set`](Cells::set) puts a value.
+    fn set_scalar(&mut self, cell: usize, scalar: Scalar) -> Result<(), NoMemory>
+        ensures ok { OnOk result (values self.new ≡ slice_set (values self.old) cell (Just scalar)) }
         ensures err { OnErr result (values self.new ≡ values self.old) }
         ensures marked { marked self.new ≡ marked self.old };
 

@@ -14,13 +14,13 @@ pub fn equal_shapes_law(a: &Shape, b: &Shape)
 {}
 
 /// Two terms are equal exactly where they are the same tree.
-#[tactic(auto, using(crate::specs::DerivedSame::equal_terms))]
+#[tactic(auto, using(crate::specs::SameTreeLaws::term_decides))]
 pub fn equal_terms_law(a: &Term, b: &Term)
     ensures { Decides (⟦<Term as PartialEq>⟧.eq a.now b.now) (term_tree a.now ≡ term_tree b.now) }
 {}
 
 /// Two effects are equal exactly where they are the same tree.
-#[tactic(auto, using(crate::specs::DerivedSame::equal_effects))]
+#[tactic(auto, using(crate::specs::SameTreeLaws::effect_decides))]
 pub fn equal_effects_law(a: &Effect, b: &Effect)
     ensures { Decides (⟦<Effect as PartialEq>⟧.eq a.now b.now) (effect_tree a.now ≡ effect_tree b.now) }
 {}

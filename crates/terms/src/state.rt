@@ -1,13 +1,15 @@
 //! A state as a plain list of values.
 ghost use Rattle.std.specs.Prelude.{◌≡◌, [], IsOk, slice_set};
+ghost use Rattle.terms.specs.Datum.{Just};
 ghost use Rattle.terms.specs.Shapes.{set_item};
 
 use crate::cells::Cells;
 use crate::refusal::NoMemory;
+use crate::scalar::Scalar;
 use crate::value::Value;
 use std::marker::Model;
 
-/// A state as a plain list of values. Its `set` and `set_at` take no memory and are never refused.
+/// A state as a plain list of values. Its `set`, `set_scalar` and `set_at` take no memory and are never refused.
 #[derive(Drop)]
 pub struct State {
     values: Vec<Value>,
@@ -57,6 +59,16 @@ impl Cells for State {
     {
         if cell < self.values.len() {
             self.values[cell] = value;
+        }
+        Ok(())
+    }
+
+    fn set_scalar(&mut self, cell: usize, scalar: Scalar) -> Result<(), NoMemory>
+        ensures done { IsOk result }
+        ensures value { self.new ≡ slice_set self.old cell (Just scalar) }
+    {
+        if cell < self.values.len() {
+            self.values[cell].put_scalar(scalar);
         }
         Ok(())
     }

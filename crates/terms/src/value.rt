@@ -1,5 +1,5 @@
 //! Values.
-ghost use Rattle.std.specs.Prelude.{◌≡◌, if◌then◌else◌, IfOk, slice_get, slice_set};
+ghost use Rattle.std.specs.Prelude.{◌≡◌, if◌then◌else◌, IfOk, IfSome, slice_get, slice_set};
 ghost use lib.Pointwise.{pointwise};
 ghost use Rattle.std.specs.Cmp.{partial_equiv_from_equiv};
 ghost use Rattle.terms.specs.Datum.{Just, pack, items_of, scalar_of};
@@ -87,6 +87,30 @@ impl Value {
             Node::Scalar(scalar) => *scalar,
             Node::Items(_) => Scalar::Int(0),
         }
+    }
+
+    /// The scalar that it is; `None` where it is a sequence or an array.
+    pub fn as_scalar(&self) -> Option<Scalar>
+        ensures some { IfSome result (λ scalar. self.now ≡ Just scalar) }
+    {
+        match &self.node {
+            Node::Scalar(scalar) => Some(*scalar),
+            Node::Items(_) => None,
+        }
+    }
+
+    /// Makes it this scalar.
+    pub fn put_scalar(&mut self, scalar: Scalar)
+        ensures { self.new ≡ Just scalar }
+    {
+        match &mut self.node {
+            Node::Scalar(old) => {
+                *old = scalar;
+                return;
+            }
+            Node::Items(_) => {}
+        }
+        self.node = Node::Scalar(scalar);
     }
 
     /// The items of a sequence or an array; none where it is a scalar.
@@ -179,12 +203,15 @@ fn is_same(a: &Value, b: &Value) -> bool
 fn are_same(a: &[Value], b: &[Value]) -> bool
     ensures { result ≡ pointwise same a.now b.now }
 {
-    match (a.split_first(), b.split_first()) {
-        (None, None) => true,
-        (Some((x, xs)), Some((y, ys))) => is_same(x, y) && are_same(xs, ys),
-        (None, Some(_)) => false,
-        (Some(_), None) => false,
+    let (mut xs, mut ys) = (a, b);
+    while let (Some((x, others)), Some((y, rest))) = (xs.split_first(), ys.split_first()) {
+        if !is_same(x, y) {
+            return false;
+        }
+        xs = others;
+        ys = rest;
     }
+    xs.is_empty() && ys.is_empty()
 }
 
 /// A value of one's own that is the same.

@@ -1,6 +1,7 @@
 //! A state with marks.
-ghost use Rattle.std.specs.Prelude.{◌≡◌, ◌<◌, ◌+◌, [], IfOk, IfErr, OnOk, OnErr, length, map, slice_set};
-ghost use Rattle.undo_records.specs.Changes.{restored, unwound, IsNoted, changes_in};
+ghost use Rattle.std.specs.Prelude.{◌≡◌, ◌<◌, ◌+◌, [], IfOk, IfErr, OnOk, OnErr, List, true, length, map, slice_set, take};
+ghost use Rattle.undo_records.specs.Changes.{restored, unwound, IsNoted, changes_in, states_below};
+ghost use Rattle.terms.specs.Datum.{Datum, Just};
 ghost use Rattle.terms.specs.Shapes.{set_item};
 
 use crate::change::Change;
@@ -9,7 +10,7 @@ use std::alloc::Global;
 use std::collections::VecDeque;
 use std::marker::Model;
 use std::mem;
-use terms::{Cells, NoMemory, State, Value};
+use terms::{Cells, NoMemory, Scalar, State, Value};
 
 /// A nonempty list of whole states, the last one current. Kept are the current state and, since each mark, what the
 /// writes replaced, so that no state is copied; a loop that writes few places keeps few records, however often it writes them.
@@ -18,6 +19,8 @@ pub struct Store {
     current: Vec<Value>,
     // The newest mark first.
     marks: VecDeque<Vec<Change>>,
+    // Room for the changes of the next mark: what an earlier one needed.
+    spare: Vec<Change>,
 }
 
 impl Model for Store {
@@ -44,15 +47,19 @@ impl Store {
         Ok(Store {
             current: state.into_values(),
             marks: VecDeque::new(alloc),
+            spare: Vec::new(alloc),
         })
     }
 
-    /// Repeats the current state: what is written from now on can be undone.
+    /// Repeats the current state: what is written from now on can be undone. The room of a mark that was forgotten or undone
+    /// serves again.
     pub fn mark(&mut self, alloc: Global) -> Result<(), NoMemory>
         ensures ok { OnOk result (self.new ≡ marked self.old) }
         ensures err { OnErr result (self.new ≡ self.old) }
     {
-        self.marks.push_front(Vec::new(alloc))?;
+        let mut room = mem::replace(&mut self.spare, Vec::new(alloc));
+        room.clear();
+        self.marks.push_front(room)?;
         Ok(())
     }
 
@@ -64,7 +71,8 @@ impl Store {
         match self.marks.pop_front() {
             None => false,
             Some(changes) => {
-                put_back(&mut self.current, changes);
+                let room = put_back(&mut self.current, changes);
+                keep_room(&mut self.spare, room);
                 true
             }
         }
@@ -83,7 +91,7 @@ impl Store {
         ensures { self.new ≡ without_first count self.old }
     {
         let left = self.marks.len() - count;
-        self.marks.truncate(left);
+        keep_newest(&mut self.marks, &mut self.spare, left);
     }
 
     /// Whether the first states of two stores are equal. Takes no memory.
@@ -132,6 +140,20 @@ impl Cells for Store {
         keep(&mut self.current, &mut self.marks, Change::Cell(cell, old))
     }
 
+    fn set_scalar(&mut self, cell: usize, scalar: Scalar) -> Result<(), NoMemory>
+        ensures ok { OnOk result (self.new ≡ record self.old { current = slice_set self.old.current cell (Just scalar) }) }
+        ensures err { OnErr result (self.new ≡ self.old) }
+    {
+        if cell >= self.current.len() {
+            return Ok(());
+        }
+        if is_kept(&self.marks, &Change::Cell(cell, Value::of_scalar(scalar))) {
+            self.current[cell].put_scalar(scalar);
+            return Ok(());
+        }
+        self.set(cell, Value::of_scalar(scalar))
+    }
+
     fn set_at(&mut self, cell: usize, index: usize, value: Value) -> Result<(), NoMemory>
         ensures ok { OnOk result (self.new ≡ record self.old { current = set_item cell index value self.old.current }) }
         ensures err { OnErr result (self.new ≡ self.old) }
@@ -147,6 +169,18 @@ impl Cells for Store {
                 Change::Item(cell, index, old),
             ),
         }
+    }
+}
+
+// Whether going back needs nothing of what such a write replaces.
+fn is_kept(marks: &VecDeque<Vec<Change>>, change: &Change) -> bool
+    ensures { result ≡ true → (state : List Datum) →
+        states_below (map changes_in marks.now.items) (restored change.now state)
+        ≡ states_below (map changes_in marks.now.items) state }
+{
+    match marks.front() {
+        None => true,
+        Some(changes) => change.is_covered(changes.as_slice()),
     }
 }
 
@@ -205,12 +239,37 @@ fn put_one_back(current: &mut Vec<Value>, change: Change)
     }
 }
 
-// Puts back what several writes replaced, the last one first.
+// Puts back what several writes replaced, the last one first. The answer is the emptied list.
 #[tactic(auto, using(crate::specs::Changes::unwound_more))]
-fn put_back(current: &mut Vec<Value>, mut changes: Vec<Change>)
-    ensures { current.new.items ≡ unwound changes.items current.old.items }
+fn put_back(current: &mut Vec<Value>, mut changes: Vec<Change>) -> Vec<Change>
+    ensures back { current.new.items ≡ unwound changes.items current.old.items }
+    ensures emptied { result.items ≡ [] }
 {
     while let Some(change) = changes.pop() {
         put_one_back(current, change);
     }
+    changes
+}
+
+// Drops what was written since all marks but the newest ones, as many as `left`.
+fn keep_newest(marks: &mut VecDeque<Vec<Change>>, spare: &mut Vec<Change>, left: usize)
+    ensures { marks.new.items ≡ take left marks.old.items }
+{
+    if marks.len() <= left {
+        return;
+    }
+    let Some(oldest) = marks.pop_back() else {
+        return;
+    };
+    keep_room(spare, oldest);
+    marks.truncate(left);
+}
+
+// Drops changes, and keeps their room for the next mark.
+fn keep_room(spare: &mut Vec<Change>, mut changes: Vec<Change>)
+    ensures { spare.new.items ≡ [] }
+{
+    changes.clear();
+    let old = mem::replace(spare, changes);
+    drop(old);
 }

@@ -39,12 +39,12 @@ use Rattle.std.proofs.collections.VecDeque.TheSendSync as vec_deque
 use Rattle.std.proofs.option.Option.TheSendSync as option
 use Rattle.std.proofs.sync.Arc.TheSendSync as arc
 use Rattle.std.proofs.vec.Vec.TheSendSync as vec
-use Rattle.terms.proofs.effect.Effect.TheLaws.TheKnot as effect
+use Rattle.terms.proofs.effect.Last.TheLaws.TheKnot as effect
 use Rattle.terms.proofs.scalar.Listed.TheSendSync as listed
 use Rattle.terms.proofs.scalar.Scalar.TheSendSync as scalar
 use Rattle.terms.proofs.scalar.Shape.TheLaws.TheKnot as shape
 use Rattle.terms.proofs.term.Operator.TheSendSync as operator
-use Rattle.terms.proofs.term.Term.TheLaws.TheKnot as term
+use Rattle.terms.proofs.term.Link.TheLaws.TheKnot as term
 use Rattle.terms.proofs.value.Value.TheLaws.TheKnot as value
 
 module _ (T : RattleType) where

@@ -14,5 +14,5 @@ returns c =
     let marks = c.self.inside.marks.items in
     let current = c.self.inside.current.items in
     let how : c.len.result - c.args.count ≡ length (states_below (map changes_in marks) current) - c.args.count = ap (λ n. n - c.args.count) (c.len.ensures ∙ c.self.inside.marks.ok.0 ∙ sym (marks_counted changes_in marks current)) in
-    (λ i. record { current = current; below = forgotten changes_in marks c.truncate.new.self.items current (c.len.result - c.args.count) c.args.count c.truncate.ensures.items how i })
+    (λ i. record { current = current; below = forgotten changes_in marks c.keep_newest.new.marks.items current (c.len.result - c.args.count) c.args.count c.keep_newest.ensures how i })
     ∙ ap (without_first c.args.count) c.self.view_is
