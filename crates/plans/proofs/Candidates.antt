@@ -1,24 +1,25 @@
 -- Whoever takes an action is a candidate, and so the candidates that take it are the receivers.
-use Rattle.std.specs.Prelude.{◌≡◌, ℕ, zero, suc, ◌+◌, ◌<◌, ◌≤◌, ◌==◌, nat_lt, Bool as Truth, true, false, not, ◌&&◌, ◌||◌, cond, List, [], ◌∷◌, filter, length, All, Contains, refl, slice_index_or}
+use Rattle.std.specs.Prelude.{◌≡◌, ℕ, zero, suc, ◌+◌, ◌<◌, ◌≤◌, ◌==◌, nat_lt, Bool as Truth, true, false, not, ◌&&◌, ◌||◌, cond, List, [], ◌∷◌, filter, length, All, Contains, refl, slice_index_or, Option, None, Some, IfSome, is_some, if◌then◌else◌}
 use Rattle.std.specs.List.{list_any, slice_index}
 use Rattle.std.specs.List.Sorted.{IsStrictlyIncreasing}
 use Rattle.std.proofs.Common.{arith, ap, sym, subst, ◌∙◌}
 use Rattle.std.proofs.lemmas.Bool.{ltb-true, ltb-false}
 use Rattle.std.proofs.lemmas.Bool.Decides.{nat_tests}
-use Rattle.std.proofs.lemmas.List.Elements.{All-head, All-tail}
+use Rattle.std.proofs.lemmas.List.Elements.{All-head, All-tail, filter_agree}
 use Rattle.std.proofs.lemmas.List.Kept.{IsStrictlyIncreasing-filter}
 use Rattle.terms.specs.Named.{Named}
 use Rattle.terms.specs.Meaning.{slot}
 use Rattle.terms.specs.Same.{scalar_is}
 use Rattle.terms.specs.SameTreeLaws.{both_true}
 use Rattle.terms.specs.declared.scalar.Scalar.{Scalar}
-use Rattle.plans.specs.declared.automaton.Kind.TheVariants.{Input}
+use Rattle.plans.specs.declared.automaton.Kind.{Kind}
+use Rattle.plans.specs.declared.automaton.Kind.TheVariants.{Input, Output, Internal}
 use Rattle.plans.specs.declared.automaton.Param.{Param}
 use Rattle.plans.specs.declared.automaton.Param.TheVariants.{Const, Member, Between, Whole}
 use Rattle.plans.specs.Automata.{Transition, Instance, component_at}
-use Rattle.plans.specs.Signatures.{fits_one, fits, has, has_as, same_kind, inputs, receives, receivers_of}
-use Rattle.plans.specs.Receivers.{Rising, IsIn, receivers_rise, receivers_all}
-use Rattle.plans.specs.Patterns.{Kept, fixed_as, fixes, mask_of, asked, values_of, shown, masked, masks_in, IsListed, IsNoted, IsIndexed}
+use Rattle.plans.specs.Signatures.{fits_one, fits, has, has_as, same_kind, any_as, inputs, outputs, internals, acts, kind_of, receives, receivers_of, takers_of}
+use Rattle.plans.specs.Receivers.{Rising, IsIn, receivers_rise, receivers_all, takers_rise, takers_all}
+use Rattle.plans.specs.Patterns.{Kept, fixed_as, fixes, mask_of, asked, values_of, shown, masked, masks_in, IsListed, IsNoted, is_for, IsIndexed}
 
 same_from : (m n : ℕ) → (m == n) ≡ true → m ≡ n
 same_from m n h = grind (arith, nat_tests)
@@ -50,26 +51,38 @@ masked_is formals (param ∷ params) (value ∷ args) h =
 abbrev pub HasListed : Kept → List ℕ → Named → Type 0
 HasListed index found action = (mask : List Truth) (j : ℕ) → Contains (masks_in index.masks action.name) mask → IsListed index.numbers action.name (masked mask action.args) j → Contains found j
 
-module _ (index : Kept) (found : List ℕ) (action : Named) (all : HasListed index found action) (formals : List Scalar) (j : ℕ) where
-  by_entry : (entry : Transition) → (same_kind Input entry.kind ≡ true → IsNoted index formals j entry) → has_as Input formals action entry ≡ true → Contains found j
+module _ (every : Truth) (index : Kept) (found : List ℕ) (action : Named) (all : HasListed index found action) (formals : List Scalar) (j : ℕ) (kind : Kind) (covers : (other : Kind) → same_kind kind other ≡ true → is_for every other ≡ true) where
+  by_entry : (entry : Transition) → (is_for every entry.kind ≡ true → IsNoted index formals j entry) → has_as kind formals action entry ≡ true → Contains found j
   by_entry entry noted h =
-      let kinds = both_true (same_kind Input entry.kind) (has formals action entry) h in
+      let kinds = both_true (same_kind kind entry.kind) (has formals action entry) h in
       let parts = both_true (entry.name == action.name) (fits formals entry.params action.args) kinds.1 in
       let name : entry.name ≡ action.name = same_from entry.name action.name parts.0 in
       let values = masked_is formals entry.params action.args parts.1 in
-      let there = noted kinds.0 in
+      let there = noted (covers entry.kind kinds.0) in
       all (mask_of entry.params) j (subst (λ n. Contains (masks_in index.masks n) (mask_of entry.params)) name there.mask)
       (subst (λ vs. IsListed index.numbers action.name vs j) (sym values) (subst (λ n. IsListed index.numbers n (values_of formals entry.params) j) name there.number))
 
-  by_entries : (entries : List Transition) → All (λ entry. same_kind Input entry.kind ≡ true → IsNoted index formals j entry) entries → list_any (has_as Input formals action) entries ≡ true → Contains found j
+  by_entries : (entries : List Transition) → All (λ entry. is_for every entry.kind ≡ true → IsNoted index formals j entry) entries → list_any (has_as kind formals action) entries ≡ true → Contains found j
   by_entries [] noted h = cc
-  by_entries (entry ∷ entries) noted h = go (λ g. by_entries entries (All-tail (λ e. same_kind Input e.kind ≡ true → IsNoted index formals j e) entry entries noted) g) (has_as Input formals action entry) refl h where
-    go : (list_any (has_as Input formals action) entries ≡ true → Contains found j) → (b : Truth) → has_as Input formals action entry ≡ b → (b || list_any (has_as Input formals action) entries) ≡ true → Contains found j
-    go rest true here g = by_entry entry (All-head (λ e. same_kind Input e.kind ≡ true → IsNoted index formals j e) entry entries noted) here
+  by_entries (entry ∷ entries) noted h = go (λ g. by_entries entries (All-tail (λ e. is_for every e.kind ≡ true → IsNoted index formals j e) entry entries noted) g) (has_as kind formals action entry) refl h where
+    go : (list_any (has_as kind formals action) entries ≡ true → Contains found j) → (b : Truth) → has_as kind formals action entry ≡ b → (b || list_any (has_as kind formals action) entries) ≡ true → Contains found j
+    go rest true here g = by_entry entry (All-head (λ e. is_for every e.kind ≡ true → IsNoted index formals j e) entry entries noted) here
     go rest false here g = rest g
 
-pub taker_found : (index : Kept) (composition : List Instance) (found : List ℕ) (action : Named) → IsIndexed index composition → HasListed index found action → (j : ℕ) → inputs composition j action ≡ true → Contains found j
-taker_found index composition found action indexed all j h = by_entries index found action all (component_at composition j).formals j (component_at composition j).entries (indexed j) h
+pub taker_found : (index : Kept) (composition : List Instance) (found : List ℕ) (action : Named) → IsIndexed false index composition → HasListed index found action → (j : ℕ) → inputs composition j action ≡ true → Contains found j
+taker_found index composition found action indexed all j h = by_entries false index found action all (component_at composition j).formals j Input (λ other same. same) (component_at composition j).entries (indexed j) h
+
+-- whoever has an action is found where every entry is noted
+pub actor_found : (index : Kept) (composition : List Instance) (found : List ℕ) (action : Named) → IsIndexed true index composition → HasListed index found action → (j : ℕ) → acts composition j action ≡ true → Contains found j
+actor_found index composition found action indexed all j h = go (inputs composition j action) (outputs composition j action) (internals composition j action) refl refl refl h where
+  by_kind : (kind : Kind) → any_as kind (component_at composition j) action ≡ true → Contains found j
+  by_kind kind g = by_entries true index found action all (component_at composition j).formals j kind (λ other same. refl) (component_at composition j).entries (indexed j) g
+
+  go : (a b c : Truth) → inputs composition j action ≡ a → outputs composition j action ≡ b → internals composition j action ≡ c → (a || b || c) ≡ true → Contains found j
+  go true b c is_a is_b is_c g = by_kind Input is_a
+  go false true c is_a is_b is_c g = by_kind Output is_b
+  go false false true is_a is_b is_c g = by_kind Internal is_c
+  go false false false is_a is_b is_c g = cc
 
 rising_from : (a : ℕ) (xs : List ℕ) → IsStrictlyIncreasing xs → ((y : ℕ) (ys : List ℕ) → xs ≡ y ∷ ys → a ≤ y) → Rising a xs
 rising_from a [] rise least = tt
@@ -161,3 +174,32 @@ receivers_among composition action sender found rise all =
             let there = all j takes.1 in
             ap (λ b. test j && b) (is_in_at found j there.0 there.1 there.2) ∙ ap (λ b. b && true) h ∙ sym h
         go false h = ap (λ b. b && IsIn j found) h ∙ sym h
+
+has_kind : (composition : List Instance) (action : Named) (j : ℕ) → is_some (kind_of composition j action) ≡ acts composition j action
+has_kind composition action j = go (inputs composition j action) (outputs composition j action) (internals composition j action) where
+  go : (input output internal : Truth) → is_some (if input then Some Input else if output then Some Output else if internal then Some Internal else None) ≡ (input || output || internal)
+  go true output internal = refl
+  go false true internal = refl
+  go false false true = refl
+  go false false false = refl
+
+-- the candidates that have an action are all that have it
+pub takers_among : (composition : List Instance) (action : Named) (found : List ℕ) → IsStrictlyIncreasing found → ((j : ℕ) → acts composition j action ≡ true → Contains found j) → filter (λ j. is_some (kind_of composition j action)) found ≡ takers_of composition action
+takers_among composition action found rise all =
+    filter_agree (λ j. is_some (kind_of composition j action)) test (has_kind composition action) found
+    ∙ rising_same 0 (filter test found) (takers_of composition action) (rising_from 0 (filter test found) (IsStrictlyIncreasing-filter test found rise) (λ y ys is. omega arith)) (takers_rise composition action) alike where
+      test : ℕ → Truth
+      test j = acts composition j action
+
+      alike : (j : ℕ) → IsIn j (filter test found) ≡ IsIn j (takers_of composition action)
+      alike j = in_filter test j found ∙ go (test j) refl ∙ sym (takers_all composition action j) where
+        go : (b : Truth) → test j ≡ b → (test j && IsIn j found) ≡ test j
+        go true h =
+            let there = all j h in
+            ap (λ b. test j && b) (is_in_at found j there.0 there.1 there.2) ∙ ap (λ b. b && true) h ∙ sym h
+        go false h = ap (λ b. b && IsIn j found) h ∙ sym h
+
+-- what follows of a value, if there is one, from two facts of it
+pub if_both : {X : Type 0} (value : Option X) (P Q R : X → Type 0) → IfSome value P → IfSome value Q → ((x : X) → P x → Q x → R x) → IfSome value R
+if_both None P Q R first second both = first
+if_both (Some x) P Q R first second both = both x first second

@@ -1,3 +1,6 @@
+mod Among
 mod Candidates
+mod Chosen
 mod Noted
 mod Pairs
+mod Placed

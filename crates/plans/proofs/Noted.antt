@@ -13,17 +13,15 @@ use lib.Pointwise.{pointwise, pointwise_decides}
 use Rattle.std.specs.Bool.{beq}
 use Rattle.terms.specs.SameTreeLaws.{decides_by, both_by, number_is, number_refl}
 use Rattle.terms.specs.declared.scalar.Scalar.{Scalar}
-use Rattle.plans.specs.declared.automaton.Kind.TheVariants.{Input}
 use Rattle.plans.specs.declared.automaton.Entry.{Entry}
 use Rattle.plans.specs.declared.automaton.Automaton.{Automaton}
 use Rattle.plans.specs.declared.automaton.Component.{Component}
 use Rattle.plans.specs.Automata.{Transition, Instance, absent, component_at, composed, instance_of, placed, transition_of}
-use Rattle.plans.specs.Signatures.{same_kind}
 use Rattle.plans.specs.declared.index.Fixed.{Fixed}
 use Rattle.plans.specs.declared.index.Pattern.{Pattern}
 use Rattle.plans.specs.contracts.index.FixedPartialEq.TheImpl as fixed_eq
 use Rattle.plans.specs.contracts.index.PatternPartialEq.TheImpl as pattern_eq
-use Rattle.plans.specs.Patterns.{Kept, items_or_none, under, flags_of, mask_of, values_of, masked, IsListed, Keeps, IsNoted, HasInputs, IsIndexed}
+use Rattle.plans.specs.Patterns.{Kept, items_or_none, under, flags_of, mask_of, values_of, masked, IsListed, Keeps, IsNoted, is_for, HasEntries, IsIndexed}
 
 module _ {K X A : Type 0} (eq : K → K → Truth) (laws : IsEquivalence eq) where
   same_under : (table : List (K × Vec X A)) (a b : K) → eq a b ≡ true → under eq table a ≡ under eq table b
@@ -106,21 +104,6 @@ keeps_both a b c first then = record { masks = λ name mask has. then.masks name
 pub noted_still : (old new : Kept) (formals : List Scalar) (j : ℕ) (entry : Transition) → Keeps old new → IsNoted old formals j entry → IsNoted new formals j entry
 noted_still old new formals j entry kept noted = record { mask = kept.masks entry.name (mask_of entry.params) noted.mask; number = kept.numbers entry.name j (values_of formals entry.params) noted.number }
 
-pub inputs_still : (old new : Kept) (j : ℕ) (component : Instance) → Keeps old new → HasInputs old j component → HasInputs new j component
-inputs_still old new j component kept has =
-    All-weaker (λ entry. same_kind Input entry.kind ≡ true → IsNoted old component.formals j entry) (λ entry. same_kind Input entry.kind ≡ true → IsNoted new component.formals j entry)
-    (λ entry noted input. noted_still old new component.formals j entry kept (noted input)) component.entries has
-
-abbrev pub Passed : Kept → List Scalar → ℕ → List Entry → Type 0
-Passed index formals j entries = All (λ entry. same_kind Input entry.kind ≡ true → IsNoted index formals j (transition_of entry)) entries
-
--- one more entry is noted
-pub passed_more : (old new : Kept) (formals : List Scalar) (j : ℕ) (entries : List Entry) (i : ℕ) (d : Entry) → i < length entries → Keeps old new → Passed old formals j (take i entries) → (same_kind Input (get_or entries i d).kind ≡ true → IsNoted new formals j (transition_of (get_or entries i d))) → Passed new formals j (take (i + 1) entries)
-passed_more old new formals j entries i d below kept passed here =
-    let P : Entry → Type 0 = λ entry. same_kind Input entry.kind ≡ true → IsNoted new formals j (transition_of entry) in
-    All-more P entries i d below
-    (All-weaker (λ entry. same_kind Input entry.kind ≡ true → IsNoted old formals j (transition_of entry)) P (λ entry noted input. noted_still old new formals j (transition_of entry) kept (noted input)) (take i entries) passed) here
-
 pub found_there : {X : Type 0} (xs : List X) (n : ℕ) (x : X) → n < length xs → x ≡ get_or xs n x → slice_get xs n ≡ Some x
 found_there [] n x below is = absurd (omega (arith, below))
 found_there (y ∷ ys) zero x below is = ap Some (sym is)
@@ -130,17 +113,6 @@ pub none_there : {X : Type 0} (xs : List X) (n : ℕ) → length xs ≤ n → sl
 none_there [] n past = refl
 none_there (y ∷ ys) zero past = absurd (omega (arith, past))
 none_there (y ∷ ys) (suc n) past = none_there ys n (omega (arith, past))
-
--- an automaton's entries, each of which is noted, are those of the component
-pub instance_noted : (index : Kept) (automata : List Automaton) (component : Component) (automaton : Automaton) (j : ℕ) → slice_get automata component.automaton ≡ Some automaton → Passed index component.formals.items j automaton.entries.items → HasInputs index j (instance_of automata component)
-instance_noted index automata component automaton j there passed =
-    subst (λ found. HasInputs index j (placed component.formals.items found)) (sym there)
-    (All-map (λ entry. same_kind Input entry.kind ≡ true → IsNoted index component.formals.items j entry) transition_of automaton.entries.items passed)
-
-pub none_noted : (index : Kept) (automata : List Automaton) (component : Component) (j : ℕ) → slice_get automata component.automaton ≡ None → HasInputs index j (instance_of automata component)
-none_noted index automata component j none =
-    subst (λ found. HasInputs index j (placed component.formals.items found)) (sym none)
-    (All-nil (λ entry. same_kind Input entry.kind ≡ true → IsNoted index component.formals.items j entry))
 
 component_is : (automata : List Automaton) (components : List Component) (j : ℕ) (d : Component) → j < length components → instance_of automata (get_or components j d) ≡ component_at (composed automata components) j
 component_is automata [] j d below = absurd (omega (arith, below))
@@ -152,21 +124,48 @@ none_beyond automata [] j past = refl
 none_beyond automata (component ∷ components) zero past = absurd (omega (arith, past))
 none_beyond automata (component ∷ components) (suc j) past = none_beyond automata components j (omega (arith, past))
 
--- one more component is noted
-pub indexed_more : (old new : Kept) (automata : List Automaton) (components : List Component) (j : ℕ) (d : Component) → j < length components → Keeps old new → ((i : ℕ) → i < j → HasInputs old i (component_at (composed automata components) i)) → HasInputs new j (instance_of automata (get_or components j d)) → (i : ℕ) → i < j + 1 → HasInputs new i (component_at (composed automata components) i)
-indexed_more old new automata components j d below kept before here i within = go (nat_eq i j) refl where
-  go : (b : Truth) → nat_eq i j ≡ b → HasInputs new i (component_at (composed automata components) i)
-  go true same = subst (λ (k : ℕ). HasInputs new k (component_at (composed automata components) k)) (sym (number_is i j same)) (subst (HasInputs new j) (component_is automata components j d below) here)
-  go false other = let less : i < j = grind (arith, nat_tests) in inputs_still old new i (component_at (composed automata components) i) kept (before i less)
+module _ (every : Truth) where
+  pub entries_still : (old new : Kept) (j : ℕ) (component : Instance) → Keeps old new → HasEntries every old j component → HasEntries every new j component
+  entries_still old new j component kept has =
+      All-weaker (λ entry. is_for every entry.kind ≡ true → IsNoted old component.formals j entry) (λ entry. is_for every entry.kind ≡ true → IsNoted new component.formals j entry)
+      (λ entry noted wanted. noted_still old new component.formals j entry kept (noted wanted)) component.entries has
 
-pub all_indexed : (index : Kept) (automata : List Automaton) (components : List Component) (n : ℕ) → length components ≤ n → ((i : ℕ) → i < n → HasInputs index i (component_at (composed automata components) i)) → IsIndexed index (composed automata components)
-all_indexed index automata components n long before j = go (nat_lt j n) refl where
-  go : (b : Truth) → nat_lt j n ≡ b → HasInputs index j (component_at (composed automata components) j)
-  go true within = before j (ltb-true j n within)
-  go false past =
-      let beyond : n ≤ j = ltb-false j n past in
-      subst (HasInputs index j) (sym (none_beyond automata components j (omega (arith, long, beyond))))
-      (All-nil (λ entry. same_kind Input entry.kind ≡ true → IsNoted index [] j entry))
+  abbrev pub Passed : Kept → List Scalar → ℕ → List Entry → Type 0
+  Passed index formals j entries = All (λ entry. is_for every entry.kind ≡ true → IsNoted index formals j (transition_of entry)) entries
+
+  -- one more entry is noted
+  pub passed_more : (old new : Kept) (formals : List Scalar) (j : ℕ) (entries : List Entry) (i : ℕ) (d : Entry) → i < length entries → Keeps old new → Passed old formals j (take i entries) → (is_for every (get_or entries i d).kind ≡ true → IsNoted new formals j (transition_of (get_or entries i d))) → Passed new formals j (take (i + 1) entries)
+  passed_more old new formals j entries i d below kept passed here =
+      let P : Entry → Type 0 = λ entry. is_for every entry.kind ≡ true → IsNoted new formals j (transition_of entry) in
+      All-more P entries i d below
+      (All-weaker (λ entry. is_for every entry.kind ≡ true → IsNoted old formals j (transition_of entry)) P (λ entry noted wanted. noted_still old new formals j (transition_of entry) kept (noted wanted)) (take i entries) passed) here
+
+  -- an automaton's entries, each of which is noted, are those of the component
+  pub instance_noted : (index : Kept) (automata : List Automaton) (component : Component) (automaton : Automaton) (j : ℕ) → slice_get automata component.automaton ≡ Some automaton → Passed index component.formals.items j automaton.entries.items → HasEntries every index j (instance_of automata component)
+  instance_noted index automata component automaton j there passed =
+      subst (λ found. HasEntries every index j (placed component.formals.items found)) (sym there)
+      (All-map (λ entry. is_for every entry.kind ≡ true → IsNoted index component.formals.items j entry) transition_of automaton.entries.items passed)
+
+  pub none_noted : (index : Kept) (automata : List Automaton) (component : Component) (j : ℕ) → slice_get automata component.automaton ≡ None → HasEntries every index j (instance_of automata component)
+  none_noted index automata component j none =
+      subst (λ found. HasEntries every index j (placed component.formals.items found)) (sym none)
+      (All-nil (λ entry. is_for every entry.kind ≡ true → IsNoted index component.formals.items j entry))
+
+  -- one more component is noted
+  pub indexed_more : (old new : Kept) (automata : List Automaton) (components : List Component) (j : ℕ) (d : Component) → j < length components → Keeps old new → ((i : ℕ) → i < j → HasEntries every old i (component_at (composed automata components) i)) → HasEntries every new j (instance_of automata (get_or components j d)) → (i : ℕ) → i < j + 1 → HasEntries every new i (component_at (composed automata components) i)
+  indexed_more old new automata components j d below kept before here i within = go (nat_eq i j) refl where
+    go : (b : Truth) → nat_eq i j ≡ b → HasEntries every new i (component_at (composed automata components) i)
+    go true same = subst (λ (k : ℕ). HasEntries every new k (component_at (composed automata components) k)) (sym (number_is i j same)) (subst (HasEntries every new j) (component_is automata components j d below) here)
+    go false other = let less : i < j = grind (arith, nat_tests) in entries_still old new i (component_at (composed automata components) i) kept (before i less)
+
+  pub all_indexed : (index : Kept) (automata : List Automaton) (components : List Component) (n : ℕ) → length components ≤ n → ((i : ℕ) → i < n → HasEntries every index i (component_at (composed automata components) i)) → IsIndexed every index (composed automata components)
+  all_indexed index automata components n long before j = go (nat_lt j n) refl where
+    go : (b : Truth) → nat_lt j n ≡ b → HasEntries every index j (component_at (composed automata components) j)
+    go true within = before j (ltb-true j n within)
+    go false past =
+        let beyond : n ≤ j = ltb-false j n past in
+        subst (HasEntries every index j) (sym (none_beyond automata components j (omega (arith, long, beyond))))
+        (All-nil (λ entry. is_for every entry.kind ≡ true → IsNoted index [] j entry))
 
 module _ {A : Type 0} (numbers : List (Pattern × Vec ℕ A)) (name : ℕ) (args : List Scalar) where
   -- all that stands under an action's pattern by this mask is found

@@ -9,9 +9,9 @@ pub mod Patterns
 pub mod Plans
 pub mod Receivers
 pub mod Rows
-pub mod Selected
 pub mod Signatures
 pub mod Steps
+pub mod Tuples
 pub mod TurnSteps
 pub mod WellFormed
 pub mod SameCompositions

@@ -6,6 +6,7 @@ use Rattle.std.specs.Map.{lookup}
 use Rattle.terms.specs.Meaning.{slot}
 use Rattle.terms.specs.declared.scalar.Scalar.{Scalar}
 use Rattle.terms.specs.declared.scalar.Scalar.TheVariants as scalar
+use Rattle.plans.specs.declared.automaton.Kind.{Kind}
 use Rattle.plans.specs.declared.automaton.Kind.TheVariants.{Input}
 use Rattle.plans.specs.declared.automaton.Param.{Param}
 use Rattle.plans.specs.declared.automaton.Param.TheVariants.{Const, Member, Between, Whole}
@@ -87,10 +88,15 @@ pub record IsNoted (index : Kept) (formals : List Scalar) (j : ℕ) (entry : Tra
   pub mask : Contains (masks_in index.masks entry.name) (mask_of entry.params)
   pub number : IsListed index.numbers entry.name (values_of formals entry.params) j
 
--- the index has each input entry of component j
-abbrev pub HasInputs : Kept → ℕ → Instance → Type 0
-HasInputs index j component = All (λ entry. same_kind Input entry.kind ≡ true → IsNoted index component.formals j entry) component.entries
+-- an index is for all entries, or for the input entries
+abbrev pub is_for : Truth → Kind → Truth
+is_for true kind = true
+is_for false kind = same_kind Input kind
 
--- the index has each input entry of each component
-abbrev pub IsIndexed : Kept → List Instance → Type 0
-IsIndexed index composition = (j : ℕ) → HasInputs index j (component_at composition j)
+-- the index has each entry of component j that it is for
+abbrev pub HasEntries : Truth → Kept → ℕ → Instance → Type 0
+HasEntries every index j component = All (λ entry. is_for every entry.kind ≡ true → IsNoted index component.formals j entry) component.entries
+
+-- the index has each entry of each component that it is for
+abbrev pub IsIndexed : Truth → Kept → List Instance → Type 0
+IsIndexed every index composition = (j : ℕ) → HasEntries every index j (component_at composition j)

@@ -6,7 +6,7 @@ use Rattle.std.proofs.lemmas.Bool.{ltb-true, ltb-false}
 use Rattle.std.proofs.lemmas.Bool.Decides.{nat_tests}
 use Rattle.terms.specs.Named.{Named}
 use Rattle.plans.specs.Automata.{Instance, component_at, absent}
-use Rattle.plans.specs.Signatures.{receives, receivers_of, inputs}
+use Rattle.plans.specs.Signatures.{receives, receivers_of, inputs, acts, takers_of}
 
 -- strictly rising, from a on
 abbrev pub Rising : ℕ → List ℕ → Type 0
@@ -21,7 +21,7 @@ later : (a b : ℕ) (xs : List ℕ) → a ≤ b → Rising b xs → Rising a xs
 later a b [] h r = tt
 later a b (x ∷ xs) h r = (omega (arith, r.0), r.1)
 
-kept_rising : (p : ℕ → Bool) (a n : ℕ) → Rising a (filter p (range_with_len a n))
+pub kept_rising : (p : ℕ → Bool) (a n : ℕ) → Rising a (filter p (range_with_len a n))
 kept_rising p a zero = tt
 kept_rising p a (suc n) = go (kept_rising p (a + 1) n) (p a) where
   go : Rising (a + 1) (filter p (range_with_len (a + 1) n)) → (b : Bool) → Rising a (cond b (a ∷ filter p (range_with_len (a + 1) n)) (filter p (range_with_len (a + 1) n)))
@@ -53,7 +53,7 @@ equal_from j a h = grind (arith, nat_tests)
 above_from : (j a : ℕ) → a ≤ j → (j == a) ≡ false → a + 1 ≤ j
 above_from j a l h = grind (arith, nat_tests)
 
-is_kept : (p : ℕ → Bool) (j a n : ℕ) → a ≤ j → j < a + n → IsIn j (filter p (range_with_len a n)) ≡ p j
+pub is_kept : (p : ℕ → Bool) (j a n : ℕ) → a ≤ j → j < a + n → IsIn j (filter p (range_with_len a n)) ≡ p j
 is_kept p j a zero l h = absurd (omega arith)
 is_kept p j a (suc n) l h = at (λ k. is_kept p j (a + 1) n k (omega arith)) (j == a) refl where
   at : (a + 1 ≤ j → IsIn j (filter p (range_with_len (a + 1) n)) ≡ p j) → (s : Bool) → (j == a) ≡ s → IsIn j (cond (p a) (a ∷ filter p (range_with_len (a + 1) n)) (filter p (range_with_len (a + 1) n))) ≡ p j
@@ -69,7 +69,7 @@ is_kept p j a (suc n) l h = at (λ k. is_kept p j (a + 1) n k (omega arith)) (j 
     there r true = ap (λ s. s || IsIn j (filter p (range_with_len (a + 1) n))) e ∙ r
     there r false = r
 
-not_above : (p : ℕ → Bool) (j a n : ℕ) → a + n ≤ j → IsIn j (filter p (range_with_len a n)) ≡ false
+pub not_above : (p : ℕ → Bool) (j a n : ℕ) → a + n ≤ j → IsIn j (filter p (range_with_len a n)) ≡ false
 not_above p j a zero h = refl
 not_above p j a (suc n) h = go (not_above p j (a + 1) n (omega arith)) (p a) where
   e : (j == a) ≡ false
@@ -80,7 +80,7 @@ not_above p j a (suc n) h = go (not_above p j (a + 1) n (omega arith)) (p a) whe
   go rest false = rest
 
 -- a component that isn't there has no entries, and so no inputs
-past_absent : (composition : List Instance) (j : ℕ) → length composition ≤ j → component_at composition j ≡ absent
+pub past_absent : (composition : List Instance) (j : ℕ) → length composition ≤ j → component_at composition j ≡ absent
 past_absent [] j h = refl
 past_absent (x ∷ xs) zero h = absurd (omega arith)
 past_absent (x ∷ xs) (suc j) h = past_absent xs j (omega arith)
@@ -100,7 +100,7 @@ receivers_all composition a i j = go (nat_lt j (length composition)) refl where
       not_above (receives composition i a) j 0 (length composition) (omega arith) ∙ sym (none_past composition a i j past)
 
 -- what is kept passes the test
-kept_passes : (p : ℕ → Bool) (j : ℕ) (xs : List ℕ) → IsIn j (filter p xs) ≡ true → p j ≡ true
+pub kept_passes : (p : ℕ → Bool) (j : ℕ) (xs : List ℕ) → IsIn j (filter p xs) ≡ true → p j ≡ true
 kept_passes p j [] h = cc
 kept_passes p j (x ∷ xs) h = go (λ g. kept_passes p j xs g) (p x) refl h where
   here : p x ≡ true → (b : Bool) → (j == x) ≡ b → (IsIn j (filter p xs) ≡ true → p j ≡ true) → (b || IsIn j (filter p xs)) ≡ true → p j ≡ true
@@ -118,5 +118,17 @@ both false b h = cc
 -- whoever receives an action has it as an input
 pub receiver_input : (composition : List Instance) (a : Named) (i j : ℕ) → IsIn j (receivers_of composition a i) ≡ true → inputs composition j a ≡ true
 receiver_input composition a i j h = both (not (j == i)) (inputs composition j a) (kept_passes (receives composition i a) j (range_with_len 0 (length composition)) h)
+
+-- the components that have an action are listed once and in order, and no others
+pub takers_rise : (composition : List Instance) (a : Named) → Rising 0 (takers_of composition a)
+takers_rise composition a = kept_rising (λ j. acts composition j a) 0 (length composition)
+
+pub takers_all : (composition : List Instance) (a : Named) (j : ℕ) → IsIn j (takers_of composition a) ≡ acts composition j a
+takers_all composition a j = go (nat_lt j (length composition)) refl where
+  go : (b : Bool) → nat_lt j (length composition) ≡ b → IsIn j (takers_of composition a) ≡ acts composition j a
+  go true h = let within : j < length composition = ltb-true j (length composition) h in is_kept (λ i. acts composition i a) j 0 (length composition) (omega arith) (omega arith)
+  go false h =
+      let past : length composition ≤ j = ltb-false j (length composition) h in
+      not_above (λ i. acts composition i a) j 0 (length composition) (omega arith) ∙ sym (rw (past_absent composition j past) refl)
 
 pub ruleset laws = (receivers_rise, no_own, receivers_all, receiver_input)

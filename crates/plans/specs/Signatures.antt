@@ -130,3 +130,7 @@ receives composition i action j = not (j == i) && inputs composition j action
 -- the receivers of an action of component i, in order
 abbrev pub receivers_of : List Instance → Named → ℕ → List ℕ
 receivers_of composition action i = filter (receives composition i action) (range_with_len 0 (length composition))
+
+-- the components that have an action, in order
+abbrev pub takers_of : List Instance → Named → List ℕ
+takers_of composition action = filter (λ j. acts composition j action) (range_with_len 0 (length composition))

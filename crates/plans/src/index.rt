@@ -1,5 +1,5 @@
 //! Where to look for the receivers of an action.
-ghost use Rattle.std.specs.Prelude.{◌≡◌, ◌++◌, ℕ, Bool as Truth, IfOk, OnOk, List, Contains, nat_eq};
+ghost use Rattle.std.specs.Prelude.{◌≡◌, ◌++◌, ℕ, Bool as Truth, IfOk, IfSome, OnOk, List, Contains, nat_eq};
 ghost use Rattle.std.specs.List.Sorted.{IsStrictlyIncreasing};
 ghost use Rattle.terms.specs.Meaning.{slot};
 ghost use Rattle.plans.specs.Patterns.{fixed_as, fixes, mask_of, asked, values_of, shown, masked, under, masks_in, IsListed};
@@ -8,6 +8,7 @@ mod notes;
 
 use crate::automaton::{Entry, Param};
 use indexmap::IndexMap;
+use smallvec::SmallVec;
 use std::alloc::Global;
 use std::hash::Hash;
 use std::marker::Model;
@@ -15,8 +16,9 @@ use terms::evaluate::slot_of;
 use terms::{Action, NoMemory, Scalar};
 
 /// What a pattern asks of an argument: nothing, or one value.
-#[derive(Clone, Copy, Debug, PartialEq, Eq, Hash)]
+#[derive(Clone, Copy, Debug, Default, PartialEq, Eq, Hash)]
 pub enum Fixed {
+    #[default]
     Free,
     Int(i64),
     Bool(bool),
@@ -27,7 +29,7 @@ pub enum Fixed {
 #[derive(Debug, PartialEq, Eq, Hash, Drop)]
 pub struct Pattern {
     name: u16,
-    values: Vec<Fixed>,
+    values: SmallVec<Fixed, 4>,
 }
 
 /// For each name of an action the masks of its input entries (which parameters are formals), each once; for each pattern the
@@ -61,6 +63,26 @@ impl Index {
         Ok(found)
     }
 
+    /// The same, lent, where the name has one mask and the numbers stand in order as they are.
+    pub fn lent(&self, alloc: Global, action: &Action) -> Result<Option<&[u16]>, NoMemory>
+        ensures rise { IfOk result (λ lent. IfSome lent (λ found. IsStrictlyIncreasing found.now)) }
+        ensures all { IfOk result (λ lent. IfSome lent
+            (λ found. (mask : List Truth) (j : ℕ) → Contains
+            (masks_in self.now.masks action.now.name) mask
+            → IsListed self.now.numbers action.now.name (masked mask action.now.args) j
+            → Contains found.now j)) }
+    {
+        match masks_under(&self.masks, action.name) {
+            [mask] => {
+                let pattern = masked(alloc, action, mask.as_slice())?;
+                let numbers = self.numbers_of(&pattern);
+                drop(pattern);
+                Ok(if_rising(numbers))
+            }
+            _ => Ok(None),
+        }
+    }
+
     fn listed(&self, alloc: Global, action: &Action) -> Result<Vec<u16>, NoMemory>
         ensures { IfOk result (λ found. (mask : List Truth) (j : ℕ) → Contains (masks_in self.now.masks action.now.name) mask → IsListed self.now.numbers action.now.name (masked mask action.now.args) j → Contains found.items j) }
     {
@@ -82,6 +104,18 @@ impl Index {
     }
 }
 
+fn if_rising(numbers: &[u16]) -> Option<&[u16]>
+    ensures rise { IfSome result (λ found. IsStrictlyIncreasing found.now) }
+    ensures same { IfSome result (λ found. found.now ≡ numbers.now) }
+{
+    for k in 1..numbers.len() {
+        if numbers[k - 1] >= numbers[k] {
+            return None;
+        }
+    }
+    Some(numbers)
+}
+
 fn masks_under(masks: &IndexMap<u16, Vec<Vec<bool>>>, name: u16) -> &[Vec<bool>]
     ensures { result.now ≡ under nat_eq masks.now.entries name }
 {
@@ -95,7 +129,7 @@ fn masked(alloc: Global, action: &Action, mask: &[bool]) -> Result<Pattern, NoMe
     ensures name { IfOk result (λ pattern. pattern.name ≡ action.now.name) }
     ensures values { IfOk result (λ pattern. pattern.values.items ≡ masked mask.now action.now.args) }
 {
-    let mut values = Vec::new(alloc);
+    let mut values = SmallVec::new(alloc);
     show(mask, action.args.as_slice(), &mut values)?;
     Ok(Pattern {
         name: action.name,
@@ -103,7 +137,7 @@ fn masked(alloc: Global, action: &Action, mask: &[bool]) -> Result<Pattern, NoMe
     })
 }
 
-fn show(mask: &[bool], args: &[Scalar], out: &mut Vec<Fixed>) -> Result<(), NoMemory>
+fn show(mask: &[bool], args: &[Scalar], out: &mut SmallVec<Fixed, 4>) -> Result<(), NoMemory>
     ensures { OnOk result (out.new.items ≡ out.old.items ++ masked mask.now args.now) }
 {
     match (mask.split_first(), args.split_first()) {

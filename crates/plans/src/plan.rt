@@ -1,5 +1,5 @@
 //! A compatible composition.
-ghost use Rattle.std.specs.Prelude.{◌<◌, ◌^◌, vec_len};
+ghost use Rattle.std.specs.Prelude.{◌<◌, ◌^◌, true, false, vec_len};
 ghost use Rattle.plans.specs.Automata.{composed};
 ghost use Rattle.plans.specs.Compatible.{IsCompatible};
 ghost use Rattle.plans.specs.Patterns.{IsIndexed};
@@ -12,6 +12,7 @@ mod names;
 mod parts;
 mod signature;
 mod step;
+mod tuples;
 
 use crate::automaton::{ActionName, Automaton, Component};
 use crate::index::Index;
@@ -25,8 +26,10 @@ pub struct Plan {
     actions: Vec<ActionName>,
     members: Vec<String>,
     index: Box<Index>,
+    entries: Box<Index>,
     ghost few: { vec_len components < 2 ^ 16 },
     ghost compatible: { IsCompatible (composed automata.items components.items) },
     ghost formed: { IsWellFormed (composed automata.items components.items) },
-    ghost indexed: { ∥ IsIndexed index.value (composed automata.items components.items) ∥₁ },
+    ghost indexed: { ∥ IsIndexed false index.value (composed automata.items components.items) ∥₁ },
+    ghost entered: { ∥ IsIndexed true entries.value (composed automata.items components.items) ∥₁ },
 }

@@ -10,7 +10,6 @@ impl PartialEq for Entry {
 
     ghost laws = { partial_equiv_from_equiv same_entry_laws };
 
-    #[tactic(auto, using(terms::specs::DerivedSame::derived_same))]
     fn eq(&self, other: &Entry) -> bool {
         self.name == other.name
             && self.kind == other.kind

@@ -5,11 +5,12 @@ ghost use lib.Pointwise.{pointwise};
 ghost use Rattle.plans.specs.Automata.{composed, instance_of, transition_of};
 ghost use Rattle.plans.specs.Signatures.{same_kind};
 ghost use Rattle.plans.specs.declared.automaton.Kind.TheVariants.{Input};
-ghost use Rattle.plans.specs.Patterns.{fixes, mask_of, asked, values_of, under, masks_in, IsListed, Keeps, IsNoted, HasInputs, IsIndexed};
+ghost use Rattle.plans.specs.Patterns.{fixes, mask_of, asked, values_of, under, masks_in, IsListed, Keeps, IsNoted, is_for, HasEntries, IsIndexed};
 
 use crate::automaton::{Automaton, Component, Entry, Kind, Param};
 use crate::index::{Fixed, Index, Pattern, fixed_as, masks_under};
 use indexmap::IndexMap;
+use smallvec::SmallVec;
 use std::alloc::Global;
 use std::hash::Hash;
 use terms::evaluate::slot_of;
@@ -67,10 +68,14 @@ fn asked(formals: &[Scalar], param: Param) -> Fixed
     }
 }
 
-fn values_of(alloc: Global, formals: &[Scalar], params: &[Param]) -> Result<Vec<Fixed>, NoMemory>
+fn values_of(
+    alloc: Global,
+    formals: &[Scalar],
+    params: &[Param],
+) -> Result<SmallVec<Fixed, 4>, NoMemory>
     ensures { IfOk result (λ values. values.items ≡ values_of formals.now params.now) }
 {
-    let mut values = Vec::with_capacity(alloc, params.len())?;
+    let mut values = SmallVec::with_capacity(alloc, params.len())?;
     for param in params {
         values.push(asked(formals, *param))?;
     }
@@ -119,22 +124,37 @@ fn note_number(
     Ok(())
 }
 
+fn is_for(every: bool, kind: Kind) -> bool
+    ensures { result ≡ is_for every kind }
+{
+    if every {
+        return true;
+    }
+    match kind {
+        Kind::Input => true,
+        Kind::Output => false,
+        Kind::Internal => false,
+    }
+}
+
 impl Index {
-    /// An index of all input entries of all components.
+    /// An index of all entries of all components if it is for `every` entry, else of the input entries.
     pub fn of(
         alloc: Global,
         automata: &[Automaton],
         components: &[Component],
+        every: bool,
     ) -> Result<Index, NoMemory>
         requires few { length components.now < 2 ^ 16 }
-        ensures { IfOk result (λ index. IsIndexed index (composed automata.now components.now)) }
+        ensures { IfOk result (λ index. IsIndexed every index
+            (composed automata.now components.now)) }
     {
         let mut index = Index {
             masks: IndexMap::new(alloc),
             numbers: IndexMap::new(alloc),
         };
         for j in 0..components.len() {
-            index.note_component(alloc, j as u16, automata, &components[j])?;
+            index.note_component(alloc, j as u16, automata, &components[j], every)?;
         }
         Ok(index)
     }
@@ -145,36 +165,42 @@ impl Index {
         j: u16,
         automata: &[Automaton],
         component: &Component,
+        every: bool,
     ) -> Result<(), NoMemory>
         ensures kept { OnOk result (Keeps self.old self.new) }
-        ensures noted { OnOk result (HasInputs self.new j (instance_of automata.now component.now)) }
+        ensures noted { OnOk result (HasEntries every self.new j
+            (instance_of automata.now component.now)) }
     {
         if let Some(automaton) = automata.get(component.automaton) {
             for entry in &automaton.entries {
-                self.note(alloc, j, component.formals.as_slice(), entry)?;
+                self.note_if(
+                    alloc,
+                    is_for(every, entry.kind),
+                    j,
+                    component.formals.as_slice(),
+                    entry,
+                )?;
             }
         }
         Ok(())
     }
 
-    fn note(
+    fn note_if(
         &mut self,
         alloc: Global,
+        test: bool,
         j: u16,
         formals: &[Scalar],
         entry: &Entry,
     ) -> Result<(), NoMemory>
         ensures kept { OnOk result (Keeps self.old self.new) }
-        ensures noted { OnOk result (same_kind Input entry.now.kind ≡ true → IsNoted self.new formals.now j (transition_of entry.now)) }
+        ensures noted { OnOk result (test ≡ true → IsNoted self.new formals.now j
+            (transition_of entry.now)) }
     {
-        match entry.kind {
-            Kind::Input => {
-                note_mask(alloc, &mut self.masks, entry.name, entry.params.as_slice())?;
-                note_number(alloc, &mut self.numbers, j, formals, entry)?;
-                Ok(())
-            }
-            Kind::Output => Ok(()),
-            Kind::Internal => Ok(()),
+        if test {
+            note_mask(alloc, &mut self.masks, entry.name, entry.params.as_slice())?;
+            note_number(alloc, &mut self.numbers, j, formals, entry)?;
         }
+        Ok(())
     }
 }

@@ -1,20 +1,22 @@
 //! The enabled actions of a task, and the one that a turn takes.
-ghost use Rattle.std.specs.Prelude.{◌≡◌, ◌++◌, ◌∷◌, [], IfOk, OnOk, option_copied, map, slice_get, length, slice_index};
+ghost use Rattle.std.specs.Prelude.{◌≡◌, ◌++◌, ◌<◌, ◌%◌, IfOk, OnOk, option_copied, map, slice_get, length, sum};
 ghost use Rattle.std.specs.Option.{option_map};
 ghost use Rattle.std.specs.List.{flat_map};
-ghost use Rattle.terms.specs.Shapes.{members};
 ghost use Rattle.plans.specs.Automata.{component_at, transition_of};
-ghost use Rattle.plans.specs.Steps.{holds};
 ghost use Rattle.plans.specs.Outcomes.{task_of, enabled_of, enabled_by, outcome_of};
-ghost use Rattle.plans.specs.Selected.{kept, select, select_with};
+ghost use Rattle.plans.specs.Tuples.{enabled_in, enabled_count};
 
-use crate::automaton::{Entry, Param};
+mod among;
+
+use crate::automaton::Entry;
 use crate::plan::Plan;
-use crate::plan::step::env_of;
+use crate::plan::tuples::count_all;
+use smallvec::SmallVec;
 use std::alloc::Global;
-use terms::evaluate::{eval, slot_of};
-use terms::seen::truth_in;
-use terms::{Action, Cells, Listed, NoMemory, Scalar, parts};
+use terms::{Action, Cells, NoMemory, Scalar};
+
+/// Up to so many arguments stand on the stack while they are tried.
+const FEW: usize = 4;
 
 impl Plan {
     ghost use Rattle.plans.specs.Plans.{composition};
@@ -70,16 +72,24 @@ impl Plan {
     ) -> Result<Option<Action>, NoMemory>
         ensures { IfOk result (λ outcome. outcome ≡ outcome_of (composition self.now) i task choice (C.values cells.now)) }
     {
-        let mut actions = self.enabled(alloc, i, task, cells)?;
-        if actions.is_empty() {
-            return Ok(None);
-        }
-        let at = choice as usize % actions.len();
-        Ok(Some(actions.swap_remove(at)))
+        let entries = self.entries(i);
+        let formals = self.formals(i);
+        let places = self.task(i, task);
+        let counts = counts_of(alloc, entries, formals, places, cells)?;
+        let outcome = chosen(
+            alloc,
+            entries,
+            formals,
+            places,
+            counts.as_slice(),
+            choice,
+            cells,
+        );
+        drop(counts);
+        outcome
     }
 }
 
-#[tactic(auto, using(crate::specs::Selected::selected_all))]
 fn add_entry<C: Cells>(
     alloc: Global,
     entry: Option<&Entry>,
@@ -91,133 +101,171 @@ fn add_entry<C: Cells>(
 {
     match entry {
         Some(entry) => {
-            let mut args = Vec::new(alloc);
-            add(
+            let count = count_all(entry.params.as_slice())?;
+            let mut args = vec![in alloc; Scalar::Int(0); entry.params.len()]?;
+            let added = among::add(
                 alloc,
                 entry,
                 formals,
-                entry.params.as_slice(),
-                &mut args,
+                count,
+                args.as_mut_slice(),
                 cells,
                 out,
-            )
+            );
+            drop(args);
+            added
         }
         None => Ok(()),
     }
 }
 
-// The action at the end, if its precondition holds.
-fn offer<C: Cells>(
+// How many actions of each of a task's entries are enabled.
+fn counts_of<C: Cells>(
     alloc: Global,
-    entry: &Entry,
+    entries: &[Entry],
     formals: &[Scalar],
-    args: &Vec<Scalar>,
+    places: &[usize],
     cells: &C,
-    out: &mut Vec<Action>,
-) -> Result<(), NoMemory>
-    ensures { OnOk result (out.new.items ≡ out.old.items ++ kept (holds (transition_of entry.now) formals.now (C.values cells.now)) entry.now.name args.now.items) }
+) -> Result<SmallVec<usize, 8>, NoMemory>
+    ensures { IfOk result (λ counts. counts.items ≡ map
+        (enabled_count entries.now formals.now (C.values cells.now)) places.now) }
 {
-    if !holds(alloc, entry, formals, args.as_slice(), cells)? {
-        return Ok(());
+    let mut counts = SmallVec::new(alloc);
+    for place in places {
+        let entry = entry_among(entries, *place);
+        let count = count_of(alloc, entry, formals, cells)?;
+        counts.push(count)?;
     }
-    let args = args.clone()?;
-    out.push(Action {
-        name: entry.name,
-        args,
-    })?;
-    Ok(())
+    Ok(counts)
 }
 
-pub(super) fn holds<C: Cells>(
+fn count_of<C: Cells>(
     alloc: Global,
-    entry: &Entry,
+    entry: Option<&Entry>,
     formals: &[Scalar],
-    args: &[Scalar],
     cells: &C,
-) -> Result<bool, NoMemory>
-    ensures { IfOk result (λ holding. holding ≡ holds (transition_of entry.now) formals.now (C.values cells.now) args.now) }
+) -> Result<usize, NoMemory>
+    ensures { IfOk result (λ count. count ≡ length
+        (enabled_by formals.now (C.values cells.now)
+        (option_map transition_of (option_copied entry.entry)))) }
 {
-    let env = env_of(formals, args);
-    let value = eval(alloc, &entry.pre, &env, cells)?;
-    Ok(truth_in(value.scalar()))
-}
-
-#[cycle(add)]
-fn add<C: Cells>(
-    alloc: Global,
-    entry: &Entry,
-    formals: &[Scalar],
-    params: &[Param],
-    args: &mut Vec<Scalar>,
-    cells: &C,
-    out: &mut Vec<Action>,
-) -> Result<(), NoMemory>
-    ensures out { OnOk result (out.new.items ≡ out.old.items ++ select (holds (transition_of entry.now) formals.now (C.values cells.now)) entry.now.name formals.now params.now args.old.items) }
-    ensures args { OnOk result (args.new.items ≡ args.old.items) }
-{
-    match params.split_first() {
-        None => offer(alloc, entry, formals, args, cells, out),
-        Some((param, params)) => match param {
-            Param::Const(n) => {
-                let value = slot_of(formals, *n);
-                add_with(alloc, entry, formals, params, value, args, cells, out)
+    match entry {
+        Some(entry) => {
+            let count = count_all(entry.params.as_slice())?;
+            let many = entry.params.len();
+            if many <= FEW {
+                let mut args = [Scalar::Int(0); FEW];
+                return among::count(alloc, entry, formals, count, &mut args[..many], cells);
             }
-            Param::Member(listed) => add_each(
-                alloc, entry, formals, params, *listed, args, cells, out,
-            ),
-            Param::Between(_, _) => Ok(()),
-            Param::Whole => Ok(()),
-        },
+            let mut args = vec![in alloc; Scalar::Int(0); many]?;
+            let enabled = among::count(alloc, entry, formals, count, args.as_mut_slice(), cells);
+            drop(args);
+            enabled
+        }
+        None => Ok(0),
     }
 }
 
-#[cycle(add)]
-fn add_with<C: Cells>(
-    alloc: Global,
-    entry: &Entry,
-    formals: &[Scalar],
-    params: &[Param],
-    value: Scalar,
-    args: &mut Vec<Scalar>,
-    cells: &C,
-    out: &mut Vec<Action>,
-) -> Result<(), NoMemory>
-    ensures out { OnOk result (out.new.items ≡ out.old.items ++ select_with (holds (transition_of entry.now) formals.now (C.values cells.now)) entry.now.name formals.now params.now args.old.items value) }
-    ensures args { OnOk result (args.new.items ≡ args.old.items) }
+fn entry_among(entries: &[Entry], place: usize) -> Option<&Entry>
+    ensures { option_map transition_of (option_copied result) ≡ slice_get
+        (map transition_of entries.now) place }
 {
-    let len = args.len();
-    args.push(value)?;
-    add(alloc, entry, formals, params, args, cells, out)?;
-    args.truncate(len);
-    Ok(())
+    entries.get(place)
 }
 
-#[cycle(add)]
-#[tactic(auto, using(terms::specs::Turns::turns))]
-fn add_each<C: Cells>(
-    alloc: Global,
-    entry: &Entry,
-    formals: &[Scalar],
-    params: &[Param],
-    listed: Listed,
-    args: &mut Vec<Scalar>,
-    cells: &C,
-    out: &mut Vec<Action>,
-) -> Result<(), NoMemory>
-    ensures out { OnOk result (out.new.items ≡ out.old.items ++ flat_map (select_with (holds (transition_of entry.now) formals.now (C.values cells.now)) entry.now.name formals.now params.now args.old.items) (members listed)) }
-    ensures args { OnOk result (args.new.items ≡ args.old.items) }
+fn sum_of(counts: &[usize]) -> Result<usize, NoMemory>
+    ensures { IfOk result (λ total. total ≡ sum counts.now) }
 {
-    for k in 0..parts::count_of(listed) {
-        add_with(
-            alloc,
-            entry,
-            formals,
-            params,
-            parts::member_at(listed, k),
-            args,
-            cells,
-            out,
-        )?;
+    let mut total: usize = 0;
+    for count in counts {
+        match total.checked_add(*count) {
+            Some(more) => total = more,
+            None => return Err(NoMemory),
+        }
     }
-    Ok(())
+    Ok(total)
+}
+
+// The enabled action at `choice` modulo their number, where each entry's number is known.
+fn chosen<C: Cells>(
+    alloc: Global,
+    entries: &[Entry],
+    formals: &[Scalar],
+    places: &[usize],
+    counts: &[usize],
+    choice: u32,
+    cells: &C,
+) -> Result<Option<Action>, NoMemory>
+    requires { counts.now ≡ map (enabled_count entries.now formals.now
+        (C.values cells.now)) places.now }
+    ensures { IfOk result (λ found. let enabled = flat_map
+        (enabled_in entries.now formals.now (C.values cells.now)) places.now in found
+        ≡ slice_get enabled (choice % length enabled)) }
+{
+    let total = sum_of(counts)?;
+    if total == 0 {
+        return Ok(None);
+    }
+    let mut left = choice as usize % total;
+    for at in 0..places.len() {
+        let count = counts[at];
+        if left < count {
+            let entry = entry_among(entries, places[at]);
+            return action_of(alloc, entry, formals, count, left, cells);
+        }
+        left -= count;
+    }
+    Ok(None)
+}
+
+// The action at `at` of the `enabled` ones of an entry.
+fn action_of<C: Cells>(
+    alloc: Global,
+    entry: Option<&Entry>,
+    formals: &[Scalar],
+    enabled: usize,
+    at: usize,
+    cells: &C,
+) -> Result<Option<Action>, NoMemory>
+    requires enabled { enabled ≡ length
+        (enabled_by formals.now (C.values cells.now)
+        (option_map transition_of (option_copied entry))) }
+    requires below { at < enabled }
+    ensures { IfOk result (λ found. found ≡ slice_get
+        (enabled_by formals.now (C.values cells.now)
+        (option_map transition_of (option_copied entry.entry))) at) }
+{
+    match entry {
+        Some(entry) => {
+            let count = count_all(entry.params.as_slice())?;
+            let many = entry.params.len();
+            if many <= FEW {
+                let mut args = [Scalar::Int(0); FEW];
+                return among::action(
+                    alloc,
+                    entry,
+                    formals,
+                    count,
+                    enabled,
+                    at,
+                    &mut args[..many],
+                    cells,
+                );
+            }
+            let mut args = vec![in alloc; Scalar::Int(0); many]?;
+            let found = among::action(
+                alloc,
+                entry,
+                formals,
+                count,
+                enabled,
+                at,
+                args.as_mut_slice(),
+                cells,
+            );
+            drop(args);
+            found
+        }
+        None => Ok(None),
+    }
 }

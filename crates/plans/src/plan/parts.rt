@@ -1,7 +1,8 @@
 //! A plan of its parts.
-ghost use Rattle.std.specs.Prelude.{◌≡◌, ◌<◌, ◌^◌, IfOk, map, vec_len, string_bytes};
+ghost use Rattle.std.specs.Prelude.{◌≡◌, ◌<◌, ◌^◌, IfOk, map, length, vec_len, string_bytes};
 ghost use Rattle.plans.specs.Automata.{composed};
 ghost use Rattle.plans.specs.Compatible.{IsCompatible};
+ghost use Rattle.plans.specs.Patterns.{IsIndexed};
 ghost use Rattle.plans.specs.Plans.{composition, action_texts, action_types, member_texts, text_of, types_of};
 ghost use Rattle.plans.specs.WellFormed.{IsWellFormed};
 
@@ -29,14 +30,29 @@ impl Plan {
         ensures types { IfOk result (λ plan. action_types plan ≡ map types_of actions.items) }
         ensures members { IfOk result (λ plan. member_texts plan ≡ map string_bytes members.items) }
     {
-        let found = Index::of(alloc, automata.as_slice(), components.as_slice())?;
-        let index = Box::new(alloc, found)?;
+        let index = index_of(alloc, automata.as_slice(), components.as_slice(), false)?;
+        let entries = index_of(alloc, automata.as_slice(), components.as_slice(), true)?;
         Ok(Plan {
             automata,
             components,
             actions,
             members,
             index,
+            entries,
         })
     }
+}
+
+fn index_of(
+    alloc: Global,
+    automata: &[Automaton],
+    components: &[Component],
+    every: bool,
+) -> Result<Box<Index>, NoMemory>
+    requires few { length components.now < 2 ^ 16 }
+    ensures { IfOk result (λ index. IsIndexed every index.value
+        (composed automata.now components.now)) }
+{
+    let found = Index::of(alloc, automata, components, every)?;
+    Ok(Box::new(alloc, found)?)
 }

@@ -1,7 +1,7 @@
 //! The signatures of the components and of their composition.
-ghost use Rattle.std.specs.Prelude.{◌≡◌, ◌++◌, ◌∷◌, [], IfOk, OnOk, cond, length, int_le, int_lt, pos, ◌+ℤ◌, ◌&&◌, option_copied, find, filter, ℕ};
+ghost use Rattle.std.specs.Prelude.{◌≡◌, ◌++◌, ◌∷◌, [], IfOk, IfSome, OnOk, cond, length, int_le, int_lt, pos, ◌+ℤ◌, ◌&&◌, option_copied, find, filter, is_some, ℕ};
 ghost use Rattle.plans.specs.Automata.{transition_of};
-ghost use Rattle.plans.specs.Signatures.{is_member, fits_one, fits, has, kind_of, receives, receivers_of, is_external, is_open, takes_input, some_component};
+ghost use Rattle.plans.specs.Signatures.{is_member, fits_one, fits, has, kind_of, receives, receivers_of, is_external, is_open, takes_input, some_component, takers_of};
 
 use crate::automaton::{Entry, Kind, Param};
 use crate::plan::Plan;
@@ -31,8 +31,8 @@ impl Plan {
         }
     }
 
-    /// The components that take an action of `sender` as an input, each once and in order.
-    #[tactic(auto, using(crate::specs::Rows::filter_next))]
+    /// The components that take an action of `sender` as an input, each once and in order. There is
+    /// room for one more.
     pub fn receivers(
         &self,
         alloc: Global,
@@ -41,9 +41,40 @@ impl Plan {
     ) -> Result<Vec<u16>, NoMemory>
         ensures { IfOk result (λ receivers. receivers.items ≡ receivers_of (composition self.now) action.now sender) }
     {
+        let lent = self.lent(alloc, action)?;
+        match lent {
+            Some(numbers) => self.receivers_among(alloc, numbers, action, sender),
+            None => self.receivers_merged(alloc, action, sender),
+        }
+    }
+
+    fn receivers_merged(
+        &self,
+        alloc: Global,
+        action: &Action,
+        sender: u16,
+    ) -> Result<Vec<u16>, NoMemory>
+        ensures { IfOk result (λ receivers. receivers.items ≡ receivers_of (composition self.now) action.now sender) }
+    {
         let candidates = self.candidates(alloc, action)?;
-        let mut receivers = Vec::new(alloc);
-        for j in &candidates {
+        let receivers = self.receivers_among(alloc, candidates.as_slice(), action, sender);
+        drop(candidates);
+        receivers
+    }
+
+    #[tactic(auto, using(crate::specs::Rows::filter_next))]
+    fn receivers_among(
+        &self,
+        alloc: Global,
+        numbers: &[u16],
+        action: &Action,
+        sender: u16,
+    ) -> Result<Vec<u16>, NoMemory>
+        ensures { IfOk result (λ receivers. receivers.items ≡ filter
+            (receives (composition self.now) sender action.now) numbers.now) }
+    {
+        let mut receivers = Vec::with_capacity(alloc, numbers.len() + 1)?;
+        for j in numbers {
             let takes = *j != sender && takes_input(self.kind(*j, action));
             push_if(&mut receivers, takes, *j)?;
         }
@@ -56,6 +87,54 @@ impl Plan {
     {
         let found = self.index.candidates(alloc, action)?;
         Ok(found)
+    }
+
+    fn lent(&self, alloc: Global, action: &Action) -> Result<Option<&[u16]>, NoMemory>
+        ensures { IfOk result (λ lent. IfSome lent
+            (λ found. (sender : ℕ) → filter
+            (receives (composition self.now) sender action.now) found.now ≡ receivers_of
+            (composition self.now) action.now sender)) }
+    {
+        let found = self.index.lent(alloc, action)?;
+        Ok(found)
+    }
+
+    /// The components that have an action, each once and in order.
+    pub fn takers(&self, alloc: Global, action: &Action) -> Result<Vec<u16>, NoMemory>
+        ensures { IfOk result (λ takers. takers.items ≡ takers_of
+            (composition self.now) action.now) }
+    {
+        let candidates = self.takers_among(alloc, action)?;
+        let takers = self.with_action(alloc, candidates.as_slice(), action);
+        drop(candidates);
+        takers
+    }
+
+    fn takers_among(&self, alloc: Global, action: &Action) -> Result<Vec<u16>, NoMemory>
+        ensures { IfOk result (λ found. filter
+            (λ j. is_some (kind_of (composition self.now) j action.now)) found.items ≡ takers_of
+            (composition self.now) action.now) }
+    {
+        let found = self.entries.candidates(alloc, action)?;
+        Ok(found)
+    }
+
+    #[tactic(auto, using(crate::specs::Rows::filter_next))]
+    fn with_action(
+        &self,
+        alloc: Global,
+        numbers: &[u16],
+        action: &Action,
+    ) -> Result<Vec<u16>, NoMemory>
+        ensures { IfOk result (λ takers. takers.items ≡ filter
+            (λ j. is_some (kind_of (composition self.now) j action.now)) numbers.now) }
+    {
+        let mut takers = Vec::with_capacity(alloc, numbers.len())?;
+        for j in numbers {
+            let has = self.kind(*j, action).is_some();
+            push_if(&mut takers, has, *j)?;
+        }
+        Ok(takers)
     }
 
     /// Whether an action is an input or an output of the composition.

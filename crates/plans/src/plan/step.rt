@@ -1,12 +1,14 @@
 //! Start states and the effects of actions.
 ghost use Rattle.std.specs.Prelude.{◌≡◌, IfOk, OnOk, OnErr, map, take};
-ghost use Rattle.plans.specs.Steps.{scope_in, start_value, start_of, is_enabled, applied, IsPartApplied};
+ghost use Rattle.plans.specs.Automata.{transition_of};
+ghost use Rattle.plans.specs.Steps.{scope_in, start_value, start_of, is_enabled, applied, IsPartApplied, holds};
 ghost use Rattle.terms.specs.Seen.{scope};
 ghost use Rattle.terms.specs.TermTree.{term_tree};
 
+use crate::automaton::Entry;
 use crate::plan::Plan;
-use crate::plan::choose::holds;
 use std::alloc::Global;
+use terms::evaluate::is_true;
 use terms::{Action, Cells, Env, NoMemory, Scalar, State, Term, Value, eval, run};
 
 impl Plan {
@@ -81,4 +83,18 @@ pub(super) fn env_of<'a>(formals: &'a [Scalar], parameters: &'a [Scalar]) -> Env
         parameters,
         loops: [Scalar::Int(0); 3],
     }
+}
+
+/// Whether the precondition of an entry holds for these arguments.
+pub(super) fn holds<C: Cells>(
+    alloc: Global,
+    entry: &Entry,
+    formals: &[Scalar],
+    args: &[Scalar],
+    cells: &C,
+) -> Result<bool, NoMemory>
+    ensures { IfOk result (λ holding. holding ≡ holds (transition_of entry.now) formals.now (C.values cells.now) args.now) }
+{
+    let env = env_of(formals, args);
+    is_true(alloc, &entry.pre, &env, cells)
 }

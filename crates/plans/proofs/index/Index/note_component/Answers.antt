@@ -1,8 +1,6 @@
 use Rattle.std.proofs.Common.{rules, ◌≡◌, ◌<◌, ◌≤◌, ◌∙◌, true, None, Some, length, get_or, slice_get, sym, subst, take, take_all}
-use Rattle.plans.specs.declared.automaton.Kind.TheVariants.{Input}
 use Rattle.plans.specs.Automata.{transition_of}
-use Rattle.plans.specs.Signatures.{same_kind}
-use Rattle.plans.specs.Patterns.{IsNoted}
+use Rattle.plans.specs.Patterns.{IsNoted, is_for}
 use Rattle.plans.proofs.Noted.{Passed, keeps_both, passed_more, instance_noted, none_noted, found_there, none_there}
 use Rattle.plans.proofs.index.Index.note_component.Goals as goal
 
@@ -13,11 +11,13 @@ loop-entry-preserved c =
     let formals = c.args.component.now.formals.items in
     let at : get_or entries c.loop-entry.entry-index entry ≡ entry = search rules in
     let below : c.loop-entry.entry-index < length entries = search rules in
-    let noted = subst (λ fs. same_kind Input entry.kind ≡ true → IsNoted c.note.new.self fs c.args.j (transition_of entry)) c.as_slice.ensures.value c.in_ok-note.ensures.noted in
-    let here = subst (λ e. same_kind Input e.kind ≡ true → IsNoted c.note.new.self formals c.args.j (transition_of e)) (sym at) noted in
+    let every = c.args.every in
+    let wanted = λ (w : is_for every entry.kind ≡ true). c.in_ok-note_if.ensures.noted (c.is_for.ensures ∙ w) in
+    let noted = subst (λ fs. is_for every entry.kind ≡ true → IsNoted c.note_if.new.self fs c.args.j (transition_of entry)) c.as_slice.ensures.value wanted in
+    let here = subst (λ e. is_for every e.kind ≡ true → IsNoted c.note_if.new.self formals c.args.j (transition_of e)) (sym at) noted in
     record {
-      kept = keeps_both c.args.self.now c.loop-entry.self c.note.new.self c.loop-entry.invariant.kept c.in_ok-note.ensures.kept;
-      noted = passed_more c.loop-entry.self c.note.new.self formals c.args.j entries c.loop-entry.entry-index entry below c.in_ok-note.ensures.kept c.loop-entry.invariant.noted here;
+      kept = keeps_both c.args.self.now c.loop-entry.self c.note_if.new.self c.loop-entry.invariant.kept c.in_ok-note_if.ensures.kept;
+      noted = passed_more every c.loop-entry.self c.note_if.new.self formals c.args.j entries c.loop-entry.entry-index entry below c.in_ok-note_if.ensures.kept c.loop-entry.invariant.noted here;
     }
 
 pub returns-after-loop-entry-clause-noted : goal.returns-after-loop-entry-clause-noted
@@ -26,9 +26,9 @@ returns-after-loop-entry-clause-noted c =
     let there : slice_get c.args.automata.now c.args.component.now.automaton ≡ Some automaton = found_there c.args.automata.now c.args.component.now.automaton automaton (c.in-Some.ensures.lookup.3).0 c.in-Some.ensures.lookup.1 in
     let long : length c.deref-entry-items.result.now ≤ c.loop-entry.entry-index = search rules in
     let whole : take c.loop-entry.entry-index c.deref-entry-items.result.now ≡ automaton.entries.items = take_all c.loop-entry.entry-index c.deref-entry-items.result.now long ∙ c.deref-entry-items.ensures.value in
-    instance_noted c.loop-entry.self c.args.automata.now c.args.component.now automaton c.args.j there (subst (Passed c.loop-entry.self c.args.component.now.formals.items c.args.j) whole c.loop-entry.invariant.noted)
+    instance_noted c.args.every c.loop-entry.self c.args.automata.now c.args.component.now automaton c.args.j there (subst (Passed c.args.every c.loop-entry.self c.args.component.now.formals.items c.args.j) whole c.loop-entry.invariant.noted)
 
 pub returns-in_default-clause-noted : goal.returns-in_default-clause-noted
 returns-in_default-clause-noted c =
     let none : slice_get c.args.automata.now c.args.component.now.automaton ≡ None = none_there c.args.automata.now c.args.component.now.automaton c.in_default.ensures.lookup.3 in
-    none_noted c.args.self.now c.args.automata.now c.args.component.now c.args.j none
+    none_noted c.args.every c.args.self.now c.args.automata.now c.args.component.now c.args.j none

@@ -1,12 +1,12 @@
-use Rattle.std.proofs.Common.{rules, ◌≤◌, ◌∙◌, ap, length, take_all}
+use Rattle.std.proofs.Common.{ℕ, ◌≡◌, List, subst, IfOk, IfSome}
 use Rattle.std.specs.Prelude.{filter}
 use Rattle.plans.specs.Plans.{composition}
-use Rattle.plans.specs.Signatures.{receives}
+use Rattle.plans.specs.Signatures.{receives, receivers_of}
 use Rattle.plans.proofs.plan.Plan.receivers.Goals as goal
 
-pub returns : goal.returns
-returns c =
-    let test = receives (composition c.args.self.now) c.args.sender c.args.action.now in
-    let items = c.deref-j-items.result.now in
-    let long : length items ≤ c.loop-j.j-index = search rules in
-    c.loop-j.invariant ∙ ap (filter test) (take_all c.loop-j.j-index items long ∙ c.deref-j-items.ensures.value) ∙ c.in_ok-candidates.ensures c.args.sender
+pub returns-in-Some : goal.returns-in-Some
+returns-in-Some c =
+    let all = composition c.args.self.now in
+    let action = c.args.action.now in
+    let is = subst (λ lent. IfSome lent (λ found. (sender : ℕ) → filter (receives all sender action) found.now ≡ receivers_of all action sender)) c.in-Some.is c.in_ok-lent.ensures in
+    subst (λ (numbers : List ℕ). IfOk c.receivers_among.result (λ receivers. receivers.items ≡ numbers)) (is c.args.sender) c.receivers_among.ensures

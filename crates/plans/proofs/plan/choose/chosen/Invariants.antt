@@ -1,0 +1,10 @@
+use Rattle.std.proofs.Common.{◌≡◌, ◌%◌, drop, length, slice_get}
+use Rattle.std.specs.List.{flat_map}
+use Rattle.plans.specs.Tuples.{enabled_in}
+use Rattle.plans.proofs.plan.choose.chosen.Given as goal
+
+abbrev pub invariant-loop-at : goal.invariant-loop-at
+invariant-loop-at g l =
+    let enabled = enabled_in l.entries l.formals (g.C.Cells.values l.cells) in
+    let all = flat_map enabled l.places in
+    slice_get (flat_map enabled (drop l.at l.places)) l.left ≡ slice_get all (l.choice % length all)

@@ -1,0 +1,35 @@
+-- The tuples of arguments that an entry stands for, by their places.
+use Rattle.std.specs.Prelude.{ℕ, ◌*◌, ◌/◌, ◌%◌, List, [], ◌∷◌, length, map, slice_get}
+use Rattle.terms.specs.Datum.{Datum}
+use Rattle.terms.specs.Named.{Named}
+use Rattle.terms.specs.Meaning.{slot}
+use Rattle.terms.specs.Shapes.{count, member}
+use Rattle.terms.specs.declared.scalar.Scalar.{Scalar}
+use Rattle.plans.specs.declared.automaton.Param.{Param}
+use Rattle.plans.specs.declared.automaton.Param.TheVariants.{Const, Member, Between, Whole}
+use Rattle.plans.specs.declared.automaton.Entry.{Entry}
+use Rattle.plans.specs.Automata.{transition_of}
+use Rattle.plans.specs.Outcomes.{enabled_by}
+
+-- how many tuples there are: the product of the numbers of members of the listed types
+abbrev pub many : List Param → ℕ
+many [] = 1
+many (Const n ∷ params) = many params
+many (Member listed ∷ params) = count listed * many params
+many (Between low high ∷ params) = 0
+many (Whole ∷ params) = 0
+
+-- the tuple at a place: what follows a listed parameter changes faster
+abbrev pub tuple_at : List Scalar → List Param → ℕ → List Scalar
+tuple_at formals [] at = []
+tuple_at formals (Const n ∷ params) at = slot formals n ∷ tuple_at formals params at
+tuple_at formals (Member listed ∷ params) at = member listed (at / many params) ∷ tuple_at formals params (at % many params)
+tuple_at formals (Between low high ∷ params) at = []
+tuple_at formals (Whole ∷ params) at = []
+
+-- the enabled actions of the entry at a place, and their number
+abbrev pub enabled_in : List Entry → List Scalar → List Datum → ℕ → List Named
+enabled_in entries formals state place = enabled_by formals state (slice_get (map transition_of entries) place)
+
+abbrev pub enabled_count : List Entry → List Scalar → List Datum → ℕ → ℕ
+enabled_count entries formals state place = length (enabled_in entries formals state place)

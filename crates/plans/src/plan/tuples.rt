@@ -1,0 +1,66 @@
+//! The tuples of arguments that the parameters of an entry stand for.
+ghost use Rattle.std.specs.Prelude.{◌≡◌, ◌+◌, ◌<◌, ◌++◌, ◌*◌, IfOk, length, take};
+ghost use Rattle.plans.specs.Tuples.{many, tuple_at};
+
+use crate::automaton::Param;
+use terms::evaluate::slot_of;
+use terms::{NoMemory, Scalar, parts};
+
+/// How many tuples there are; an accepted source has at most 4,096.
+///
+/// # Errors
+///
+/// `NoMemory` where a `usize` cannot hold their number.
+pub(super) fn count_all(params: &[Param]) -> Result<usize, NoMemory>
+    ensures { IfOk result (λ count. count ≡ many params.now) }
+{
+    match params.split_first() {
+        None => Ok(1),
+        Some((param, params)) => match param {
+            Param::Const(_) => count_all(params),
+            Param::Member(listed) => times(parts::count_of(*listed), count_all(params)?),
+            Param::Between(_, _) => Ok(0),
+            Param::Whole => Ok(0),
+        },
+    }
+}
+
+fn times(count: u16, rest: usize) -> Result<usize, NoMemory>
+    ensures { IfOk result (λ product. product ≡ count * rest) }
+{
+    match usize::from(count).checked_mul(rest) {
+        Some(product) => Ok(product),
+        None => Err(NoMemory),
+    }
+}
+
+/// Puts the tuple at a place among `count` into `args`, from `first` on.
+pub(super) fn put_tuple(
+    formals: &[Scalar],
+    params: &[Param],
+    count: usize,
+    at: usize,
+    args: &mut [Scalar],
+    first: usize,
+)
+    requires count { count ≡ many params.now }
+    requires below { at < count }
+    requires room { first + length params.now ≡ length args.old }
+    ensures { args.new ≡ take first args.old ++ tuple_at formals.now params.now at }
+{
+    if let Some((param, params)) = params.split_first() {
+        match param {
+            Param::Const(n) => {
+                args[first] = slot_of(formals, *n);
+                put_tuple(formals, params, count, at, args, first + 1);
+            }
+            Param::Member(listed) => {
+                let rest = count / usize::from(parts::count_of(*listed));
+                args[first] = parts::member_at(*listed, (at / rest) as u16);
+                put_tuple(formals, params, rest, at % rest, args, first + 1);
+            }
+            Param::Between(_, _) => {}
+            Param::Whole => {}
+        }
+    }
+}
