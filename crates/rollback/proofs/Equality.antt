@@ -34,7 +34,8 @@ use Rattle.task_seed.specs.Turning.{System, has_turns, ticks, key_at, key_of}
 use Rattle.message_balance.specs.declared.done.Done.{Done}
 use Rattle.message_balance.specs.declared.done.Done.TheVariants.{Turn, Input}
 use Rattle.rollback.specs.Flight.{items_of, AllGo}
-use Rattle.rollback.specs.ComponentInvariant.{entry_of, entries_of, IsSmall, IsReady, AllReady, base_state, record_of, IsQueue, IsValidComponent}
+use Rattle.task_seed.specs.Reading.{IsTurnKey}
+use Rattle.rollback.specs.ComponentInvariant.{entry_of, entries_of, IsReady, AllReady, base_state, record_of, IsQueue, IsValidComponent}
 use Rattle.message_balance.specs.Same.{same_done}
 use Rattle.rollback.specs.Same.{same_item, same_entry, same_events, same_held}
 use Rattle.rollback.specs.SameLaws.{entry_decides}
@@ -109,7 +110,7 @@ module _ (s t : System) (i : ℕ) where
       go true e = let same : key ≡ key_at i n (ticks u i (n + 1)) = cc in ap (λ k. k.component) same
       go false e = cc
 
-  key_is : (m n : ℕ) (a b : Key) → Some a ≡ key_of s i m → IsSmall a → Some b ≡ key_of t i n → IsSmall b → rank a ≡ rank b → a ≡ b
+  key_is : (m n : ℕ) (a b : Key) → Some a ≡ key_of s i m → IsTurnKey a → Some b ≡ key_of t i n → IsTurnKey b → rank a ≡ rank b → a ≡ b
   key_is m n a b h small k few same =
       let own = component_is s m a h in
       let other = component_is t n b k in
@@ -120,7 +121,7 @@ module _ (s t : System) (i : ℕ) where
       let ticks : a.tick ≡ b.tick = omega (arith, same, components, numbers) in
       λ v. record { tick = ticks v; component = components v; number = numbers v }
 
-  turn_same : (m n : ℕ) (a b : Turned) → Some a.key ≡ key_of s i m → IsSmall a.key → Some b.key ≡ key_of t i n → IsSmall b.key
+  turn_same : (m n : ℕ) (a b : Turned) → Some a.key ≡ key_of s i m → IsTurnKey a.key → Some b.key ≡ key_of t i n → IsTurnKey b.key
       → turned_eq.ghosts.eq a b ≡ same_entry (own_entry a) (own_entry b)
   turn_same m n a b h small k few =
       one_answer (turned_eq.ghosts.eq a b) (same_entry (own_entry a) (own_entry b)) (turned_decides a b)

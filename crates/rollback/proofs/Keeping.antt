@@ -23,6 +23,7 @@ use Rattle.virtual_time.specs.Bags.{IsSorted, inputs}
 use Rattle.virtual_time.specs.Records.{is_input}
 use Rattle.event_keys.specs.contracts.message.MessagePartialEq.TheImpl as message_eq
 use Rattle.antimessage.specs.Counts.{is_same}
+use Rattle.task_seed.specs.Reading.{IsTurnKey}
 use Rattle.rollback.specs.ComponentInvariant.{is_entry_input, is_any_input}
 use Rattle.rollback.proofs.Flight.{item_same}
 use Rattle.rollback.specs.Falling.{IsFalling}
@@ -40,7 +41,7 @@ use Rattle.message_balance.specs.declared.done.Done.{Done}
 use Rattle.message_balance.specs.declared.done.Done.TheVariants.{Turn, Input}
 use Rattle.rollback.specs.Flight.{goes, is_sign, item_of, items_of, AllGo}
 use Rattle.rollback.specs.Replays.{replays_below}
-use Rattle.rollback.specs.ComponentInvariant.{entry_of, entries_of, signed_of, IsSmall, AllReady, IsTimed, base_state, record_of, IsReplayed, IsQueue, IsValidComponent}
+use Rattle.rollback.specs.ComponentInvariant.{entry_of, entries_of, signed_of, AllReady, IsTimed, base_state, record_of, IsReplayed, IsQueue, IsValidComponent}
 use Rattle.rollback.specs.Coming.{is_before_own, turning, coming_of}
 
 -- the rank of a key, or the end where there is none
@@ -57,13 +58,13 @@ module _ (s : System) (i : ℕ) where
       go true h false = refl
       go false h b = cc
 
-  own_is : (r : Record (List Datum) Named) (own : Option Key) → i < length s.composition → own ≡ key_of s i (number r.first r.done) → IfSome own IsSmall
+  own_is : (r : Record (List Datum) Named) (own : Option Key) → i < length s.composition → own ≡ key_of s i (number r.first r.done) → IfSome own IsTurnKey
       → own_next (machine s) i r ≡ turning (machine s) i r own
   own_is r own there is small =
       let k : turn_rank s i (number r.first r.done) ≡ rank_or_end own = key_rank_is (number r.first r.done) there ∙ ap rank_or_end (sym is) in
       rw k (go own small)
     where
-      go : (o : Option Key) → IfSome o IsSmall → cond (nat_lt (rank_or_end o) end_rank) (Some (Own (rank_or_end o) (turn_outcome s i (number r.first r.done) (replay (machine s) i r.base r.done)))) None ≡ turning (machine s) i r o
+      go : (o : Option Key) → IfSome o IsTurnKey → cond (nat_lt (rank_or_end o) end_rank) (Some (Own (rank_or_end o) (turn_outcome s i (number r.first r.done) (replay (machine s) i r.base r.done)))) None ≡ turning (machine s) i r o
       go None h = rw (le-ltb end_rank end_rank (omega arith)) refl
       go (Some key) h = rw (lt-ltb (rank key) end_rank h.1) refl
 
@@ -78,7 +79,7 @@ module _ (s : System) (i : ℕ) where
       go (Some key) = refl
 
   -- the next entry of the theory is the one that the fields give
-  pub next_is : (r : Record (List Datum) Named) (xs : List Signed) (own : Option Key) → i < length s.composition → own ≡ key_of s i (number r.first r.done) → IfSome own IsSmall
+  pub next_is : (r : Record (List Datum) Named) (xs : List Signed) (own : Option Key) → i < length s.composition → own ≡ key_of s i (number r.first r.done) → IfSome own IsTurnKey
       → (r.pending ≡ items_of xs) → IfSome (head xs) IsTimed → next_of (machine s) i r ≡ coming_of (machine s) i r (head xs) own
   next_is r [] own there is small same timed = ap (least_of (machine s) i r) same ∙ own_is r own there is small
   next_is r (x ∷ xs) own there is small same timed =
@@ -199,7 +200,7 @@ module _ (s : System) (i : ℕ) where
 
   -- the own turn is done
   pub kept_turn : (first : ℕ) (states : States) (done : Around Done) (pending owed : Around Signed) (own next : Option Key) (turned : Turned)
-      → IsValidComponent s i first states done pending owed own → own ≡ Some turned.key → next ≡ key_of s i (turned.key.number + 1) → IfSome next IsSmall → is_before_own (head pending.after) own ≡ false
+      → IsValidComponent s i first states done pending owed own → own ≡ Some turned.key → next ≡ key_of s i (turned.key.number + 1) → IfSome next IsTurnKey → is_before_own (head pending.after) own ≡ false
       → IsValidComponent s i first (record { current = by_own (machine s) i (action_of turned.outcome) states.current; below = states.current ∷ states.below }) (record done { before = Turn turned (record { before = signed_of s Minus i turned.key turned.outcome; after = [] }) ∷ done.before }) pending owed next
   kept_turn first states done pending owed own next turned kept h is small before =
       let n = number first (entries_of done.before) in
@@ -208,7 +209,7 @@ module _ (s : System) (i : ℕ) where
       record {
         there = kept.there;
         replayed = replayed_more states done.before (Turn turned (record { before = signed_of s Minus i turned.key turned.outcome; after = [] })) (by_own (machine s) i (action_of turned.outcome) states.current) kept.replayed (ap (by_own (machine s) i (action_of turned.outcome)) kept.replayed.current);
-        ready = ((there, subst (λ (o : Option Key). IfSome o IsSmall) h kept.small, refl), kept.ready);
+        ready = ((there, subst (λ (o : Option Key). IfSome o IsTurnKey) h kept.small, refl), kept.ready);
         ahead = kept.ahead;
         next = is ∙ ap (key_of s i) (let e : turned.key.number + 1 ≡ suc n = omega (arith, same) in e);
         small = small;
@@ -259,7 +260,7 @@ module _ (s : System) (i : ℕ) where
       }
 
   -- the fields at the start
-  pub kept_new : (state : List Datum) (own : Option Key) → i < length s.composition → own ≡ key_of s i 0 → IfSome own IsSmall
+  pub kept_new : (state : List Datum) (own : Option Key) → i < length s.composition → own ≡ key_of s i 0 → IfSome own IsTurnKey
       → IsValidComponent s i 0 (record { current = state; below = [] }) (record { before = []; after = [] }) (record { before = []; after = [] }) (record { before = []; after = [] }) own
   kept_new state own there is small =
       record {

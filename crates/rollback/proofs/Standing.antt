@@ -32,7 +32,8 @@ use Rattle.message_balance.specs.declared.done.Done.{Done}
 use Rattle.message_balance.specs.declared.done.Done.TheVariants.{Turn, Input}
 use Rattle.message_balance.specs.declared.sent.Sent.{Sent}
 use Rattle.rollback.specs.Flight.{in_flight, item_of}
-use Rattle.rollback.specs.ComponentInvariant.{AllReady, IsValidComponent, IsReady, IsSmall, entries_of, record_of, signed_of}
+use Rattle.task_seed.specs.Reading.{IsTurnKey}
+use Rattle.rollback.specs.ComponentInvariant.{AllReady, IsValidComponent, IsReady, entries_of, record_of, signed_of}
 use Rattle.message_balance.specs.Balance.{all_of, count_as, is_all_sent, is_sending_of, is_sent_if_from, is_sent_balanced, is_turn_balanced}
 use Rattle.rollback.specs.Matched.{IsStanding}
 use Rattle.rollback.specs.Post.{signed_to}
@@ -78,7 +79,7 @@ module _ (s : System) (i : ℕ) (small : i < 2 ^ 16) (all : (composition : List 
     go true e = let same : key ≡ key_at i n (ticks s i (n + 1)) = cc in ap (λ k. k.component) same
     go false e = cc
 
-  key_fits : (n : ℕ) (key : Key) → Some key ≡ key_of s i n → IsSmall key → KeyFits key
+  key_fits : (n : ℕ) (key : Key) → Some key ≡ key_of s i n → IsTurnKey key → KeyFits key
   key_fits n key h low =
       let component = component_is n key h in
       let number = low.0 in

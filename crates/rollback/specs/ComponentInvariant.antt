@@ -22,6 +22,7 @@ use Rattle.virtual_time.specs.Entries.{Entry, Own, Input as Received, entry_key,
 use Rattle.virtual_time.specs.Records.{Record}
 use Rattle.task_seed.specs.Turning.{System, key_of}
 use Rattle.task_seed.specs.Machines.{machine, end_rank}
+use Rattle.task_seed.specs.Reading.{IsTurnKey}
 use Rattle.message_balance.specs.declared.done.Done.{Done}
 use Rattle.message_balance.specs.declared.done.Done.TheVariants.{Turn, Input}
 use Rattle.rollback.specs.Falling.{IsFalling}
@@ -51,13 +52,9 @@ signed_by sign key (Did action) js = map (signed_to sign key action) js
 abbrev pub signed_of : System → Sign → ℕ → Key → Outcome → List Signed
 signed_of s sign i key outcome = signed_by sign key outcome (turn_receivers s i outcome)
 
--- the number and the rank of a turn's key
-abbrev pub IsSmall : Key → Type 0
-IsSmall key = (key.number < 4294967296) × (rank key < end_rank)
-
 -- a turn has its key, and its antimessages lie ready; an input is a message to this component
 abbrev pub IsReady : System → ℕ → ℕ → Done → Type 0
-IsReady s i n (Turn turned antimessages) = (Some turned.key ≡ key_of s i n) × IsSmall turned.key × (antimessages ≡ record { before = signed_of s Minus i turned.key turned.outcome; after = [] })
+IsReady s i n (Turn turned antimessages) = (Some turned.key ≡ key_of s i n) × IsTurnKey turned.key × (antimessages ≡ record { before = signed_of s Minus i turned.key turned.outcome; after = [] })
 IsReady s i n (Input signed) = (goes Plus i signed ≡ true) × Fits signed × (rank signed.message.key < end_rank)
 
 abbrev pub AllReady : System → ℕ → ℕ → List Done → Type 0
@@ -94,7 +91,7 @@ pub record IsValidComponent (s : System) (i first : ℕ) (states : States) (done
   pub ready : AllReady s i first done.before
   pub ahead : done.after ≡ []
   pub next : coming ≡ key_of s i (number first (entries_of done.before))
-  pub small : IfSome coming IsSmall
+  pub small : IfSome coming IsTurnKey
   pub waiting : IsQueue Plus i pending
   pub owing : IsQueue Minus i owed
   pub falling : IsFalling (entries_of done.before) (items_of pending.after) coming

@@ -7,7 +7,6 @@ pub mod Falling
 pub mod ComponentInvariant
 pub mod Refusals
 pub mod Coming
-pub mod Reading
 pub mod Dropped
 pub mod Runs
 pub mod Same

@@ -10,14 +10,14 @@ ghost use Rattle.virtual_time.specs.Records.{roll_back_of};
 ghost use Rattle.task_seed.specs.Setups.{plan_of};
 ghost use Rattle.task_seed.specs.Setups.{system};
 ghost use Rattle.task_seed.specs.Turning.{key_of};
+ghost use Rattle.task_seed.specs.Reading.{IsTurnKey};
 ghost use Rattle.rollback.specs.ComponentView.{machine_of, processed, next_key, last_key, last_of, is_last_idle, is_receiving, is_turning, start_held};
-ghost use Rattle.rollback.specs.ComponentInvariant.{IsSmall, entry_of, turn_receivers};
+ghost use Rattle.rollback.specs.ComponentInvariant.{entry_of, turn_receivers};
 ghost use Rattle.rollback.specs.Stepped.{HasNextKey, IsNextSent, IsNextTurn, IsUnsent, machine_at, next_entry, stepped};
 
 use crate::growth::{outcome_at, post_all, receivers_of_turn, take_input, take_turn};
 use crate::keys::{fits, is_below, key_of};
 use crate::refused::ProcessRefused;
-use crate::turn_reader::TurnReader;
 use antimessage::Bag;
 use event_keys::{Bound, Key, Outcome, Signed, Turned};
 use message_balance::Done;
@@ -26,7 +26,7 @@ use raw_events::EventList;
 use std::alloc::Global;
 use std::marker::Model;
 use std::sync::Arc;
-use task_seed::{Setup, Turns};
+use task_seed::{Setup, TurnReader, Turns};
 use terms::NoMemory;
 use undo_records::Store;
 
@@ -68,7 +68,7 @@ impl<T: Turns> Model for Component<T> {
 
     ghost use Rattle.task_seed.specs.Setups.{system};
     ghost use Rattle.rollback.specs.ComponentInvariant.{record_of, IsValidComponent};
-    ghost use Rattle.rollback.specs.Reading.{IsRead};
+    ghost use Rattle.task_seed.specs.Reading.{IsRead};
 
     ghost view = { λ c. record { setup = arc_value c.setup; number = c.number; base = c.base; history = record_of c.store c.first c.done c.pending c.owed } };
 
@@ -333,7 +333,7 @@ fn is_idle_outcome(outcome: &Outcome) -> bool
 // The key of the first turn, if there is one.
 fn first_key<T: Turns>(setup: &Setup<T>, i: u16) -> Option<Key>
     ensures key { result ≡ key_of (system T.turn_of setup.now) i 0 }
-    ensures small { IfSome result IsSmall }
+    ensures small { IfSome result IsTurnKey }
 {
     let key = setup.first_key(i)?;
     fits(key);

@@ -12,7 +12,6 @@ pub mod laws;
 mod matching;
 pub mod refused;
 mod same;
-mod turn_reader;
 
 pub use component::Component;
 pub use copied::Copies;

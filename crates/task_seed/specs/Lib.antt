@@ -16,4 +16,5 @@ pub mod Ticks
 pub mod Turning
 pub mod Walks
 pub mod Machines
+pub mod Reading
 pub mod MachineLaws

@@ -8,6 +8,7 @@ pub mod seed_turns;
 pub mod setup;
 pub mod table;
 pub mod table_turns;
+pub mod turn_reader;
 pub mod turns;
 
 pub use any_turns::AnyTurns;
@@ -15,4 +16,5 @@ pub use seed_turns::{SeedTurns, SeedTurnsError};
 pub use setup::{Setup, SetupError};
 pub use table::{ReadTableError, Row, read_table};
 pub use table_turns::{TableTurns, TableTurnsError};
+pub use turn_reader::TurnReader;
 pub use turns::{KeyedTurn, Turn, Turns, Walk};

@@ -51,7 +51,7 @@ impl Refusal for SetupError {
 }
 
 impl<T: Turns> Setup<T> {
-    ghost use Rattle.std.specs.Prelude.{◌≡◌, ℕ, ◌≤◌, ◌<◌, ◌+◌, ◌↔◌, Option, None, Some, IfSome, IfOk, IsErrOf, IsSome, option_map};
+    ghost use Rattle.std.specs.Prelude.{◌≡◌, ℕ, ◌≤◌, ◌<◌, ◌+◌, ◌↔◌, Option, None, Some, IfSome, IfOk, IsErrOf, IsSome, IsSomeAnd, option_map};
     ghost use Rattle.plans.specs.Outcomes.{task_count};
     ghost use Rattle.plans.specs.Plans.{composition};
     ghost use Rattle.task_seed.specs.Turning.{key_at, key_of, turn_in, with_task_below, Reaches};
@@ -214,9 +214,14 @@ impl<T: Turns> Setup<T> {
         ensures stands { IfSome walk.new (λ walk. T.stands (source_of self.now) walk i walk.number) }
     {
         let number = key.number + 1;
-        let mut own = self.walk_from(i, number, walk.take());
-        let timed = self.next_turn(i, number, key.tick, &mut own)?;
-        *walk = Some(own);
+        self.put_before(i, number, walk);
+        let Some(own) = walk else {
+            return None;
+        };
+        let Some(timed) = self.next_turn(i, number, key.tick, own) else {
+            *walk = None;
+            return None;
+        };
         let key = Key {
             tick: timed.tick,
             component: i,
@@ -228,14 +233,14 @@ impl<T: Turns> Setup<T> {
         })
     }
 
-    // A walk that stands before turn `n`: the given one, if it does.
-    fn walk_from(&self, i: u16, n: u64, walk: Option<Walk>) -> Walk
-        requires { IfSome walk (λ walk. T.stands (source_of self.now) walk i walk.number) }
-        ensures { T.stands (source_of self.now) result i n }
+    // Has a walk stand before turn `n`; it stays if it does.
+    fn put_before(&self, i: u16, n: u64, walk: &mut Option<Walk>)
+        requires { IfSome walk.old (λ walk. T.stands (source_of self.now) walk i walk.number) }
+        ensures { IsSomeAnd walk.new (λ walk. T.stands (source_of self.now) walk i n) }
     {
         match walk {
-            Some(walk) if walk.number == n => walk,
-            _ => self.turns.walk(i, n),
+            Some(own) if own.number == n => {}
+            _ => *walk = Some(self.turns.walk(i, n)),
         }
     }
 

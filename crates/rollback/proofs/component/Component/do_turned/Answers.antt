@@ -12,7 +12,7 @@ use Rattle.message_balance.specs.declared.done.Done.TheVariants.{Turn}
 use Rattle.rollback.specs.ComponentView.{ComponentView, machine_of, processed}
 use Rattle.rollback.specs.ComponentInvariant.{record_of, signed_of}
 use Rattle.rollback.specs.Post.{IsPosted}
-use Rattle.rollback.specs.Reading.{IsRead}
+use Rattle.task_seed.specs.Reading.{IsRead}
 use Rattle.rollback.specs.Stepped.{IsComingTurn, IsNextTurn, IsNextSent, stepped}
 use Rattle.rollback.proofs.Keeping.{kept_turn}
 use Rattle.rollback.proofs.Stepping.{not_before, own_is, turn_record, turn_sent}
