@@ -5,4 +5,5 @@ pub mod Runs
 mod Scheduled
 mod Stepping
 mod Takers
+mod Unread
 pub mod Taken

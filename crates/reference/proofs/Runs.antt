@@ -22,7 +22,7 @@ or_false false true c h = cc
 or_false false false true h = cc
 or_false false false false h = (refl, refl, refl)
 
-wider : (a b c : Truth) → (b || c) ≡ true → (a || b || c) ≡ true
+pub wider : (a b c : Truth) → (b || c) ≡ true → (a || b || c) ≡ true
 wider true b c h = refl
 wider false b c h = h
 

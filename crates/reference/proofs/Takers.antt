@@ -1,21 +1,20 @@
 -- Components take an action one after another.
-use Rattle.std.proofs.Common.{◌≡◌, ℕ, zero, suc, ◌+◌, ◌<◌, ◌⊎◌, inl, inr, Bool, true, false, Some, List, [], ◌∷◌, length, refl, ap, sym, subst, ◌∙◌, arith}
-use Rattle.std.specs.Prelude.{cond, ◌||◌, ◌==◌, slice_get, slice_set, slice_index_or, option_map}
+use Rattle.std.proofs.Common.{◌≡◌, ℕ, zero, suc, ◌+◌, ◌<◌, ◌⊎◌, inl, inr, Bool, true, false, Option, None, Some, List, [], ◌∷◌, length, take, refl, ap, sym, subst, ◌∙◌, arith}
+use Rattle.std.specs.Prelude.{cond, ◌||◌, ◌==◌, slice_get, slice_set, slice_index, slice_index_or, option_map}
 use Rattle.std.proofs.lemmas.Bool.{cases_eq, eq-eqb, ne_eqb}
 use Rattle.std.proofs.lemmas.Option.{slice_get-get_or}
 use Rattle.terms.specs.Named.{Named}
-use Rattle.undo_records.specs.States.{States, undone, without_first}
+use Rattle.undo_records.specs.States.{States, undone}
 use Rattle.plans.specs.Automata.{Instance}
 use Rattle.plans.specs.Receivers.{IsIn}
-use Rattle.plans.specs.Steps.{applied}
-use Rattle.reference.specs.Taking.{Distinct, plain, taking}
+use Rattle.reference.specs.Taking.{Distinct, IsPassed, AreMarked, changed, marking}
 
-pub get_same : {X : Type 0} (xs : List X) (n : ℕ) (x : X) → n < length xs → slice_get (slice_set xs n x) n ≡ Some x
+get_same : {X : Type 0} (xs : List X) (n : ℕ) (x : X) → n < length xs → slice_get (slice_set xs n x) n ≡ Some x
 get_same [] n x h = absurd (omega (arith, h))
 get_same (y ∷ ys) zero x h = refl
 get_same (y ∷ ys) (suc n) x h = get_same ys n x (omega (arith, h))
 
-pub get_other : {X : Type 0} (xs : List X) (n : ℕ) (x : X) (j : ℕ) → (j ≡ n → ⊥) → slice_get (slice_set xs n x) j ≡ slice_get xs j
+get_other : {X : Type 0} (xs : List X) (n : ℕ) (x : X) (j : ℕ) → (j ≡ n → ⊥) → slice_get (slice_set xs n x) j ≡ slice_get xs j
 get_other [] n x j ne = refl
 get_other (y ∷ ys) zero x zero ne = absurd (ne refl)
 get_other (y ∷ ys) zero x (suc j) ne = refl
@@ -27,94 +26,147 @@ slice_set-length [] n x = refl
 slice_set-length (y ∷ ys) zero x = refl
 slice_set-length (y ∷ ys) (suc n) x = ap suc (slice_set-length ys n x)
 
--- what was put in a place is replaced by what was there
-set_back : {X : Type 0} (xs : List X) (n : ℕ) (x y : X) → slice_get xs n ≡ Some y → slice_set (slice_set xs n x) n y ≡ xs
-set_back [] n x y h = cc
-set_back (z ∷ zs) zero x y h = let same : z ≡ y = cc in ap (λ w. w ∷ zs) (sym same)
-set_back (z ∷ zs) (suc n) x y h = ap (λ l. z ∷ l) (set_back zs n x y h)
+-- what is there already is put in a place
+set_same : {X : Type 0} (xs : List X) (n : ℕ) (x : X) → slice_get xs n ≡ Some x → slice_set xs n x ≡ xs
+set_same [] n x h = refl
+set_same (y ∷ ys) zero x h = let same : y ≡ x = cc in ap (λ z. z ∷ ys) (sym same)
+set_same (y ∷ ys) (suc n) x h = ap (λ l. y ∷ l) (set_same ys n x h)
 
-module _ (c : List Instance) (a : Named) (takers : List ℕ) (i : ℕ) (js : List ℕ) (is : takers ≡ i ∷ js) (n : ℕ) (n_is : n ≡ i) (olds : List States)
-    (once : Distinct takers) (within : (j : ℕ) → IsIn j takers ≡ true → j < length olds)
-    (bare : (j : ℕ) (state : States) → IsIn j takers ≡ true → slice_get olds j ≡ Some state → state.below ≡ []) where
-  own : IsIn i takers ≡ true
-  own = subst (λ l. IsIn i l ≡ true) (sym is) (ap (λ b. b || IsIn i js) (eq-eqb i i refl))
+same_lists : {X : Type 0} (xs ys : List X) → ((j : ℕ) → slice_get xs j ≡ slice_get ys j) → xs ≡ ys
+same_lists [] [] h = refl
+same_lists [] (y ∷ ys) h = let none : None ≡ Some y = h 0 in cc
+same_lists (x ∷ xs) [] h = let none : Some x ≡ None = h 0 in cc
+same_lists (x ∷ xs) (y ∷ ys) h =
+    let first : Some x ≡ Some y = h 0 in
+    let same : x ≡ y = cc in
+    let rest = same_lists xs ys (λ j. h (suc j)) in
+    λ i. same i ∷ rest i
 
-  other : (j : ℕ) → IsIn j js ≡ true → IsIn j takers ≡ true
-  other j h = subst (λ l. IsIn j l ≡ true) (sym is) (go (j == i)) where
-    go : (b : Bool) → (b || IsIn j js) ≡ true
-    go true = refl
-    go false = h
+pub in_at : (ts : List ℕ) (k : ℕ) → k < length ts → IsIn (slice_index ts k) ts ≡ true
+in_at [] k h = absurd (omega (arith, h))
+in_at (t ∷ ts) zero h = ap (λ b. b || IsIn t ts) (eq-eqb t t refl)
+in_at (t ∷ ts) (suc k) h = go (slice_index ts k == t) (in_at ts k (omega (arith, h))) where
+  go : (b : Bool) → IsIn (slice_index ts k) ts ≡ true → (b || IsIn (slice_index ts k) ts) ≡ true
+  go true later = refl
+  go false later = later
 
-  pub short : n < length olds
-  short = let w = within i own in omega (arith, w, n_is)
+-- one that is reached was not there before
+fresh : (ts : List ℕ) (k : ℕ) → Distinct ts → k < length ts → IsIn (slice_index ts k) (take k ts) ≡ false
+fresh [] k once h = absurd (omega (arith, h))
+fresh (t ∷ ts) zero once h = refl
+fresh (t ∷ ts) (suc k) once h = ap (λ b. b || IsIn x (take k ts)) (ne_eqb x t apart) ∙ fresh ts k once.1 (omega (arith, h)) where
+  x : ℕ
+  x = slice_index ts k
 
-  pub distinct : (IsIn i js ≡ false) × Distinct js
-  distinct = subst Distinct is once
+  apart : x ≡ t → ⊥
+  apart e =
+      let there : IsIn x ts ≡ true = in_at ts k (omega (arith, h)) in
+      let gone : IsIn x ts ≡ false = subst (λ y. IsIn y ts ≡ false) (sym e) once.0 in
+      cc
 
-  apart : (j : ℕ) → IsIn j js ≡ true → j ≡ i → ⊥
-  apart j h e = let none : IsIn j js ≡ false = subst (λ k. IsIn k js ≡ false) (sym e) distinct.0 in cc
+in_more : (j : ℕ) (ts : List ℕ) (k : ℕ) → k < length ts → IsIn j (take (suc k) ts) ≡ (IsIn j (take k ts) || (j == slice_index ts k))
+in_more j [] k h = absurd (omega (arith, h))
+in_more j (t ∷ ts) zero h = go (j == t) where
+  go : (b : Bool) → (b || false) ≡ b
+  go true = refl
+  go false = refl
+in_more j (t ∷ ts) (suc k) h = ap (λ b. (j == t) || b) (in_more j ts k (omega (arith, h))) ∙ go (j == t) (IsIn j (take k ts)) (j == slice_index ts k) where
+  go : (a b c : Bool) → (a || (b || c)) ≡ ((a || b) || c)
+  go true b c = refl
+  go false b c = refl
 
-  not_own : (j : ℕ) → (j ≡ n → ⊥) → IsIn j js ≡ IsIn j takers
-  not_own j ne = sym (ap (IsIn j) is ∙ ap (λ b. b || IsIn j js) (ne_eqb j i (λ e. ne (e ∙ sym n_is))))
+-- those before a place are among all
+in_take : (j : ℕ) (ts : List ℕ) (k : ℕ) → IsIn j (take k ts) ≡ true → IsIn j ts ≡ true
+in_take j [] zero h = h
+in_take j [] (suc k) h = h
+in_take j (t ∷ ts) zero h = let out : ◌≡◌ {A = Bool} false true = h in cc
+in_take j (t ∷ ts) (suc k) h = go (j == t) (in_take j ts k) h where
+  go : (b : Bool) → (IsIn j (take k ts) ≡ true → IsIn j ts ≡ true) → (b || IsIn j (take k ts)) ≡ true → (b || IsIn j ts) ≡ true
+  go true later g = refl
+  go false later g = later g
 
-  module _ (d : States) where
-    abbrev pub x : States
-    x = slice_index_or olds n d
+pub distinct_take : (ts : List ℕ) (k : ℕ) → Distinct ts → Distinct (take k ts)
+distinct_take [] zero once = tt
+distinct_take [] (suc k) once = tt
+distinct_take (t ∷ ts) zero once = tt
+distinct_take (t ∷ ts) (suc k) once = (go (IsIn t (take k ts)) refl, distinct_take ts k once.1) where
+  go : (b : Bool) → IsIn t (take k ts) ≡ b → b ≡ false
+  go false e = refl
+  go true e = let there : IsIn t ts ≡ true = in_take t ts k e in let gone : ◌≡◌ {A = Bool} false true = sym once.0 ∙ there in cc
 
-    there : slice_get olds n ≡ Some x
-    there = slice_get-get_or olds n d short
+pub first_within : (ts : List ℕ) (k many news : ℕ) → ((j : ℕ) → IsIn j ts ≡ true → j < many) → news ≡ many → (j : ℕ) → IsIn j (take k ts) ≡ true → j < news
+first_within ts k many news within same j h = let w = within j (in_take j ts k h) in omega (arith, w, same)
 
-    x_bare : x.below ≡ []
-    x_bare = bare i x own (ap (slice_get olds) (sym n_is) ∙ there)
+-- the first k of these made a change, and the next one is n
+module _ (change : ℕ → States → States) (ts : List ℕ) (once : Distinct ts) (olds nows : List States) (k n : ℕ) (n_is : n ≡ slice_index ts k) (before : k < length ts)
+    (within : (j : ℕ) → IsIn j ts ≡ true → j < length olds) (passed : IsPassed change (take k ts) olds nows) where
+  n_in : IsIn n ts ≡ true
+  n_in = subst (λ m. IsIn m ts ≡ true) (sym n_is) (in_at ts k before)
 
-    module _ (new : States) (new_is : new ≡ record { current = applied c i a x.current; below = x.current ∷ x.below }) where
-      pub mid_within : (j : ℕ) → IsIn j js ≡ true → j < length (slice_set olds n new)
-      mid_within j h = let w = within j (other j h) in let e = slice_set-length olds n new in omega (arith, w, e)
+  pub short : n < length nows
+  short = let many = passed.many in let w = within n n_in in omega (arith, many, w)
 
-      pub mid_bare : (j : ℕ) (state : States) → IsIn j js ≡ true → slice_get (slice_set olds n new) j ≡ Some state → state.below ≡ []
-      mid_bare j state h g = bare j state (other j h) (sym (get_other olds n new j (λ e. apart j h (e ∙ n_is))) ∙ g)
+  n_fresh : IsIn n (take k ts) ≡ false
+  n_fresh = subst (λ m. IsIn m (take k ts) ≡ false) (sym n_is) (fresh ts k once before)
 
-      module _ (nows : List States) (many : length nows ≡ length (slice_set olds n new)) where
-        pub still_short : n < length nows
-        still_short = let e = slice_set-length olds n new in let s = short in omega (arith, e, s, many)
+  untouched : slice_get nows n ≡ slice_get olds n
+  untouched = passed.each n ∙ ap (λ b. option_map (λ s. cond b (change n s) s) (slice_get olds n)) n_fresh ∙ go (slice_get olds n) where
+    go : (o : Option States) → option_map (λ s. s) o ≡ o
+    go None = refl
+    go (Some s) = refl
 
-        -- the mark is undone
-        pub gone_back : nows ≡ slice_set olds n new → (d' back : States) → back ≡ undone (slice_index_or nows n d') → slice_set nows n back ≡ olds
-        gone_back same d' back back_is = ap (λ l. slice_set l n back) same ∙ ap (slice_set (slice_set olds n new) n) is_x ∙ set_back olds n new x there
-          where
-            at : Some (slice_index_or nows n d') ≡ Some new
-            at = sym (slice_get-get_or nows n d' still_short) ∙ ap (λ l. slice_get l n) same ∙ get_same olds n new short
+  there : (d : States) → slice_get nows n ≡ Some (slice_index_or nows n d)
+  there d = slice_get-get_or nows n d short
 
-            at_new : slice_index_or nows n d' ≡ new
-            at_new = let e = at in cc
+  -- its state is as it was
+  pub as_was : (d : States) → slice_get olds n ≡ Some (slice_index_or nows n d)
+  as_was d = sym untouched ∙ there d
 
-            is_x : back ≡ x
-            is_x = back_is ∙ ap undone (at_new ∙ new_is)
+  pub marked_here : (d : States) → AreMarked ts olds → 1 < length (slice_index_or nows n d).below + 1
+  marked_here d marked = let some = marked n (slice_index_or nows n d) n_in (as_was d) in omega (arith, some)
 
-        module _ (rest : (j : ℕ) → slice_get nows j ≡ option_map (taking c a js j) (slice_get (slice_set olds n new) j)) (d' : States) where
-          at : Some (slice_index_or nows n d') ≡ Some new
-          at = sym (slice_get-get_or nows n d' still_short) ∙ rest n ∙ ap (option_map (taking c a js n)) (get_same olds n new short) ∙ ap (λ b. Some (cond b (plain (applied c n a new.current)) new)) (subst (λ k. IsIn k js ≡ false) (sym n_is) distinct.0)
+  pub one_more : (d new : States) → new ≡ change n (slice_index_or nows n d) → IsPassed change (take (k + 1) ts) olds (slice_set nows n new)
+  one_more d new new_is = record { many = slice_set-length nows n new ∙ passed.many; each = each } where
+    more : take (k + 1) ts ≡ take (suc k) ts
+    more = let e : k + 1 ≡ suc k = omega arith in ap (λ m. take m ts) e
 
-          at_is : slice_index_or nows n d' ≡ record { current = applied c i a x.current; below = x.current ∷ [] }
-          at_is = let e = at in let f : slice_index_or nows n d' ≡ new = cc in f ∙ new_is ∙ ap (λ b. record { current = applied c i a x.current; below = x.current ∷ b }) x_bare
+    in_next : (j : ℕ) → IsIn j (take (k + 1) ts) ≡ (IsIn j (take k ts) || (j == n))
+    in_next j = ap (IsIn j) more ∙ in_more j ts k before ∙ ap (λ m. IsIn j (take k ts) || (j == m)) (sym n_is)
 
-          pub one_marked : 1 < length (slice_index_or nows n d').below + 1
-          one_marked = let e : length (slice_index_or nows n d').below ≡ 1 = ap (λ (s : States). length s.below) at_is in omega (arith, e)
+    own : IsIn n (take (k + 1) ts) ≡ true
+    own = in_next n ∙ ap (λ b. b || (n == n)) n_fresh ∙ eq-eqb n n refl
 
-          pub all_taken : (last : States) → last ≡ without_first 1 (slice_index_or nows n d') → (j : ℕ) → slice_get (slice_set nows n last) j ≡ option_map (taking c a takers j) (slice_get olds j)
-          all_taken last last_is j = go (cases_eq j n)
-            where
-              last_plain : last ≡ plain (applied c i a x.current)
-              last_plain = last_is ∙ ap (without_first 1) at_is
+    drops : (b : Bool) → (b || false) ≡ b
+    drops true = refl
+    drops false = refl
 
-              here : slice_get (slice_set nows n last) n ≡ option_map (taking c a takers n) (slice_get olds n)
-              here =
-                  get_same nows n last still_short ∙ ap (λ s. Some s) (last_plain ∙ ap (λ k. plain (applied c k a x.current)) (sym n_is))
-                  ∙ ap (λ b. Some (cond b (plain (applied c n a x.current)) x)) (sym (subst (λ k. IsIn k takers ≡ true) (sym n_is) own))
-                  ∙ sym (ap (option_map (taking c a takers n)) there)
+    other : (j : ℕ) → (j ≡ n → ⊥) → IsIn j (take (k + 1) ts) ≡ IsIn j (take k ts)
+    other j ne = in_next j ∙ ap (λ b. IsIn j (take k ts) || b) (ne_eqb j n ne) ∙ drops (IsIn j (take k ts))
 
-              go : (j ≡ n) ⊎ (j ≡ n → ⊥) → slice_get (slice_set nows n last) j ≡ option_map (taking c a takers j) (slice_get olds j)
-              go (inl e) = subst (λ k. slice_get (slice_set nows n last) k ≡ option_map (taking c a takers k) (slice_get olds k)) (sym e) here
-              go (inr ne) =
-                  get_other nows n last j ne ∙ rest j ∙ ap (option_map (taking c a js j)) (get_other olds n new j ne)
-                  ∙ ap (λ b. option_map (λ (s : States). cond b (plain (applied c j a s.current)) s) (slice_get olds j)) (not_own j ne)
+    here : slice_get (slice_set nows n new) n ≡ option_map (changed change (take (k + 1) ts) n) (slice_get olds n)
+    here =
+        get_same nows n new short ∙ ap (λ s. Some s) new_is
+        ∙ sym (ap (option_map (changed change (take (k + 1) ts) n)) (as_was d) ∙ ap (λ b. Some (cond b (change n (slice_index_or nows n d)) (slice_index_or nows n d))) own)
+
+    each : (j : ℕ) → slice_get (slice_set nows n new) j ≡ option_map (changed change (take (k + 1) ts) j) (slice_get olds j)
+    each j = go (cases_eq j n) where
+      go : (j ≡ n) ⊎ (j ≡ n → ⊥) → slice_get (slice_set nows n new) j ≡ option_map (changed change (take (k + 1) ts) j) (slice_get olds j)
+      go (inl e) = subst (λ m. slice_get (slice_set nows n new) m ≡ option_map (changed change (take (k + 1) ts) m) (slice_get olds m)) (sym e) here
+      go (inr ne) = get_other nows n new j ne ∙ passed.each j ∙ ap (λ b. option_map (λ s. cond b (change j s) s) (slice_get olds j)) (sym (other j ne))
+
+-- a refused taker is as it was, and the marks of those before it are undone
+pub gone_back : (c : List Instance) (a : Named) (ts : List ℕ) (olds nows news : List States) (n : ℕ) (d back : States) → n < length nows → back ≡ slice_index_or nows n d
+    → IsPassed (marking c a) ts olds nows → IsPassed (λ _. undone) ts (slice_set nows n back) news → news ≡ olds
+gone_back c a ts olds nows news n d back short back_is marked unmarked = same_lists news olds each where
+  same : slice_set nows n back ≡ nows
+  same = set_same nows n back (slice_get-get_or nows n d short ∙ ap (λ s. Some s) (sym back_is))
+
+  undo_mark : (j : ℕ) (b : Bool) (o : Option States) → option_map (λ s. cond b (undone s) s) (option_map (λ s. cond b (marking c a j s) s) o) ≡ o
+  undo_mark j b None = refl
+  undo_mark j true (Some s) = refl
+  undo_mark j false (Some s) = refl
+
+  each : (j : ℕ) → slice_get news j ≡ slice_get olds j
+  each j =
+      unmarked.each j ∙ ap (λ l. option_map (changed (λ _. undone) ts j) (slice_get l j)) same
+      ∙ ap (option_map (changed (λ _. undone) ts j)) (marked.each j) ∙ undo_mark j (IsIn j ts) (slice_get olds j)

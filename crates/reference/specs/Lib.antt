@@ -1,4 +1,5 @@
 pub mod Queues
+pub mod Reading
 pub mod Schedules
 pub mod Standing
 pub mod Taking

@@ -6,7 +6,9 @@ use Rattle.plans.specs.declared.automaton.Kind.{Kind}
 use Rattle.plans.specs.declared.automaton.Kind.TheVariants.{Input, Output, Internal}
 use Rattle.plans.specs.Automata.{Instance}
 use Rattle.plans.specs.Signatures.{acts, controls}
-use Rattle.plans.specs.Steps.{Leads, IsSchedule, start_of, is_enabled}
+use Rattle.plans.specs.Steps.{Joint, Leads, IsSchedule, start_of, is_enabled}
+use Rattle.reference.specs.declared.checking.Fault.{Fault}
+use Rattle.reference.specs.declared.checking.Fault.TheVariants.{Barred, Foreign}
 use Rattle.reference.specs.declared.checking.Verdict.{Verdict}
 use Rattle.reference.specs.declared.checking.Verdict.TheVariants.{Schedule, NotEnabled, NotAnAction}
 
@@ -52,3 +54,14 @@ is_control (Some Internal) = true
 abbrev pub IsPermitted : List Instance → Named → (ℕ → List Datum) → Truth → Type 0
 IsPermitted composition action states true = (i : ℕ) → controls composition i action ≡ true → is_enabled composition i action (states i) ≡ true
 IsPermitted composition action states false = IsBarred composition action states
+
+-- the component has its precondition if it controls the action, or it controls it and has not
+abbrev pub IsPermittedBy : List Instance → Named → ℕ → List Datum → Truth → Type 0
+IsPermittedBy composition action i state true = controls composition i action ≡ true → is_enabled composition i action state ≡ true
+IsPermittedBy composition action i state false = (controls composition i action ≡ true) × (is_enabled composition i action state ≡ false)
+
+-- a joint step has been made, or the action is barred or of no component
+abbrev pub IsStepped : List Instance → Named → List (List Datum) → List (List Datum) → Option Fault → Type 0
+IsStepped composition action olds news None = Joint composition (state_at olds) action (state_at news)
+IsStepped composition action olds news (Some Barred) = IsBarred composition action (state_at olds)
+IsStepped composition action olds news (Some Foreign) = (i : ℕ) → acts composition i action ≡ false

@@ -1,12 +1,12 @@
 //! Lists of actions checked against a composition.
-ghost use Rattle.std.specs.Prelude.{◌≡◌, ℕ, List, IfOk, OnOk, map, length, is_some};
+ghost use Rattle.std.specs.Prelude.{◌≡◌, ℕ, List, IfOk, OnOk, map, length};
 ghost use Rattle.std.specs.List.{range_with_len};
 ghost use Rattle.terms.specs.Named.{Named};
 ghost use Rattle.plans.specs.Automata.{Instance};
 ghost use Rattle.plans.specs.Plans.{composition};
-ghost use Rattle.plans.specs.Signatures.{kind_of, some_component};
+ghost use Rattle.plans.specs.Signatures.{takers_of};
 ghost use Rattle.plans.specs.Steps.{start_of, applied};
-ghost use Rattle.reference.specs.Verdicts.{IsVerdict, IsPermitted, is_control, state_at};
+ghost use Rattle.reference.specs.Verdicts.{IsVerdict, IsPermitted, IsPermittedBy, IsStepped, is_control, state_at};
 
 use plans::{Kind, Plan};
 use std::alloc::Global;
@@ -36,13 +36,6 @@ fn start_states(alloc: Global, plan: &Plan) -> Result<Vec<State>, NoMemory>
     Ok(states)
 }
 
-// Whether some component has the action.
-fn is_action(plan: &Plan, action: &Action) -> bool
-    ensures { result ≡ some_component (composition plan.now) (λ i. is_some (kind_of (composition plan.now) i action.now)) }
-{
-    (0..plan.components()).any(|i| plan.kind(i, action).is_some())
-}
-
 fn is_control(kind: Option<Kind>) -> bool
     ensures { result ≡ is_control kind }
 {
@@ -52,20 +45,36 @@ fn is_control(kind: Option<Kind>) -> bool
     }
 }
 
+// Whether the precondition of the action holds where the component controls it.
+fn permits(
+    alloc: Global,
+    plan: &Plan,
+    action: &Action,
+    i: u16,
+    state: &State,
+) -> Result<bool, NoMemory>
+    ensures { IfOk result (IsPermittedBy (composition plan.now) action.now i state.now) }
+{
+    if is_control(plan.kind(i, action)) {
+        return plan.is_enabled(alloc, i, action, state);
+    }
+    Ok(true)
+}
+
 // Whether the precondition of the action holds for each component that controls it.
 fn is_permitted(
     alloc: Global,
     plan: &Plan,
     action: &Action,
+    takers: &[u16],
     states: &[State],
 ) -> Result<bool, NoMemory>
-    requires { length states.now ≡ length (composition plan.now) }
+    requires many { length states.now ≡ length (composition plan.now) }
+    requires takers { takers.now ≡ takers_of (composition plan.now) action.now }
     ensures { IfOk result (IsPermitted (composition plan.now) action.now (state_at states.now)) }
 {
-    for i in 0..plan.components() {
-        if is_control(plan.kind(i, action))
-            && !plan.is_enabled(alloc, i, action, &states[usize::from(i)])?
-        {
+    for i in takers {
+        if !permits(alloc, plan, action, *i, &states[usize::from(*i)])? {
             return Ok(false);
         }
     }
@@ -77,22 +86,72 @@ fn take_action(
     alloc: Global,
     plan: &Plan,
     action: &Action,
+    takers: &[u16],
     states: &mut [State],
 ) -> Result<(), NoMemory>
-    requires { length states.old ≡ length (composition plan.now) }
+    requires many { length states.old ≡ length (composition plan.now) }
+    requires takers { takers.now ≡ takers_of (composition plan.now) action.now }
     ensures many { length states.new ≡ length states.old }
     ensures taken { OnOk result ((i : ℕ) → state_at states.new i ≡ applied (composition plan.now) i action.now (state_at states.old i)) }
 {
-    for i in 0..plan.components() {
-        plan.apply(alloc, i, action, &mut states[usize::from(i)])?;
+    for i in takers {
+        plan.apply(alloc, *i, action, &mut states[usize::from(*i)])?;
     }
     Ok(())
+}
+
+// What is wrong with an action.
+#[derive(Clone, Copy)]
+enum Fault {
+    Barred,
+    Foreign,
+}
+
+// Takes an action, or says what is wrong with it.
+fn step(
+    alloc: Global,
+    plan: &Plan,
+    action: &Action,
+    states: &mut [State],
+) -> Result<Option<Fault>, NoMemory>
+    requires { length states.old ≡ length (composition plan.now) }
+    ensures many { length states.new ≡ length states.old }
+    ensures stepped { IfOk result (IsStepped
+        (composition plan.now) action.now states.old states.new) }
+{
+    let takers = plan.takers(alloc, action)?;
+    let fault = step_of(alloc, plan, action, takers.as_slice(), states);
+    drop(takers);
+    fault
+}
+
+fn step_of(
+    alloc: Global,
+    plan: &Plan,
+    action: &Action,
+    takers: &[u16],
+    states: &mut [State],
+) -> Result<Option<Fault>, NoMemory>
+    requires many { length states.old ≡ length (composition plan.now) }
+    requires takers { takers.now ≡ takers_of (composition plan.now) action.now }
+    ensures many { length states.new ≡ length states.old }
+    ensures stepped { IfOk result (IsStepped
+        (composition plan.now) action.now states.old states.new) }
+{
+    if takers.is_empty() {
+        return Ok(Some(Fault::Foreign));
+    }
+    if !is_permitted(alloc, plan, action, takers, states)? {
+        return Ok(Some(Fault::Barred));
+    }
+    take_action(alloc, plan, action, takers, states)?;
+    Ok(None)
 }
 
 /// Whether the actions are a schedule of the composition, or which of them is the first at fault. An
 /// action of no component is told before any precondition; one that is only an input is always taken.
 ///
-/// Its time grows with the number of actions times the number of components.
+/// Its time grows with the number of components, and for each action with that of those that have it.
 ///
 /// # Errors
 ///
@@ -103,13 +162,11 @@ pub fn check_run(alloc: Global, plan: &Plan, actions: &[Action]) -> Result<Verdi
 {
     let mut states = start_states(alloc, plan)?;
     for (at, action) in actions.iter().enumerate() {
-        if !is_action(plan, action) {
-            return Ok(Verdict::NotAnAction(at));
+        match step(alloc, plan, action, &mut states)? {
+            None => {}
+            Some(Fault::Foreign) => return Ok(Verdict::NotAnAction(at)),
+            Some(Fault::Barred) => return Ok(Verdict::NotEnabled(at)),
         }
-        if !is_permitted(alloc, plan, action, &states)? {
-            return Ok(Verdict::NotEnabled(at));
-        }
-        take_action(alloc, plan, action, &mut states)?;
     }
     Ok(Verdict::Schedule)
 }

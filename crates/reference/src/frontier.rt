@@ -9,10 +9,12 @@ ghost use Rattle.plans.specs.Steps.{start_of};
 ghost use Rattle.task_seed.specs.Setups.{system, plan_of};
 ghost use Rattle.task_seed.specs.Machines.{machine};
 ghost use Rattle.reference.specs.Queues.{IsQueue, least_first, replaced};
+ghost use Rattle.reference.specs.Reading.{AreRead};
 ghost use Rattle.reference.specs.Standing.{taken_at, IsBeforeLeast};
 ghost use Rattle.reference.specs.Taking.{plain};
 ghost use Rattle.reference.specs.Views.{IsNextTurn, IsComplete};
 
+use crate::readers::Readers;
 use crate::taking::take_turn;
 use event_keys::laws::rank_law;
 use event_keys::{Key, Turned};
@@ -34,6 +36,7 @@ pub(crate) struct Frontier {
     queue: BinaryHeap<Reverse<Key>>,
     // One state for each component, but inside a call.
     states: Vec<Store>,
+    readers: Readers,
 }
 
 fn first_keys<T: Turns>(
@@ -96,13 +99,19 @@ impl Frontier {
     pub(crate) fn start<T: Turns>(alloc: Global, setup: &Setup<T>) -> Result<Frontier, NoMemory>
         ensures stands { IfOk result (λ frontier. IsBeforeLeast (system T.turn_of setup.now) (heap_items frontier.queue) frontier.states.items) }
         ensures none { IfOk result (λ frontier. taken_at (system T.turn_of setup.now) (heap_items frontier.queue) ≡ []) }
+        ensures read { IfOk result (λ f. AreRead T.turn_of T.stands setup.now f.readers.readers.items) }
     {
         machine_is_lawful(setup);
         reference_is_one::<State, Action>();
         reference_is_complete::<State, Action>();
         let queue = first_keys(alloc, setup)?;
         let states = start_states(alloc, setup.plan())?;
-        Ok(Frontier { queue, states })
+        let readers = Readers::new(alloc, setup)?;
+        Ok(Frontier {
+            queue,
+            states,
+            readers,
+        })
     }
 
     /// Takes the turn with the least key, if there is one. A refusal leaves everything as it was.
@@ -111,8 +120,10 @@ impl Frontier {
         alloc: Global,
         setup: &Setup<T>,
     ) -> Result<Option<Turned>, NoMemory>
-        requires { IsBeforeLeast (system T.turn_of setup.now) (heap_items self.old.queue) self.old.states.items }
+        requires stands { IsBeforeLeast (system T.turn_of setup.now) (heap_items self.old.queue) self.old.states.items }
+        requires read { AreRead T.turn_of T.stands setup.now self.old.readers.readers.items }
         ensures stands { IsBeforeLeast (system T.turn_of setup.now) (heap_items self.new.queue) self.new.states.items }
+        ensures read { AreRead T.turn_of T.stands setup.now self.new.readers.readers.items }
         ensures ok { IfOk result (λ turn. IsNextTurn (machine (system T.turn_of setup.now)) (taken_at (system T.turn_of setup.now) (heap_items self.old.queue)) turn (taken_at (system T.turn_of setup.now) (heap_items self.new.queue))) }
         ensures err { OnErr result (heap_items self.new.queue ≡ heap_items self.old.queue) }
         ensures whole { IsComplete (machine (system T.turn_of setup.now)) (taken_at (system T.turn_of setup.now) (heap_items self.new.queue)) }
@@ -124,8 +135,10 @@ impl Frontier {
             return Ok(None);
         };
         rank_law(key);
-        let turned = take_turn(alloc, setup, key, &mut self.states)?;
-        replace_least(&mut self.queue, setup.key_after(key.component, key));
+        let turn = self.readers.turn(setup, key);
+        let turned = take_turn(alloc, setup, key, turn, &mut self.states)?;
+        let next = self.readers.read_on(setup, key);
+        replace_least(&mut self.queue, next);
         Ok(Some(turned))
     }
 }

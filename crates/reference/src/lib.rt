@@ -4,6 +4,7 @@
 pub mod checking;
 mod frontier;
 pub mod laws;
+mod readers;
 pub mod scheduling;
 pub mod simulator;
 mod taking;

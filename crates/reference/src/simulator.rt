@@ -37,11 +37,13 @@ impl<T: Turns> Model for Reference<T> {
     ghost coded = { Prim.hlevel (codes, shape.the_row.coded, term.the_row.coded, effect.the_row.coded, datum_code) };
 
     ghost use Rattle.task_seed.specs.Setups.{system};
+    ghost use Rattle.reference.specs.Reading.{AreRead};
     ghost use Rattle.reference.specs.Standing.{taken_at, IsBeforeLeast};
 
     ghost view = { λ r. record { setup = arc_value r.setup; taken = taken_at (system T.turn_of (arc_value r.setup)) (heap_items r.frontier.queue) } };
 
-    ghost invariant = { λ r. IsBeforeLeast (system T.turn_of (arc_value r.setup)) (heap_items r.frontier.queue) r.frontier.states.items };
+    ghost invariant = { λ r. IsBeforeLeast (system T.turn_of (arc_value r.setup)) (heap_items r.frontier.queue) r.frontier.states.items
+        × AreRead T.turn_of T.stands (arc_value r.setup) r.frontier.readers.readers.items };
 }
 
 impl<T: Turns> Reference<T> {

@@ -1,20 +1,20 @@
 //! Turns, and the components that take their actions.
-ghost use Rattle.std.specs.Prelude.{◌≡◌, ◌<◌, ◌∷◌, [], ℕ, true, Some, IfOk, IfSome, IsSome, OnOk, OnErr, length, option_map, slice_get};
+ghost use Rattle.std.specs.Prelude.{◌≡◌, ◌<◌, ◌∷◌, [], ℕ, true, Some, IfOk, IfSome, OnOk, OnErr, length, option_map, slice_get};
 ghost use Rattle.event_keys.specs.Entries.{action_of};
-ghost use Rattle.undo_records.specs.States.{States};
+ghost use Rattle.undo_records.specs.States.{States, undone, without_first};
 ghost use Rattle.plans.specs.Plans.{composition};
 ghost use Rattle.plans.specs.Receivers.{IsIn};
 ghost use Rattle.plans.specs.Steps.{applied};
 ghost use Rattle.task_seed.specs.Setups.{system, plan_of};
-ghost use Rattle.task_seed.specs.Turning.{key_of};
+ghost use Rattle.task_seed.specs.Turning.{turn_in};
 ghost use Rattle.task_seed.specs.Machines.{machine, turn_outcome};
-ghost use Rattle.reference.specs.Taking.{Distinct, taking, joining};
+ghost use Rattle.reference.specs.Taking.{Distinct, IsPassed, AreMarked, taking, joining};
 
 use event_keys::{Key, Outcome, Turned};
 use plans::Plan;
 use std::alloc::Global;
 use task_seed::laws::machine_is_lawful;
-use task_seed::{Setup, Turns};
+use task_seed::{Setup, Turn, Turns};
 use terms::{Action, NoMemory};
 use undo_records::Store;
 
@@ -37,6 +37,29 @@ fn advance(
     Ok(())
 }
 
+// Undoes the last mark of each taker.
+fn take_back(takers: &[u16], states: &mut [Store])
+    requires once { Distinct takers.now }
+    requires within { (j : ℕ) → IsIn j takers.now ≡ true → j < length states.old }
+    ensures { IsPassed (λ _. undone) takers.now states.old states.new }
+{
+    for taker in takers {
+        states[usize::from(*taker)].undo();
+    }
+}
+
+// Forgets the first mark of each taker.
+fn forget_marks(takers: &[u16], states: &mut [Store])
+    requires once { Distinct takers.now }
+    requires within { (j : ℕ) → IsIn j takers.now ≡ true → j < length states.old }
+    requires marked { AreMarked takers.now states.old }
+    ensures { IsPassed (λ _. without_first 1) takers.now states.old states.new }
+{
+    for taker in takers {
+        states[usize::from(*taker)].forget_first(1);
+    }
+}
+
 // An action is taken by some components. Each one's state is marked until all that follow have taken it, so a refusal
 // leaves the states as they were, and no state is copied.
 fn take_action(
@@ -53,35 +76,31 @@ fn take_action(
     ensures many { length states.new ≡ length states.old }
     ensures err { OnErr result (states.new ≡ states.old) }
 {
-    let Some((taker, others)) = takers.split_first() else {
-        return Ok(());
-    };
-    let place = usize::from(*taker);
-    advance(alloc, plan, *taker, action, &mut states[place])?;
-    match take_action(alloc, plan, action, others, states) {
-        Ok(()) => {
-            states[place].forget_first(1);
-            Ok(())
-        }
-        Err(refused) => {
-            states[place].undo();
-            Err(refused)
+    for (count, taker) in takers.iter().enumerate() {
+        let place = usize::from(*taker);
+        if let Err(refused) = advance(alloc, plan, *taker, action, &mut states[place]) {
+            take_back(&takers[..count], states);
+            return Err(refused);
         }
     }
+    forget_marks(takers, states);
+    Ok(())
 }
 
-// What comes of turn `n` of component `i` in its state.
+// What comes of turn `n` of component `i`, which is this one if it exists, in its state.
 fn outcome_at<T: Turns>(
     alloc: Global,
     setup: &Setup<T>,
     i: u16,
     n: u64,
+    turn: Option<Turn>,
     state: &Store,
 ) -> Result<Outcome, NoMemory>
-    requires { IsSome (key_of (system T.turn_of setup.now) i n) }
+    requires { turn ≡ turn_in (system T.turn_of setup.now) i n }
     ensures { IfOk result (λ outcome. action_of outcome ≡ turn_outcome (system T.turn_of setup.now) i n state.now.current) }
 {
-    let Some(turn) = setup.turn_at(i, n) else {
+    let _ = n;
+    let Some(turn) = turn else {
         return Ok(Outcome::Idle);
     };
     match setup
@@ -118,14 +137,15 @@ fn take_outcome<T: Turns>(
     take_action(alloc, plan, action, &takers, states)
 }
 
-/// Takes the turn of a key. A refusal leaves the states as they were.
+/// Takes the turn of a key, which is this one. A refusal leaves the states as they were.
 pub(crate) fn take_turn<T: Turns>(
     alloc: Global,
     setup: &Setup<T>,
     key: Key,
+    turn: Option<Turn>,
     states: &mut [Store],
 ) -> Result<Turned, NoMemory>
-    requires there { Some key ≡ key_of (system T.turn_of setup.now) key.component key.number }
+    requires turn { turn ≡ turn_in (system T.turn_of setup.now) key.component key.number }
     requires within { key.component < length (composition (plan_of setup.now)) }
     requires many { length states.old ≡ length (composition (plan_of setup.now)) }
     requires plain { (j : ℕ) (state : States) → slice_get states.old j ≡ Some state → state.below ≡ [] }
@@ -136,7 +156,7 @@ pub(crate) fn take_turn<T: Turns>(
     ensures err { OnErr result (states.new ≡ states.old) }
 {
     let i = key.component;
-    let outcome = outcome_at(alloc, setup, i, key.number, &states[usize::from(i)])?;
+    let outcome = outcome_at(alloc, setup, i, key.number, turn, &states[usize::from(i)])?;
     take_outcome(alloc, setup, i, &outcome, states)?;
     Ok(Turned { key, outcome })
 }

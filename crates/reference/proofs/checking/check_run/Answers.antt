@@ -11,28 +11,28 @@ loop-at-init c = record {
   reached = started (composition c.args.plan.now) c.in_ok-states.states.items (search rules);
 }
 
-pub returns-then-not-is_action-clause-sound : goal.returns-then-not-is_action-clause-sound
-returns-then-not-is_action-clause-sound c =
+pub returns-in-Some-Foreign-clause-sound : goal.returns-in-Some-Foreign-clause-sound
+returns-in-Some-Foreign-clause-sound c =
     foreign_found (composition c.args.plan.now) c.args.actions.now c.loop-at.at c.index-actions-at.result c.loop-at.states.items c.loop-at-test.true c.index-actions-at.is c.loop-at.invariant.reached (search rules)
 
-pub returns-then-not-is_action-clause-exact : goal.returns-then-not-is_action-clause-exact
-returns-then-not-is_action-clause-exact c verdict of_verdict =
-    one_verdict (composition c.args.plan.now) c.args.actions.now (NotAnAction c.loop-at.at) verdict (returns-then-not-is_action-clause-sound c) of_verdict
+pub returns-in-Some-Foreign-clause-exact : goal.returns-in-Some-Foreign-clause-exact
+returns-in-Some-Foreign-clause-exact c verdict of_verdict =
+    one_verdict (composition c.args.plan.now) c.args.actions.now (NotAnAction c.loop-at.at) verdict (returns-in-Some-Foreign-clause-sound c) of_verdict
 
-pub returns-then-not-branch-clause-sound : goal.returns-then-not-branch-clause-sound
-returns-then-not-branch-clause-sound c =
+pub returns-in-Some-Barred-clause-sound : goal.returns-in-Some-Barred-clause-sound
+returns-in-Some-Barred-clause-sound c =
     disabled_found (composition c.args.plan.now) c.args.actions.now c.loop-at.at c.index-actions-at.result c.loop-at.states.items c.loop-at-test.true c.index-actions-at.is c.loop-at.invariant.reached (search rules)
 
-pub returns-then-not-branch-clause-exact : goal.returns-then-not-branch-clause-exact
-returns-then-not-branch-clause-exact c verdict of_verdict =
-    one_verdict (composition c.args.plan.now) c.args.actions.now (NotEnabled c.loop-at.at) verdict (returns-then-not-branch-clause-sound c) of_verdict
+pub returns-in-Some-Barred-clause-exact : goal.returns-in-Some-Barred-clause-exact
+returns-in-Some-Barred-clause-exact c verdict of_verdict =
+    one_verdict (composition c.args.plan.now) c.args.actions.now (NotEnabled c.loop-at.at) verdict (returns-in-Some-Barred-clause-sound c) of_verdict
 
 pub loop-at-preserved : goal.loop-at-preserved
 loop-at-preserved c =
-    let whole = written c.loop-at.states.items c.take_action.new.states c.loop-at.states.len (search rules) (search rules) in
+    let whole = written c.loop-at.states.items c.step.new.states c.loop-at.states.len (search rules) (search rules) in
     rw whole (record {
       many = search rules;
-      reached = one_taken (composition c.args.plan.now) c.args.actions.now c.loop-at.at c.index-actions-at.result c.loop-at.states.items c.take_action.new.states c.loop-at-test.true c.index-actions-at.is c.loop-at.invariant.reached (search rules) (search rules) (search rules);
+      reached = one_taken (composition c.args.plan.now) c.args.actions.now c.loop-at.at c.index-actions-at.result c.loop-at.states.items c.step.new.states c.loop-at-test.true c.index-actions-at.is c.loop-at.invariant.reached (search rules);
     })
 
 pub returns-clause-exact : goal.returns-clause-exact

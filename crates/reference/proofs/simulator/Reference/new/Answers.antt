@@ -2,6 +2,7 @@ use Rattle.std.proofs.Common.{◌≡◌, [], ap, subst}
 use Rattle.std.specs.Arc.{arc_value}
 use Rattle.std.specs.BinaryHeap.{heap_items}
 use Rattle.task_seed.specs.Setups.{system}
+use Rattle.reference.specs.Reading.{AreRead}
 use Rattle.reference.specs.Standing.{IsBeforeLeast, taken_at}
 use Rattle.reference.proofs.Stepping.{seen}
 use Rattle.reference.proofs.simulator.Reference.new.Goals as goal
@@ -9,8 +10,10 @@ use Rattle.reference.proofs.simulator.Reference.new.Goals as goal
 pub invariant_of-result : goal.invariant_of-result
 invariant_of-result g c =
     let t = g.T.Turns.turn_of in
-    let f = c.in_ok-frontier.frontier in
-    subst (λ p. IsBeforeLeast (system t p) (heap_items f.queue) f.states.items) c.deref.ensures c.in_ok-frontier.ensures.stands
+    let f = c.in_ok-frontier.frontier in (
+      subst (λ p. IsBeforeLeast (system t p) (heap_items f.queue) f.states.items) c.deref.ensures c.in_ok-frontier.ensures.stands,
+      subst (λ p. AreRead t g.T.Turns.stands p f.readers.readers.items) c.deref.ensures c.in_ok-frontier.ensures.read,
+    )
 
 pub returns : goal.returns
 returns g c =
