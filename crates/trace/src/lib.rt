@@ -5,6 +5,7 @@ pub mod counted;
 pub mod fault;
 mod known;
 pub mod laws;
+mod line;
 mod line_fault;
 pub mod lines;
 pub mod reading;
@@ -15,7 +16,7 @@ mod written;
 
 pub use counted::Counted;
 pub use fault::{TraceError, WriteFault};
-pub use lines::{Lines, append_turns, write_turns};
+pub use lines::{Lines, append_turn, append_turns, write_turns};
 pub use reading::read_trace;
 pub use steps::read_steps;
 pub use texts::write_text;

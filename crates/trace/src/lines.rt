@@ -5,13 +5,14 @@ ghost use Rattle.std.specs.Iterator.{IsFinite, Drains, Yields};
 ghost use Rattle.std.specs.Io.KnownBytes.{Appends};
 ghost use Rattle.event_keys.specs.declared.outcome.Turned.{Turned};
 ghost use Rattle.trace.specs.Counts.{writer_of, failures_of, one_more};
-ghost use Rattle.trace.specs.Lines.{did_external, is_shown, key_text, line_of, shown_text, text_of, turns_at};
+ghost use Rattle.trace.specs.Lines.{did_external, is_shown, line_of, shown_text, text_of, turns_at};
 ghost use Rattle.trace.specs.Puts.{Puts, Stops};
 
 use crate::counted::Counted;
 use crate::fault::WriteFault;
-use crate::words::{put, put_number, put_outcome};
-use event_keys::{Key, Outcome, Turned};
+use crate::line::{Line, put};
+use crate::words::put_outcome;
+use event_keys::{Outcome, Turned};
 use plans::Plan;
 use std::io::Write;
 
@@ -68,17 +69,18 @@ pub fn append_turns<'a, W: Write, I: Iterator<Item = &'a Turned> + Drop>(
 {
     let mut written = before;
     for turned in turns {
-        written = put_shown(out, plan, lines, turned, written)?;
+        written = append_turn(plan, turned, lines, written, out)?;
     }
     Ok(written)
 }
 
-fn put_shown<W: Write>(
-    out: &mut Counted<W>,
+/// Writes the line of one more turn, if it is wanted, as [`append_turns`] does.
+pub fn append_turn<W: Write>(
     plan: &Plan,
-    lines: Lines,
     turned: &Turned,
+    lines: Lines,
     before: u64,
+    out: &mut Counted<W>,
 ) -> Result<u64, WriteFault>
     ensures ok { IfOk result (λ after. Puts W.contents out.old out.new before after (shown_text plan.now lines turned.now)) }
     ensures err { IfErr result (λ fault. Stops W.contents out.old out.new before (shown_text plan.now lines turned.now) fault) }
@@ -108,7 +110,7 @@ fn did_external(plan: &Plan, outcome: &Outcome) -> bool
     }
 }
 
-#[tactic(auto, using(crate::proofs::Putting::steps))]
+#[tactic(auto, using(crate::proofs::Adding::lines))]
 fn put_line<W: Write>(
     out: &mut Counted<W>,
     plan: &Plan,
@@ -118,17 +120,9 @@ fn put_line<W: Write>(
     ensures ok { IfOk result (λ after. Puts W.contents out.old out.new before after (line_of plan.now turned.now)) }
     ensures err { IfErr result (λ fault. Stops W.contents out.old out.new before (line_of plan.now turned.now) fault) }
 {
-    let written = put_key(out, turned.key, before)?;
-    let written = put_outcome(out, plan, &turned.outcome, written)?;
-    put(out, "\n", written)
-}
-
-#[tactic(auto, using(crate::proofs::Putting::steps))]
-fn put_key<W: Write>(out: &mut Counted<W>, key: Key, before: u64) -> Result<u64, WriteFault>
-    ensures ok { IfOk result (λ after. Puts W.contents out.old out.new before after (key_text key)) }
-    ensures err { IfErr result (λ fault. Stops W.contents out.old out.new before (key_text key) fault) }
-{
-    let written = put_number(out, key.tick, before)?;
-    let written = put_number(out, key.component as u64, written)?;
-    put_number(out, key.number, written)
+    let mut line = Line::new();
+    line.begin(turned.key);
+    let written = put_outcome(&mut line, out, plan, &turned.outcome, before)?;
+    let written = put(&mut line, out, "\n", written)?;
+    line.send(out, written)
 }

@@ -19,6 +19,12 @@ const TRACE: &str = "2 0 0 pass(1)\n3 1 1 pass(0)\n4 0 1 pass(1)\n";
 const ARGUMENTS: &str =
     "18446744073709551615 65535 10 pass(true,-3)\n7 0 18446744073709551615 pass\n8 2 0 (false,,-9223372036854775808)\n";
 
+// A line that is put together in three parts, of 53, 20 and 107 bytes.
+const LONG: &str =
+    "1 0 0 pass(-9223372036854775808,-9223372036854775808,-9223372036854775808,-9223372036854775808,-9223372036854775808,-9223372036854775808,-9223372036854775808,-9223372036854775808)\n";
+
+const EIGHT_ARGUMENTS: [Scalar; 8] = [Scalar::Int(i64::MIN); 8];
+
 const TWO_ARGUMENTS: [Scalar; 2] = [Scalar::Bool(true), Scalar::Int(-3)];
 
 const THREE_ARGUMENTS: [Scalar; 3] = [
@@ -100,6 +106,13 @@ fn writes_turns_up_to_where_the_writer_fails(rt: HostRuntime) {
     let external = counted(&rt, 100, 200, None);
     assert!(rt; writes(external, &plan, &others, Lines::Trace, 200, ""));
     drop(others);
+    let long = [turned(&rt, key(1, 0, 0), Some(0), &EIGHT_ARGUMENTS)];
+    for room in [0, 53, 54, 73, 100, 179, 180, 200] {
+        let narrow = counted(&rt, 90, room, None);
+        let is_beginning = writes(narrow, &plan, &long, Lines::All, room, LONG);
+        assert!(rt; is_beginning, "room for {room} of a long line");
+    }
+    drop(long);
     drop(plan);
     let fault = WriteFault::WriteFailed(5);
     assert!(rt; fault.number() == 60 && fault.place().is_none());
