@@ -37,10 +37,10 @@ action_again None = refl
 action_again (Some action) = refl
 
 -- the turn of the code that a turn of the theory is
-abbrev turned_of : Turn Named → Turned
+abbrev pub turned_of : Turn Named → Turned
 turned_of turn = record { key = key_of_rank turn.key; outcome = outcome_of_action turn.outcome }
 
-turns_again : (turns : List (Turn Named)) → map turn_of (map turned_of turns) ≡ turns
+pub turns_again : (turns : List (Turn Named)) → map turn_of (map turned_of turns) ≡ turns
 turns_again [] = refl
 turns_again (turn ∷ turns) = λ i. record { key = rank_again turn.key i; outcome = action_again turn.outcome i } ∷ turns_again turns i
 
@@ -52,7 +52,7 @@ map_reverse f (x ∷ xs) = ap (map f) (reverse-append (x ∷ []) xs) ∙ map-app
 pub newest_first : (newest : List Turned) → turns_of (reverse newest) ≡ map turn_of newest
 newest_first newest = ap reverse (map_reverse turn_of newest) ∙ reverse-reverse (map turn_of newest)
 
-turns_joined : (turns later : List Turned) → turns_of (turns ++ later) ≡ turns_of later ++ turns_of turns
+pub turns_joined : (turns later : List Turned) → turns_of (turns ++ later) ≡ turns_of later ++ turns_of turns
 turns_joined turns later = ap reverse (map-append turn_of turns later) ∙ reverse-append (map turn_of turns) (map turn_of later)
 
 -- a bound below which there is a reference isn't above the end

@@ -1,3 +1,4 @@
 mod Both
 mod Beginnings
 mod Driven
+mod Streaming

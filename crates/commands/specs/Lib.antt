@@ -2,3 +2,4 @@ pub mod Driven
 pub mod Judged
 pub mod Refusals
 pub mod Simulated
+pub mod Streams

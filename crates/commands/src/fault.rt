@@ -91,6 +91,14 @@ impl From<AllocError> for SimulateFault {
     }
 }
 
+impl<T: Drop> From<AllocFailed<T>> for SimulateFault {
+    ghost from_gives = { λ _ e. e ≡ OutOfMemory };
+
+    fn from(_refused: AllocFailed<T>) -> SimulateFault {
+        SimulateFault::NoMemory
+    }
+}
+
 impl From<NoMemory> for SimulateFault {
     ghost from_gives = { λ _ e. e ≡ OutOfMemory };
 

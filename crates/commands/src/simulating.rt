@@ -1,49 +1,114 @@
 //! The engine of `reference`.
-ghost use Rattle.std.specs.Prelude.{◌≡◌, IfErr, OnOk};
+ghost use Rattle.std.specs.Prelude.{◌≡◌, [], IfErr, IfOk, OnOk};
+ghost use Rattle.std.specs.Io.KnownBytes.{Keeps};
 ghost use Rattle.task_seed.specs.Setups.{plan_of, system};
-ghost use Rattle.trace.specs.Lines.{text_of};
-ghost use Rattle.trace.specs.Puts.{Stops};
+ghost use Rattle.trace.specs.Counts.{failures_of, writer_of};
+ghost use Rattle.trace.specs.Lines.{shown_text};
+ghost use Rattle.trace.specs.Puts.{Puts, Stops};
 ghost use Rattle.trace.specs.Went.{IsWritten};
 ghost use Rattle.commands.specs.Simulated.{IsSimulated, IsUnsimulated};
+ghost use Rattle.commands.specs.Streams.{IsKnown};
 
 use crate::fault::SimulateFault;
 use event_keys::Turned;
 use plans::Plan;
-use reference::schedule;
+use reference::Reference;
+use reference::laws::turns_are_schedule;
 use std::alloc::Global;
 use std::io::Write;
+use std::sync::Arc;
+use task_seed::laws::machine_is_lawful;
 use task_seed::{Setup, Turns};
-use trace::{Counted, Lines, WriteFault, write_turns};
+use terms::{Action, State};
+use trace::{Counted, Lines, WriteFault, append_turn};
+use virtual_time::reference::{reference_is_complete, reference_is_one};
 
-/// Simulates a composition by one thread, which always takes the turn with the least key, and writes the lines of its turns.
+/// Simulates a composition by one thread, which always takes the turn with the least key, and writes
+/// each turn's line as it is taken; the first line goes out at once. What it holds grows with the
+/// number of components, and not with that of turns.
 ///
 /// # Errors
 ///
-/// `NoMemory`; then nothing is written. `Write` where a write failed, with the number of the text's bytes that went out before.
+/// `NoMemory`; then the lines of the turns before it are written. `Write` where a write failed, with
+/// the number of the text's bytes that went out before.
 pub fn simulate<T: Turns, W: Write>(
     alloc: Global,
-    setup: &Setup<T>,
+    setup: Setup<T>,
     lines: Lines,
     out: &mut Counted<W>,
 ) -> Result<(), SimulateFault>
-    ensures simulated { OnOk result (IsSimulated (plan_of setup.now) (system T.turn_of setup.now) lines (IsWritten W.contents out.old out.new)) }
-    ensures unsimulated { IfErr result (IsUnsimulated (plan_of setup.now) (system T.turn_of setup.now) lines (out.new ≡ out.old) (Stops W.contents out.old out.new 0)) }
+    ensures simulated { OnOk result (IsSimulated (plan_of setup) (system T.turn_of setup) lines
+        (IsWritten W.contents out.old out.new)) }
+    ensures unsimulated { IfErr result (IsUnsimulated (plan_of setup) (system T.turn_of setup) lines
+        (IsWritten W.contents out.old out.new) (Stops W.contents out.old out.new 0)) }
 {
-    let turns = schedule(alloc, setup)?;
-    match write_all(setup.plan(), turns.as_slice(), lines, out) {
-        Ok(()) => Ok(()),
-        Err(fault) => Err(SimulateFault::Write(fault)),
-    }
+    known_law(&setup);
+    let shared = Arc::new(alloc, setup)?;
+    let mut reference = Reference::new(alloc, shared)?;
+    write_all(alloc, &mut reference, lines, out)
 }
 
-fn write_all<W: Write>(
-    plan: &Plan,
-    turns: &[Turned],
+// What is known of the turns of a setup. The call does nothing.
+fn known_law<T: Turns>(setup: &Setup<T>)
+    ensures { IsKnown (plan_of setup.now) (system T.turn_of setup.now) }
+{
+    machine_is_lawful(setup);
+    turns_are_schedule(setup);
+    reference_is_one::<State, Action>();
+    reference_is_complete::<State, Action>();
+}
+
+// Takes all turns from the start on, and writes the line of each.
+fn write_all<T: Turns, W: Write>(
+    alloc: Global,
+    reference: &mut Reference<T>,
     lines: Lines,
     out: &mut Counted<W>,
-) -> Result<(), WriteFault>
-    ensures ok { OnOk result (IsWritten W.contents out.old out.new (text_of plan.now lines turns.now)) }
-    ensures err { IfErr result (Stops W.contents out.old out.new 0 (text_of plan.now lines turns.now)) }
+) -> Result<(), SimulateFault>
+    requires known { IsKnown (plan_of reference.old.setup) (system T.turn_of reference.old.setup) }
+    requires start { reference.old.taken ≡ [] }
+    ensures simulated { OnOk result (IsSimulated (plan_of reference.old.setup)
+        (system T.turn_of reference.old.setup) lines (IsWritten W.contents out.old out.new)) }
+    ensures unsimulated { IfErr result (IsUnsimulated (plan_of reference.old.setup)
+        (system T.turn_of reference.old.setup) lines (IsWritten W.contents out.old out.new)
+        (Stops W.contents out.old out.new 0)) }
 {
-    write_turns(plan, turns.iter(), lines, out)
+    let mut written = 0;
+    while let Some(turned) = reference.step(alloc)? {
+        match put_turn(reference.setup().plan(), turned, lines, written, out) {
+            Ok(after) => written = after,
+            Err(fault) => return Err(SimulateFault::Write(fault)),
+        }
+    }
+    Ok(())
+}
+
+// Writes the line of a turn, where so many bytes went out before.
+fn put_turn<W: Write>(
+    plan: &Plan,
+    turned: Turned,
+    lines: Lines,
+    before: u64,
+    out: &mut Counted<W>,
+) -> Result<u64, WriteFault>
+    ensures ok { IfOk result (λ after.
+        Puts W.contents out.old out.new before after (shown_text plan.now lines turned)) }
+    ensures err { IfErr result (λ fault.
+        Stops W.contents out.old out.new before (shown_text plan.now lines turned) fault) }
+{
+    let answer = append_turn(plan, &turned, lines, before, out);
+    drop(turned);
+    let after = answer?;
+    send_first(before, after, out);
+    Ok(after)
+}
+
+// Lets the first line go out at once. That a flush failed shows at the next write.
+fn send_first<W: Write>(before: u64, after: u64, out: &mut Counted<W>)
+    ensures bytes { Keeps (W.contents (writer_of out.old)) (W.contents (writer_of out.new)) }
+    ensures failures { failures_of out.new ≡ failures_of out.old }
+{
+    if before == 0 && after > 0 {
+        let _ = out.flush();
+    }
 }

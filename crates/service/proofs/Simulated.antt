@@ -44,19 +44,19 @@ module _ (has : List ℕ → List ℕ → Type 0) (lacks : List ℕ → Type 0) 
     no_setup_whole report k h = unturned_whole report k (no_setup has lacks (composition plan) options report h)
 
     -- a plan with turns
-    turned_whole : (s : System) → HasTurns has (composition plan) options (table_of options) s → (report : Report) → IsSimulationReport plan s (lines_for options.trace) kept wrote cut report → IsSimulateReport has lacks source options kept wrote cut report
+    turned_whole : (s : System) → HasTurns has (composition plan) options (table_of options) s → (report : Report) → IsSimulationReport plan s (lines_for options.trace) wrote cut report → IsSimulateReport has lacks source options kept wrote cut report
     turned_whole s turns Done r = record { plan = plan; meant = meant; system = s; turns = turns; simulated = r }
     turned_whole s turns No r = absurd r
     turned_whole s turns (Driven refused) r = absurd r
     turned_whole s turns (Refused n p) r = absurd r
-    turned_whole s turns (Fault n) (inl one) = inl (inl (inl one.0), one.1)
-    turned_whole s turns (Fault n) (inr r) = inr (record { number_is = r.number_is; written = r.written; stopped = record { plan = plan; meant = meant; system = s; turns = turns; simulated = r.stopped } })
+    turned_whole s turns (Fault n) (inl one) = inr (inl (record { number_is = one.0; plan = plan; meant = meant; system = s; turns = turns; begun = one.1 }))
+    turned_whole s turns (Fault n) (inr r) = inr (inr (record { number_is = r.number_is; written = r.written; stopped = record { plan = plan; meant = meant; system = s; turns = turns; simulated = r.stopped } }))
     turned_whole s turns Misused r = absurd r
 
     pub setup_whole : (setup : Setup AnyTurns) → IsSetup has plan options setup → (lines : Lines) → lines ≡ lines_for options.trace → (report : Report)
-        → IsSimulationReport (plan_of setup) (system any_turn setup) lines kept wrote cut report → IsSimulateReport has lacks source options kept wrote cut report
+        → IsSimulationReport (plan_of setup) (system any_turn setup) lines wrote cut report → IsSimulateReport has lacks source options kept wrote cut report
     setup_whole setup is lines same report r =
         let s = system any_turn setup in
         turned_whole s is.turns report
-        (subst (λ p. IsSimulationReport p s (lines_for options.trace) kept wrote cut report) is.plan_is
-        (subst (λ l. IsSimulationReport (plan_of setup) s l kept wrote cut report) same r))
+        (subst (λ p. IsSimulationReport p s (lines_for options.trace) wrote cut report) is.plan_is
+        (subst (λ l. IsSimulationReport (plan_of setup) s l wrote cut report) same r))

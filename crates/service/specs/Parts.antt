@@ -3,7 +3,7 @@ use Rattle.std.specs.Prelude.{◌≡◌, ◌⊎◌, ℕ, List}
 use Rattle.plans.specs.declared.plan.Plan.{Plan}
 use Rattle.task_seed.specs.Turning.{System}
 use Rattle.trace.specs.declared.lines.Lines.{Lines}
-use Rattle.commands.specs.Simulated.{IsSimulated}
+use Rattle.commands.specs.Simulated.{IsSimulated, IsSimulatedInPart}
 use Rattle.service.specs.declared.report.Report.{Report}
 use Rattle.service.specs.declared.report.Report.TheVariants.{Done, No, Driven, Refused, Fault, Misused}
 
@@ -18,13 +18,15 @@ pub record IsSimulationCut (plan : Plan) (system : System) (lines : Lines)
   pub written : ℕ
   pub stopped : IsSimulated plan system lines (λ text. cut text written)
 
--- the report on a plan with turns
-abbrev pub IsSimulationReport : Plan → System → Lines → Type 0 → (List ℕ → Type 0)
+-- the report on a plan with turns; where memory is wanted (1), the lines of the first turns went
+-- out
+abbrev pub IsSimulationReport : Plan → System → Lines → (List ℕ → Type 0)
     → (List ℕ → ℕ → Type 0) → Report → Type 0
-IsSimulationReport plan system lines kept wrote cut Done = IsSimulated plan system lines wrote
-IsSimulationReport plan system lines kept wrote cut No = ⊥
-IsSimulationReport plan system lines kept wrote cut (Driven refused) = ⊥
-IsSimulationReport plan system lines kept wrote cut (Refused number place) = ⊥
-IsSimulationReport plan system lines kept wrote cut (Fault number) =
-    (IsMemory number × kept) ⊎ IsSimulationCut plan system lines cut number
-IsSimulationReport plan system lines kept wrote cut Misused = ⊥
+IsSimulationReport plan system lines wrote cut Done = IsSimulated plan system lines wrote
+IsSimulationReport plan system lines wrote cut No = ⊥
+IsSimulationReport plan system lines wrote cut (Driven refused) = ⊥
+IsSimulationReport plan system lines wrote cut (Refused number place) = ⊥
+IsSimulationReport plan system lines wrote cut (Fault number) =
+    (IsMemory number × IsSimulatedInPart plan system lines wrote)
+    ⊎ IsSimulationCut plan system lines cut number
+IsSimulationReport plan system lines wrote cut Misused = ⊥

@@ -11,7 +11,7 @@ use Rattle.task_seed.specs.declared.turns.Turn.{Turn}
 use Rattle.trace.specs.declared.lines.Lines.{Lines}
 use Rattle.trace.specs.declared.lines.Lines.TheVariants.{All, Trace}
 use Rattle.command_line.specs.declared.Options.{Options}
-use Rattle.commands.specs.Simulated.{IsSimulated}
+use Rattle.commands.specs.Simulated.{IsSimulated, IsSimulatedInPart}
 use Rattle.service.specs.declared.report.Report.{Report}
 use Rattle.service.specs.declared.report.Report.TheVariants.{Done, No, Driven, Refused, Fault, Misused}
 use Rattle.service.specs.Compositions.{HasBadSource, HasPlan}
@@ -87,6 +87,16 @@ pub record IsSimulateCut (has : List ℕ → List ℕ → Type 0) (source : List
   pub written : ℕ
   pub stopped : Simulates has source options (λ text. cut text written)
 
+-- memory is wanted (1) when the lines of the first turns went out
+pub record IsSimulateBegun (has : List ℕ → List ℕ → Type 0) (source : List ℕ) (options : Options)
+    (Became : List ℕ → Type 0) (number : ℕ) : Type 0 where
+  pub number_is : number ≡ 1
+  pub plan : Plan
+  pub meant : HasPlan (has source) plan
+  pub system : System
+  pub turns : HasTurns has (composition plan) options (table_of options) system
+  pub begun : IsSimulatedInPart plan system (lines_for options.trace) Became
+
 -- The report, where files have these bytes or can't be read, and the output was kept, a text was written to it, or a write failed after so many
 -- bytes of a text. The source is judged before the table.
 abbrev pub IsSimulateReport : (List ℕ → List ℕ → Type 0) → (List ℕ → Type 0) → List ℕ → Options → Type 0 → (List ℕ → Type 0) → (List ℕ → ℕ → Type 0) → Report → Type 0
@@ -94,5 +104,9 @@ IsSimulateReport has lacks source options kept wrote cut Done = Simulates has so
 IsSimulateReport has lacks source options kept wrote cut No = ⊥
 IsSimulateReport has lacks source options kept wrote cut (Driven refused) = ⊥
 IsSimulateReport has lacks source options kept wrote cut (Refused number place) = (HasBadSource (has source) number place ⊎ (Means (has source) (λ c. HasBadTable has c options number place) ⊎ IsBadOption options number place)) × kept
-IsSimulateReport has lacks source options kept wrote cut (Fault number) = ((IsUnread (lacks source) number ⊎ Means (has source) (λ c. LacksTable has lacks options number)) × kept) ⊎ IsSimulateCut has source options cut number
+IsSimulateReport has lacks source options kept wrote cut (Fault number) =
+    ((IsUnread (lacks source) number
+    ⊎ Means (has source) (λ c. LacksTable has lacks options number)) × kept)
+    ⊎ (IsSimulateBegun has source options wrote number
+    ⊎ IsSimulateCut has source options cut number)
 IsSimulateReport has lacks source options kept wrote cut Misused = ⊥

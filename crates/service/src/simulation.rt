@@ -40,7 +40,7 @@ pub(crate) fn plan_of<F: Files>(alloc: Global, name: &str, files: &F) -> Result<
 }
 
 /// Simulates the composition of the source in a file by one thread, with the turns of a seed, or of a table where `options` name one, and
-/// writes the lines of its turns. The source is judged before the table is read.
+/// writes each turn's line as it is taken. The source is judged before the table is read.
 pub fn simulate_file<F: Files, W: Write>(
     alloc: Global,
     source: &str,
@@ -55,7 +55,7 @@ pub fn simulate_file<F: Files, W: Write>(
         Err(report) => return report,
     };
     match setup_of(alloc, plan, options, files) {
-        Ok(setup) => simulate_setup(alloc, &setup, lines_for(options.trace), out),
+        Ok(setup) => simulate_setup(alloc, setup, lines_for(options.trace), out),
         Err(report) => report,
     }
 }
@@ -69,11 +69,12 @@ pub(crate) fn lines_for(is_trace: bool) -> Lines
 // Simulates a setup.
 fn simulate_setup<T: Turns, W: Write>(
     alloc: Global,
-    setup: &Setup<T>,
+    setup: Setup<T>,
     lines: Lines,
     out: &mut Counted<W>,
 ) -> Report
-    ensures { IsSimulationReport (plan_of setup.now) (system T.turn_of setup.now) lines (out.new ≡ out.old) (IsWritten W.contents out.old out.new) (IsStopped W.contents out.old out.new) result }
+    ensures { IsSimulationReport (plan_of setup) (system T.turn_of setup) lines
+        (IsWritten W.contents out.old out.new) (IsStopped W.contents out.old out.new) result }
 {
     match simulate(alloc, setup, lines, out) {
         Ok(()) => Report::Done,

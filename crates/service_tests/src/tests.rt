@@ -5,7 +5,7 @@ ghost use Rattle.service.specs.Reading.{IsReadOf};
 use Text::{Has, Is};
 use service::serve::serve;
 use service::{FileFault, Files};
-use std::alloc::{AllocGlobal, Global};
+use std::alloc::{AllocError, AllocGlobal, Global};
 use std::io::{self, Write};
 use std::process::Abort;
 use std::str;
@@ -131,8 +131,8 @@ const TURNS: &str = "1 1 0 idle\n2 0 0 pass(1)\n3 1 1 pass(0)\n4 0 1 pass(1)\n";
 
 const CUT: &str = "1 1 0 idle\n2 0 0 pass(1)\n3 1 1 pass(0)\n4 0 1 pass(1)";
 
-// Words on the ring and its table: runs and prints with little room, help and the version, also where these are cut.
-const SERVED: [Row; 22] = [
+// Words on the ring and its table: runs, references and prints with little room, help and the version, also where these are cut.
+const SERVED: [Row; 26] = [
     (
         "run source --table table --workers 3",
         53,
@@ -162,6 +162,28 @@ const SERVED: [Row; 22] = [
         3,
     ),
     ("run source --table table", 0, Is(""), Is("fault 60\n"), 3),
+    ("reference source --table table", 53, Is(TURNS), Is(""), 0),
+    (
+        "reference source --table table",
+        52,
+        Is(CUT),
+        Is("fault 60\n"),
+        3,
+    ),
+    (
+        "reference source --table table",
+        5,
+        Is("1 1 0"),
+        Is("fault 60\n"),
+        3,
+    ),
+    (
+        "reference source --table table",
+        0,
+        Is(""),
+        Is("fault 60\n"),
+        3,
+    ),
     ("print source", 317, Is(RING), Is(""), 0),
     ("print source", 5, Is("type "), Is("fault 60\n"), 3),
     ("print source", 0, Is(""), Is("fault 60\n"), 3),
@@ -225,6 +247,41 @@ fn words_are_served_or_refused(rt: HostRuntime) {
     for (k, (said, part)) in REFUSED.iter().enumerate() {
         let row = (*said, 100, Is(""), Has(part), 2);
         assert!(rt; is_served(&rt, &files, &row), "wrong row {k}");
+    }
+}
+
+fn reference_words(alloc: Global) -> Result<Vec<String>, AllocError> {
+    let mut words = Vec::new(alloc);
+    for word in ["reference", "source", "--table", "table"] {
+        words.push(String::from_str(alloc, word)?)?;
+    }
+    Ok(words)
+}
+
+// Whether `reference` leaves a beginning of all turns, and all of them where it says that all went well.
+fn leaves_a_beginning<R: AllocGlobal + Threads + Wait + Sync>(rt: &R, words: &[String]) -> bool {
+    let files = TwoFiles {
+        source: RING.as_bytes(),
+        table: ROWS.as_bytes(),
+    };
+    let held = Vec::new(rt.alloc());
+    let mut out = Counted::new(Narrow { held, room: 100 });
+    let mut err = Counted::new(Vec::new(rt.alloc()));
+    let status = serve(rt, rt.alloc(), words, &files, &mut out, &mut err);
+    let (out, err) = (out.into_inner(), err.into_inner());
+    let is_all = out.held.as_slice() == TURNS.as_bytes();
+    let is_beginning = TURNS.as_bytes().starts_with(out.held.as_slice());
+    drop(out);
+    drop(err);
+    is_beginning && (status == 3 || (status == 0 && is_all))
+}
+
+// The same whichever single request for memory is refused.
+#[test]
+fn without_memory_a_reference_leaves_a_beginning(rt: HostRuntime) {
+    if let Ok(words) = reference_words(rt.alloc()) {
+        assert!(rt; leaves_a_beginning(&rt, words.as_slice()));
+        drop(words);
     }
 }
 

@@ -1,0 +1,144 @@
+-- Turns that are written as they are taken.
+use Rattle.std.proofs.Common.{◌≡◌, ℕ, ◌-◌, ◌<◌, List, [], ◌∷◌, ◌++◌, map, reverse, length, refl, ap, sym, subst, ◌∙◌, arith, length-append}
+use Rattle.std.specs.Prelude.{Option, Result, Ok, Err, IfErr}
+use Rattle.std.specs.Result.{IsErrAnd}
+use Rattle.std.specs.Io.KnownBytes.{Keeps}
+use Rattle.std.proofs.KnownBytes.{Appends-kept, Appends-nil}
+use Rattle.std.proofs.lemmas.Grind.{flat_map-append}
+use Rattle.std.proofs.lemmas.List.{flat_map_more}
+use Rattle.terms.specs.Datum.{Datum}
+use Rattle.terms.specs.Named.{Named}
+use Rattle.event_keys.specs.declared.outcome.Turned.{Turned}
+use Rattle.virtual_time.specs.Machine.{Machine}
+use Rattle.virtual_time.specs.Reference.{Turn, IsReference, reference_below}
+use Rattle.plans.specs.declared.plan.Plan.{Plan}
+use Rattle.task_seed.specs.Machines.{machine, end_rank}
+use Rattle.task_seed.specs.Taken.{turn_of, turns_of}
+use Rattle.task_seed.specs.Turning.{System}
+use Rattle.reference.specs.Schedules.{AreAllTurns}
+use Rattle.reference.specs.Views.{IsComplete}
+use Rattle.trace.specs.declared.counted.Counted.{Counted}
+use Rattle.trace.specs.declared.fault.WriteFault.{WriteFault}
+use Rattle.trace.specs.declared.lines.Lines.{Lines}
+use Rattle.trace.specs.Counts.{failures_of, writer_of}
+use Rattle.trace.specs.Given.{puts_nothing, then_puts, then_stops, stops}
+use Rattle.trace.specs.Lines.{shown_text, text_of}
+use Rattle.trace.specs.Puts.{Puts, Stops}
+use Rattle.trace.specs.Went.{IsWritten}
+use Rattle.commands.specs.declared.fault.SimulateFault.{SimulateFault}
+use Rattle.commands.specs.declared.fault.SimulateFault.TheVariants.{NoMemory}
+use Rattle.commands.specs.Simulated.{IsSimulated, IsSimulatedInPart}
+use Rattle.commands.specs.Streams.{IsKnown}
+use Rattle.commands.proofs.Beginnings.{newest_first, turned_of, turns_again, turns_joined}
+
+-- the lines of the turns that were taken went out, so many bytes
+pub record Sofar {W : Type 0} (known : W → Option (List ℕ)) (plan : Plan) (lines : Lines) (old new : Counted W) (taken : List (Turn Named)) (bytes : ℕ) : Type 0 where
+  pub turns : List Turned
+  pub are : turns_of turns ≡ taken
+  pub puts : Puts known old new 0 bytes (text_of plan lines turns)
+
+-- no turns are all those below the least key
+pub complete_none : (m : Machine (List Datum) Named) {taken : List (Turn Named)} → taken ≡ [] → IsComplete m taken
+complete_none m none = record { bound = 0; within = omega arith; is = none }
+
+-- a fault that is want of memory
+pub for_want : {R : Type 0} (P : SimulateFault → Type 0) (r : Result R SimulateFault) → IsErrAnd r (λ e. e ≡ NoMemory) → P NoMemory → IfErr r P
+for_want P (Ok x) h p = tt
+for_want P (Err e) h p = subst P (sym h) p
+
+module _ (plan : Plan) (s : System) (laws : IsKnown plan s) where
+  -- all turns begin with these
+  all_after : (turns : List Turned) → IsComplete (machine s) (turns_of turns) → (later : List Turned) × AreAllTurns plan s (turns ++ later)
+  all_after turns complete =
+      let found = laws.begins complete.bound complete.within in
+      let later : List Turned = reverse (map turned_of found.0) in
+      let later_is : turns_of later ≡ found.0 = newest_first (map turned_of found.0) ∙ turns_again found.0 in
+      let all : turns_of (turns ++ later) ≡ reference_below (machine s) end_rank = turns_joined turns later ∙ (λ i. later_is i ++ complete.is i) ∙ sym found.1 in
+      (later, record { all = all; scheduled = laws.scheduled (turns ++ later) end_rank (omega arith) all })
+
+  -- one turn more leaves fewer to take
+  pub fewer_left : (old new : List (Turn Named)) (turn : Turn Named) → new ≡ turn ∷ old → IsComplete (machine s) new
+      → length (reference_below (machine s) end_rank) - length new < length (reference_below (machine s) end_rank) - length old
+  fewer_left old new turn next complete =
+      let found = laws.begins complete.bound complete.within in
+      let whole = ap length found.1 ∙ length-append found.0 (reference_below (machine s) complete.bound) in
+      let here = ap length complete.is in
+      let more = ap length next in
+      omega (arith, whole, here, more)
+
+  module _ {W : Type 0} {known : W → Option (List ℕ)} {lines : Lines} where
+    -- no turn was taken yet
+    pub none_yet : (out : Counted W) → IsSimulatedInPart plan s lines (IsWritten known out out)
+    none_yet out =
+        record {
+          turns = [];
+          beginning = record {
+            scheduled = laws.scheduled [] 0 (omega arith) refl;
+            all = (all_after [] (complete_none (machine s) refl)).0;
+            are = (all_after [] (complete_none (machine s) refl)).1;
+            rest = text_of plan lines (all_after [] (complete_none (machine s) refl)).0;
+            begins = refl;
+          };
+          became = record { bytes = Appends-nil (known (writer_of out)); failures = refl };
+        }
+
+    -- the lines of the first turns went out
+    pub in_part : {old new : Counted W} {taken : List (Turn Named)} {bytes : ℕ} → IsComplete (machine s) taken → Sofar known plan lines old new taken bytes → IsSimulatedInPart plan s lines (IsWritten known old new)
+    in_part complete h =
+        let first = subst (IsComplete (machine s)) (sym h.are) complete in
+        let rest = all_after h.turns first in record {
+          turns = h.turns;
+          beginning = record {
+            scheduled = laws.scheduled h.turns first.bound first.within first.is;
+            all = h.turns ++ rest.0;
+            are = rest.1;
+            rest = text_of plan lines rest.0;
+            begins = flat_map-append (shown_text plan lines) h.turns rest.0;
+          };
+          became = record { bytes = h.puts.bytes; failures = h.puts.failures };
+        }
+
+    -- the lines of all turns went out
+    pub whole : {old new : Counted W} {taken : List (Turn Named)} {bytes : ℕ} → IsReference (machine s) end_rank taken → Sofar known plan lines old new taken bytes → IsSimulated plan s lines (IsWritten known old new)
+    whole {taken = taken} all h =
+        let is = h.are ∙ laws.one taken all in record {
+          turns = h.turns;
+          are = record { all = is; scheduled = laws.scheduled h.turns end_rank (omega arith) is };
+          became = record { bytes = h.puts.bytes; failures = h.puts.failures };
+        }
+
+    -- a write failed in the line of a turn
+    pub cut : {old mid new : Counted W} {taken now : List (Turn Named)} {bytes : ℕ} {fault : WriteFault} (turned : Turned) → now ≡ turn_of turned ∷ taken → IsComplete (machine s) now
+        → Sofar known plan lines old mid taken bytes → Stops known mid new bytes (shown_text plan lines turned) fault → IsSimulated plan s lines (λ text. Stops known old new 0 text fault)
+    cut {old} {mid} {new} {taken} {now} {bytes} {fault} turned next complete h stopped =
+        let turns = h.turns ++ turned ∷ [] in
+        let are : turns_of turns ≡ now = turns_joined h.turns (turned ∷ []) ∙ ap (λ l. turn_of turned ∷ l) h.are ∙ sym next in
+        let rest = all_after turns (subst (IsComplete (machine s)) (sym are) complete) in
+        let f = shown_text plan lines in
+        let text = flat_map-append f turns rest.0 ∙ ap (λ l. l ++ text_of plan lines rest.0) (sym (flat_map_more f [] h.turns turned)) in record {
+          turns = turns ++ rest.0;
+          are = rest.1;
+          became = subst (λ l. Stops known old new 0 l fault) (sym text) (stops (text_of plan lines rest.0) (then_stops h.puts stopped));
+        }
+
+module _ {W : Type 0} {known : W → Option (List ℕ)} where
+  -- no turn was taken
+  pub starts : {plan : Plan} {lines : Lines} {taken : List (Turn Named)} (out : Counted W) → taken ≡ [] → Sofar known plan lines out out taken 0
+  starts out none = record { turns = []; are = sym none; puts = puts_nothing out 0 (omega arith) }
+
+  -- the line of one more turn went out
+  pub one_more : {plan : Plan} {lines : Lines} {old mid new : Counted W} {taken now : List (Turn Named)} {before after : ℕ} (turned : Turned) → now ≡ turn_of turned ∷ taken
+      → Sofar known plan lines old mid taken before → Puts known mid new before after (shown_text plan lines turned) → Sofar known plan lines old new now after
+  one_more {plan} {lines} {old} {mid} {new} {taken} {now} {before} {after} turned next h puts =
+      record {
+        turns = h.turns ++ turned ∷ [];
+        are = turns_joined h.turns (turned ∷ []) ∙ ap (λ l. turn_of turned ∷ l) h.are ∙ sym next;
+        puts = subst (Puts known old new 0 after) (flat_map_more (shown_text plan lines) [] h.turns turned) (then_puts h.puts puts);
+      }
+
+  -- what was put is there still, when what is held of it goes out
+  pub puts_kept : {old mid new : Counted W} {before after : ℕ} {text : List ℕ} → Puts known old mid before after text → Keeps (known (writer_of mid)) (known (writer_of new)) → failures_of new ≡ failures_of mid → Puts known old new before after text
+  puts_kept {old} {mid} {new} {before} {after} {text} p kept same =
+      record { bytes = Appends-kept (known (writer_of old)) (known (writer_of mid)) (known (writer_of new)) text p.bytes kept; failures = same ∙ p.failures; count = p.count }
+
+pub ruleset flushes = (puts_kept)
