@@ -43,16 +43,81 @@ impl<'a> Files for CaseFiles<'a> {
     ghost lacks = { λ _ _. Unit {0} };
 
     fn read(&self, alloc: Global, name: &str, most: u64) -> Result<Vec<u8>, FileFault> {
-        let Some(content) = self.files.get(name).and_then(Value::as_str) else {
+        let Some(content) = self.files.get(name) else {
             return Err(FileFault::Failed);
         };
-        let mut bytes = match bytes_of(alloc, content) {
+        let mut bytes = match content_of(alloc, content) {
             Ok(bytes) => bytes,
             Err(_) => return Err(FileFault::NoMemory),
         };
         bytes.truncate(most as usize);
         Ok(bytes)
     }
+}
+
+// A text, or the texts of a list one after another. Of these a number and a text are that text so often, with the number of the time for each `#`,
+// from 1, and the number before it for each `@`.
+fn content_of(alloc: Global, content: &Value) -> Result<Vec<u8>, AllocError> {
+    let mut bytes = Vec::new(alloc);
+    push_text(alloc, content, &mut bytes)?;
+    let Some(pieces) = content.as_array() else {
+        return Ok(bytes);
+    };
+    let mut times = 1;
+    for piece in pieces {
+        match piece.as_u64() {
+            Some(number) => times = number,
+            None => {
+                push_times(alloc, piece, times, &mut bytes)?;
+                times = 1;
+            }
+        }
+    }
+    Ok(bytes)
+}
+
+fn push_text(alloc: Global, piece: &Value, bytes: &mut Vec<u8>) -> Result<(), AllocError> {
+    if let Some(text) = piece.as_str() {
+        bytes.extend_from_slice(bytes_of(alloc, text)?.as_slice())?;
+    }
+    Ok(())
+}
+
+fn push_times(
+    alloc: Global,
+    piece: &Value,
+    times: u64,
+    bytes: &mut Vec<u8>,
+) -> Result<(), AllocError> {
+    if times == 1 {
+        return push_text(alloc, piece, bytes);
+    }
+    let text = piece.as_str().unwrap_or("");
+    for time in 0..times {
+        push_numbered(alloc, text, time, bytes)?;
+    }
+    Ok(())
+}
+
+fn push_numbered(
+    alloc: Global,
+    text: &str,
+    before: u64,
+    bytes: &mut Vec<u8>,
+) -> Result<(), AllocError> {
+    for byte in text.as_bytes() {
+        match *byte {
+            b'#' => push_number(alloc, before.saturating_add(1), bytes)?,
+            b'@' => push_number(alloc, before, bytes)?,
+            other => bytes.push(other)?,
+        }
+    }
+    Ok(())
+}
+
+fn push_number(alloc: Global, number: u64, bytes: &mut Vec<u8>) -> Result<(), AllocError> {
+    let text = format!(in alloc; "{number}")?;
+    bytes.extend_from_slice(text.as_bytes())
 }
 
 // A character is one byte; one above 255 stands for none.
@@ -197,11 +262,10 @@ impl Case {
 
     // Whether the bytes are what the case wants under this name; anything will do where it says nothing.
     fn has_text(&self, alloc: Global, name: &str, bytes: &[u8]) -> Result<bool, AllocError> {
-        let Some(wanted) = self.text(name) else {
-            return Ok(true);
-        };
-        let wanted = bytes_of(alloc, wanted)?;
-        Ok(wanted.as_slice() == bytes)
+        match self.value.get(name) {
+            None | Some(Value::Null) => Ok(true),
+            Some(wanted) => Ok(content_of(alloc, wanted)?.as_slice() == bytes),
+        }
     }
 }
 

@@ -2,7 +2,8 @@
 //! out as they should.
 //!
 //! A line of a file of cases is one case in JSON. For the service: the words after the program's name, the files by their names (a
-//! character is one byte), what standard output and standard error have to be (`null`: anything), and the status. For the check: a
+//! character is one byte; a list of texts is these one after another, each so often as a number before it says), what standard output and
+//! standard error have to be (`null`: anything), and the status. For the check: a
 //! source, with the number of its refusal (`null`: it is accepted) and the token at which it stands.
 //! For the composition: the same under the name `composed`, and the number of the component.
 //!
