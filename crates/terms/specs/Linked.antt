@@ -1,5 +1,5 @@
 -- Values of terms with links, and states after effects with parts.
-use Rattle.std.specs.Prelude.{◌≡◌, ◌++◌, drop, map, List, [], ◌∷◌, Option, None, Some, IfSome, refl}
+use Rattle.std.specs.Prelude.{◌≡◌, ◌++◌, ℤ, Bool as Truth, drop, map, List, [], ◌∷◌, Option, None, Some, IfSome, refl}
 use Rattle.std.proofs.Common.{ap, sym, ◌∙◌, subst}
 use Rattle.terms.specs.Datum.{Datum, Just, pack, items_of, items_pack}
 use Rattle.terms.specs.Shapes.{rest}
@@ -22,7 +22,7 @@ use Rattle.terms.specs.declared.effect.Last.{Last}
 use Rattle.terms.specs.declared.effect.Last.TheOpen.{Effect-F}
 use Rattle.terms.specs.declared.effect.Last.TheFolds.{fold-roll-Effect}
 use Rattle.terms.specs.declared.scalar.Scalar.{Scalar}
-use Rattle.terms.specs.declared.scalar.Scalar.TheVariants.{Int}
+use Rattle.terms.specs.declared.scalar.Scalar.TheVariants.{Int, Bool}
 
 -- what a link makes of the value before it
 abbrev pub value_on : LinkTree → Scope → List Datum → Datum → Datum
@@ -33,6 +33,11 @@ value_on (Remainder divisor) scope cells left = Just (Int (rest (number left) di
 abbrev pub values_on : List LinkTree → Scope → List Datum → Datum → Datum
 values_on [] scope cells left = left
 values_on (link ∷ links) scope cells left = values_on links scope cells (value_on link scope cells left)
+
+-- what a term is so far: a number, up to a link that compares it
+abbrev pub so_far : ℤ → Option Truth → Datum
+so_far number None = Just (Int number)
+so_far number (Some truth) = Just (Bool truth)
 
 pub value_linked : (term : TermTree) (links : List LinkTree) (scope : Scope) (cells : List Datum) → value (linked term links) scope cells ≡ values_on links scope cells (value term scope cells)
 value_linked term [] scope cells = refl
@@ -45,14 +50,14 @@ opened term =
     let parts : Term-F Link Operand Term = record { first = term.first; links = term.links } in
     fold-roll-Term LinkTree TermTree TermTree link_step operand_step term_step parts
 
--- the scalar that links make of the first one is that of the term
-pub scalar_by : (term : Term) (links : List Link) (scope : Scope) (cells : List Datum) (first : Scalar) (found : Option Scalar) → links ≡ term.links.items → value (operand_tree term.first) scope cells ≡ Just first → IfSome found (λ s. values_on (map link_tree links) scope cells (Just first) ≡ Just s) → IfSome found (λ s. value (term_tree term) scope cells ≡ Just s)
-scalar_by term links scope cells first None e h k = k
-scalar_by term links scope cells first (Some s) e h k =
+-- what is read of the value that links make of the first one is read of the term's value
+pub read_by : {A : Type 0} (read : A → Datum) (term : Term) (links : List Link) (scope : Scope) (cells : List Datum) (first : Datum) (found : Option A) → links ≡ term.links.items → value (operand_tree term.first) scope cells ≡ first → IfSome found (λ a. values_on (map link_tree links) scope cells first ≡ read a) → IfSome found (λ a. value (term_tree term) scope cells ≡ read a)
+read_by read term links scope cells first None e h k = k
+read_by read term links scope cells first (Some a) e h k =
     ap (λ t. value t scope cells) (opened term)
     ∙ value_linked (operand_tree term.first) (map link_tree term.links.items) scope cells
     ∙ ap (values_on (map link_tree term.links.items) scope cells) h
-    ∙ sym (ap (λ ls. values_on (map link_tree ls) scope cells (Just first)) e) ∙ k
+    ∙ sym (ap (λ ls. values_on (map link_tree ls) scope cells first) e) ∙ k
 
 -- the items of a list without its first
 pub tail_by : (operand : Operand) (list : Box Term Global) (scope : Scope) (cells : List Datum) (items others : List Datum) → operand ≡ made.Tail list → items_of (value (term_tree list.value) scope cells) ≡ items → others ≡ drop 1 items → items_of (value (operand_tree operand) scope cells) ≡ others

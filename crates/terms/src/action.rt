@@ -7,7 +7,8 @@ ghost use Rattle.terms.specs.contracts.scalar.ScalarOrd.TheImpl.Laws.{total-law 
 ghost use Rattle.terms.specs.Orders.{action_cmp};
 
 use crate::scalar::Scalar;
-use std::alloc::AllocError;
+use smallvec::SmallVec;
+use std::alloc::{AllocError, Global};
 use std::cmp::Ordering;
 use std::marker::Model;
 
@@ -17,8 +18,32 @@ use std::marker::Model;
 pub struct Action {
     /// The number of the name, from 0, where all action names are numbered in the order of their bytes.
     pub name: u16,
-    /// The arguments, one for each parameter of the name.
-    pub args: Vec<Scalar>,
+    /// The arguments, one for each parameter of the name. Up to two stand here; more take memory.
+    pub args: SmallVec<Scalar, 2>,
+}
+
+impl Action {
+    ghost use Rattle.terms.specs.Named.{Named};
+
+    /// The action of this name with these arguments.
+    pub fn new(name: u16, args: Vec<Scalar>) -> Action
+        ensures { result ≡ record { name = name; args = args.items } }
+    {
+        Action {
+            name,
+            args: SmallVec::from_vec(args),
+        }
+    }
+
+    /// The same, its arguments copied from where they stand.
+    pub fn of_slice(alloc: Global, name: u16, args: &[Scalar]) -> Result<Action, AllocError>
+        ensures { IfOk result (λ action. action ≡ record { name = name; args = args.now }) }
+    {
+        Ok(Action {
+            name,
+            args: SmallVec::from_slice(alloc, args)?,
+        })
+    }
 }
 
 impl Model for Action {
@@ -35,7 +60,7 @@ impl Clone for Action {
     fn clone(&self) -> Result<Action, AllocError> {
         Ok(Action {
             name: self.name,
-            args: self.args.clone()?,
+            args: SmallVec::from_slice(*self.args.allocator(), self.args.as_slice())?,
         })
     }
 }

@@ -11,12 +11,28 @@ use crate::refusal::NoMemory;
 use crate::scalar::Scalar;
 use crate::seen::truth_in;
 use crate::term::Term;
+use crate::typed::{number_of, truth_of};
 use crate::value::Value;
 use std::alloc::Global;
 
 /// The value of a term in a scope and a state. `NoMemory` where a growth was refused; a scalar takes no memory, unless it
 /// is one of a sequence or an array that the term makes.
 pub fn eval<C: Cells>(alloc: Global, term: &Term, env: &Env, cells: &C) -> Result<Value, NoMemory>
+    ensures { IfOk result (λ v. v ≡ value (term_tree term.now) (scope env.now) (C.values cells.now)) }
+{
+    match number_of(term, env, cells) {
+        Some(number) => Ok(Value::of_scalar(Scalar::Int(number))),
+        None => eval_other(alloc, term, env, cells),
+    }
+}
+
+// The same for a term that isn't read off as a number.
+fn eval_other<C: Cells>(
+    alloc: Global,
+    term: &Term,
+    env: &Env,
+    cells: &C,
+) -> Result<Value, NoMemory>
     ensures { IfOk result (λ v. v ≡ value (term_tree term.now) (scope env.now) (C.values cells.now)) }
 {
     match scalar_of(term, env, cells) {
@@ -26,7 +42,24 @@ pub fn eval<C: Cells>(alloc: Global, term: &Term, env: &Env, cells: &C) -> Resul
 }
 
 /// Whether a term is true in a scope and a state.
+#[inline]
 pub fn is_true<C: Cells>(alloc: Global, term: &Term, env: &Env, cells: &C) -> Result<bool, NoMemory>
+    ensures { IfOk result (λ t. t ≡ truth (value (term_tree term.now) (scope env.now) (C.values cells.now))) }
+{
+    match truth_of(term, env, cells) {
+        Some(truth) => Ok(truth),
+        None => is_other_true(alloc, term, env, cells),
+    }
+}
+
+// The same for a term that isn't read off as a truth value.
+#[inline(never)]
+fn is_other_true<C: Cells>(
+    alloc: Global,
+    term: &Term,
+    env: &Env,
+    cells: &C,
+) -> Result<bool, NoMemory>
     ensures { IfOk result (λ t. t ≡ truth (value (term_tree term.now) (scope env.now) (C.values cells.now))) }
 {
     match scalar_of(term, env, cells) {
@@ -52,6 +85,7 @@ fn is_made_true<C: Cells>(
 }
 
 /// The scalar in a slot, counted from 0; the whole number 0 where there is no such slot.
+#[inline(always)]
 pub fn slot_of(slots: &[Scalar], n: usize) -> Scalar
     ensures { result ≡ slot slots.now n }
 {

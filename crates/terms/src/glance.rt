@@ -141,7 +141,7 @@ pub(crate) fn place_of<'a, C: Cells>(
 
 // The items of a sequence or an array in the state.
 #[cycle(glance)]
-fn items_in<'a, C: Cells>(term: &Term, env: &Env, cells: &'a C) -> Option<&'a [Value]>
+pub(crate) fn items_in<'a, C: Cells>(term: &Term, env: &Env, cells: &'a C) -> Option<&'a [Value]>
     ensures { IfSome result (λ items. items_of (value (term_tree term.now) (scope env.now) (C.values cells.now)) ≡ items.now) }
 {
     if term.links.is_empty() {

@@ -21,6 +21,7 @@ mod scalar;
 pub mod seen;
 mod state;
 mod term;
+mod typed;
 pub mod value;
 
 pub use action::Action;

@@ -15,6 +15,7 @@ use crate::parts;
 use crate::refusal::NoMemory;
 use crate::scalar::{Listed, Scalar};
 use crate::term::Term;
+use crate::typed::number_of;
 use std::alloc::Global;
 
 /// Does an effect: the state becomes the one after it. `NoMemory` where a growth was refused; then some first part of the
@@ -60,7 +61,27 @@ fn run_last<C: Cells>(alloc: Global, last: &Last, env: &Env, cells: &mut C) -> R
 }
 
 // Puts the value of a term into a cell.
+#[inline(always)]
 fn assign<C: Cells>(
+    alloc: Global,
+    cell: usize,
+    term: &Term,
+    env: &Env,
+    cells: &mut C,
+) -> Result<(), NoMemory>
+    ensures ok { OnOk result (C.values cells.new ≡ slice_set (C.values cells.old) cell (value (term_tree term.now) (scope env.now) (C.values cells.old))) }
+    ensures err { OnErr result (C.values cells.new ≡ C.values cells.old) }
+    ensures marked { C.marked cells.new ≡ C.marked cells.old }
+{
+    match number_of(term, env, cells) {
+        Some(number) => cells.set_scalar(cell, Scalar::Int(number)),
+        None => assign_other(alloc, cell, term, env, cells),
+    }
+}
+
+// The same for a value that isn't read off as a number.
+#[inline(never)]
+fn assign_other<C: Cells>(
     alloc: Global,
     cell: usize,
     term: &Term,
@@ -130,17 +151,36 @@ fn turns<C: Cells>(
     ensures err { OnErr result (AreParts (turn slot (effect_tree body.now) (scope env.now)) (IsPartOfTurn slot (effect_tree body.now) (scope env.now)) (members listed) (C.values cells.old) (C.values cells.new)) }
     ensures marked { C.marked cells.new ≡ C.marked cells.old }
 {
+    let mut inner = *env;
     for k in 0..parts::count_of(listed) {
-        let inner = Env {
-            formals: env.formals,
-            parameters: env.parameters,
-            loops: with(env.loops, slot, parts::member_at(listed, k)),
-        };
-        run(alloc, body, &inner, cells)?;
+        inner.loops = with(env.loops, slot, parts::member_at(listed, k));
+        run_turn(alloc, body, &inner, cells)?;
     }
     Ok(())
 }
 
+// One turn of a loop: an assignment alone is done at once.
+#[inline(always)]
+#[cycle(run)]
+fn run_turn<C: Cells>(
+    alloc: Global,
+    body: &Effect,
+    env: &Env,
+    cells: &mut C,
+) -> Result<(), NoMemory>
+    ensures ok { OnOk result (C.values cells.new ≡ after (effect_tree body.now) (scope env.now) (C.values cells.old)) }
+    ensures err { OnErr result (IsPart (effect_tree body.now) (scope env.now) (C.values cells.old) (C.values cells.new)) }
+    ensures marked { C.marked cells.new ≡ C.marked cells.old }
+{
+    if body.parts.is_empty() {
+        if let Last::Assign(cell, term) = &body.last {
+            return assign(alloc, *cell, term, env, cells);
+        }
+    }
+    run(alloc, body, env, cells)
+}
+
+#[inline(always)]
 fn with(loops: [Scalar; 3], slot: usize, member: Scalar) -> [Scalar; 3]
     ensures { result ≡ slice_set loops slot member }
 {

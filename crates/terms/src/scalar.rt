@@ -1,4 +1,5 @@
 //! Scalars, and the types of values.
+ghost use Rattle.std.specs.Prelude.{◌≡◌};
 
 /// A value of a scalar type. The members of all enumerations of a source are numbered from 0 in the order of their
 /// declaration, so a member belongs to one enumeration alone and is compared by that order.
@@ -9,6 +10,17 @@ pub enum Scalar {
     Bool(bool),
     /// The number of a member of an enumeration.
     Member(u16),
+}
+
+impl Default for Scalar {
+    ghost use Rattle.std.specs.Prelude.{pos};
+    ghost use Rattle.terms.specs.declared.scalar.Scalar.TheVariants.{Int};
+
+    ghost is_default = { λ scalar. scalar ≡ Int (pos 0) };
+
+    fn default() -> Scalar {
+        Scalar::Int(0)
+    }
 }
 
 /// A type whose members can be listed: `false` and `true`, `count` whole numbers from `low` upwards, or `count` members

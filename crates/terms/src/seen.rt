@@ -1,5 +1,5 @@
 //! Values that are lent or owned, and what scalars are read as.
-ghost use Rattle.std.specs.Prelude.{◌≡◌, IfOk, get_or, drop, pos, length};
+ghost use Rattle.std.specs.Prelude.{◌≡◌, IfOk, IfSome, get_or, drop, pos, length};
 ghost use Rattle.terms.specs.Datum.{Just, pack, items_of, scalar_of};
 ghost use Rattle.terms.specs.Shapes.{number_of, truth_of};
 ghost use Rattle.terms.specs.Meaning.{number, truth};
@@ -79,5 +79,27 @@ pub fn truth_in(scalar: Scalar) -> bool
     match scalar {
         Scalar::Bool(truth) => truth,
         _ => false,
+    }
+}
+
+/// The whole number that a scalar is; `None` where it is none.
+#[inline(always)]
+pub(crate) fn as_number(scalar: Scalar) -> Option<i64>
+    ensures { IfSome result (λ n. scalar ≡ Scalar.Int n) }
+{
+    match scalar {
+        Scalar::Int(number) => Some(number),
+        _ => None,
+    }
+}
+
+/// The truth value that a scalar is; `None` where it is none.
+#[inline(always)]
+pub(crate) fn as_truth(scalar: Scalar) -> Option<bool>
+    ensures { IfSome result (λ t. scalar ≡ Scalar.Bool t) }
+{
+    match scalar {
+        Scalar::Bool(truth) => Some(truth),
+        _ => None,
     }
 }

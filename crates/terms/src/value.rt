@@ -1,5 +1,5 @@
 //! Values.
-ghost use Rattle.std.specs.Prelude.{◌≡◌, if◌then◌else◌, IfOk, IfSome, slice_get, slice_set};
+ghost use Rattle.std.specs.Prelude.{◌≡◌, if◌then◌else◌, IfOk, IfSome, IfNone, slice_get, slice_set};
 ghost use lib.Pointwise.{pointwise};
 ghost use Rattle.std.specs.Cmp.{partial_equiv_from_equiv};
 ghost use Rattle.terms.specs.Datum.{Just, pack, items_of, scalar_of};
@@ -8,6 +8,7 @@ ghost use Rattle.terms.specs.Shapes.{with_item};
 
 use crate::refusal::NoMemory;
 use crate::scalar::Scalar;
+use crate::seen::{as_number, as_truth};
 use std::alloc::Global;
 use std::marker::Model;
 use std::mem;
@@ -92,9 +93,32 @@ impl Value {
     /// The scalar that it is; `None` where it is a sequence or an array.
     pub fn as_scalar(&self) -> Option<Scalar>
         ensures some { IfSome result (λ scalar. self.now ≡ Just scalar) }
+        ensures none { IfNone result (self.now ≡ pack (items_of self.now)) }
     {
         match &self.node {
             Node::Scalar(scalar) => Some(*scalar),
+            Node::Items(_) => None,
+        }
+    }
+
+    /// The whole number that it is; `None` where it is none.
+    #[inline(always)]
+    pub(crate) fn as_number(&self) -> Option<i64>
+        ensures { IfSome result (λ n. self.now ≡ Just (Scalar.Int n)) }
+    {
+        match &self.node {
+            Node::Scalar(scalar) => as_number(*scalar),
+            Node::Items(_) => None,
+        }
+    }
+
+    /// The truth value that it is; `None` where it is none.
+    #[inline(always)]
+    pub(crate) fn as_truth(&self) -> Option<bool>
+        ensures { IfSome result (λ t. self.now ≡ Just (Scalar.Bool t)) }
+    {
+        match &self.node {
+            Node::Scalar(scalar) => as_truth(*scalar),
             Node::Items(_) => None,
         }
     }

@@ -53,10 +53,7 @@ enum Step {
 }
 
 fn signed(alloc: Global, sign: Sign, tick: u64, to: u16) -> Signed {
-    let action = Action {
-        name: 5,
-        args: Vec::new(alloc),
-    };
+    let action = Action::new(5, Vec::new(alloc));
     let message = Message {
         key: key(tick, 2, 7),
         action,

@@ -10,10 +10,8 @@ use terms::{Action, Scalar};
 
 fn action(rt: &(impl Abort + AllocGlobal), name: u16, argument: i64, truth: bool) -> Action {
     let args = [Scalar::Int(argument), Scalar::Bool(truth)];
-    Action {
-        name,
-        args: Vec::from_array(rt.alloc(), args).expect(rt, "memory for arguments"),
-    }
+    let args = Vec::from_array(rt.alloc(), args).expect(rt, "memory for arguments");
+    Action::new(name, args)
 }
 
 fn message(

@@ -178,7 +178,7 @@ pub(crate) fn message(alloc: Global, pass: Pass) -> Result<Message, NoMemory> {
     let args = Vec::from_array(alloc, [Scalar::Int(pass.argument)])?;
     Ok(Message {
         key: pass.key,
-        action: Action { name: 0, args },
+        action: Action::new(0, args),
         to: other(pass.key.component),
     })
 }

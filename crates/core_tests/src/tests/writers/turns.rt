@@ -37,10 +37,10 @@ const THREE_ARGUMENTS: [Scalar; 3] = [
 fn turned(rt: &(impl Abort + AllocGlobal), key: Key, name: Option<u16>, args: &[Scalar]) -> Turned {
     let outcome = match name {
         None => Outcome::Idle,
-        Some(name) => Outcome::Did(Action {
-            name,
-            args: args.to_vec(rt.alloc()).expect(rt, "memory for arguments"),
-        }),
+        Some(name) => {
+            let args = args.to_vec(rt.alloc()).expect(rt, "memory for arguments");
+            Outcome::Did(Action::new(name, args))
+        }
     };
     Turned { key, outcome }
 }

@@ -1,5 +1,6 @@
 use Rattle.std.proofs.Common.{rules}
-use Rattle.terms.specs.Linked.{scalar_by, tail_by}
+use Rattle.terms.specs.Datum.{Just}
+use Rattle.terms.specs.Linked.{read_by, tail_by}
 use Rattle.terms.specs.Seen.{scope}
 use Rattle.terms.proofs.glance.+glance.Goals as goal
 
@@ -10,5 +11,5 @@ items_of-returns-in_ok-items_in-in-Tail g t c =
 
 pub scalar_of-returns : goal.scalar_of-returns
 scalar_of-returns g t c =
-    scalar_by c.args.term.now c.as_slice.result.now (scope c.args.env.now) (g.C.Cells.values c.args.cells.now) c.in_ok-first.first c.with_links.result
+    read_by Just c.args.term.now c.as_slice.result.now (scope c.args.env.now) (g.C.Cells.values c.args.cells.now) (Just c.in_ok-first.first) c.with_links.result
     c.as_slice.ensures.value (search rules) c.with_links.ensures

@@ -15,6 +15,8 @@ invariant-turns-loop-k g l =
       done : each f left (values l.cells) ≡ each f (members l.listed) (values l.initial.cells);
       parts : (d : List Datum) → AreParts f (IsPartOfTurn l.slot (effect_tree l.body) (scope l.env)) left (values l.cells) d → AreParts f (IsPartOfTurn l.slot (effect_tree l.body) (scope l.env)) (members l.listed) (values l.initial.cells) d;
       marked : g.C.Cells.marked l.cells ≡ g.C.Cells.marked l.initial.cells;
+      formals : l.inner.formals ≡ l.env.formals;
+      parameters : l.inner.parameters ≡ l.env.parameters;
     }
 
 abbrev pub invariant-run-loop-part : goal.invariant-run-loop-part
