@@ -17,6 +17,12 @@ next_member l k n h =
 pub no_member : (l : Listed) (k n : ℕ) → n < k + 1 → members_from l k (n - k) ≡ []
 no_member l k n h = let e : n - k ≡ zero = omega arith in ap (members_from l k) e
 
+-- a place that is set twice is as it was set last
+pub set_twice : {A : Type 0} (xs : List A) (k : ℕ) (x y : A) → slice_set (slice_set xs k x) k y ≡ slice_set xs k y
+set_twice [] k x y = refl
+set_twice (z ∷ zs) zero x y = refl
+set_twice (z ∷ zs) (suc k) x y = ap (λ ws. z ∷ ws) (set_twice zs k x y)
+
 pub item_pack : (xs : List Datum) (k : ℕ) (x : Datum) → with_item k x (pack xs) ≡ pack (slice_set xs k x)
 item_pack [] k x = refl
 item_pack (y ∷ ys) zero x = refl
@@ -36,6 +42,6 @@ set_item_past [] cell k x h = refl
 set_item_past (y ∷ ys) zero k x h = absurd (omega arith)
 set_item_past (y ∷ ys) (suc cell) k x h = ap (λ zs. y ∷ zs) (set_item_past ys cell k x (omega arith))
 
-pub ruleset turns = (next_member, no_member)
+pub ruleset turns = (next_member, no_member, set_twice)
 
 pub ruleset items = (item_pack, set_item_past)

@@ -153,7 +153,7 @@ fn turns<C: Cells>(
 {
     let mut inner = *env;
     for k in 0..parts::count_of(listed) {
-        inner.loops = with(env.loops, slot, parts::member_at(listed, k));
+        put_member(&mut inner.loops, slot, parts::member_at(listed, k));
         run_turn(alloc, body, &inner, cells)?;
     }
     Ok(())
@@ -181,12 +181,10 @@ fn run_turn<C: Cells>(
 }
 
 #[inline(always)]
-fn with(loops: [Scalar; 3], slot: usize, member: Scalar) -> [Scalar; 3]
-    ensures { result ≡ slice_set loops slot member }
+fn put_member(loops: &mut [Scalar; 3], slot: usize, member: Scalar)
+    ensures { loops.new ≡ slice_set loops.old slot member }
 {
-    let mut loops = loops;
     if slot < 3 {
         loops[slot] = member;
     }
-    loops
 }

@@ -14,9 +14,19 @@ use crate::scalar::Scalar;
 use crate::seen::{as_number, as_truth};
 use crate::term::{Link, Operand, Operator, Term};
 
-/// The whole number that a term is; `None` where it is none, or isn't read off as one.
-#[cycle(numbers)]
+/// The whole number that a term is; `None` where it is none, or isn't read off as one. It stands in its caller's frame; what
+/// nests is a call.
+#[inline(always)]
 pub(crate) fn number_of<C: Cells>(term: &Term, env: &Env, cells: &C) -> Option<i64>
+    ensures { IfSome result (λ n. value (term_tree term.now) (scope env.now) (C.values cells.now) ≡ Just (Scalar.Int n)) }
+{
+    let first = first_number(&term.first, env, cells)?;
+    numbers_on(first, term.links.as_slice(), env, cells)
+}
+
+#[inline(never)]
+#[cycle(numbers)]
+fn inner_number<C: Cells>(term: &Term, env: &Env, cells: &C) -> Option<i64>
     ensures { IfSome result (λ n. value (term_tree term.now) (scope env.now) (C.values cells.now) ≡ Just (Scalar.Int n)) }
 {
     let first = first_number(&term.first, env, cells)?;
@@ -55,9 +65,9 @@ fn number_made<C: Cells>(operand: &Operand, env: &Env, cells: &C) -> Option<i64>
     ensures { IfSome result (λ n. value (operand_tree operand.now) (scope env.now) (C.values cells.now) ≡ Just (Scalar.Int n)) }
 {
     match operand {
-        Operand::Negative(a) => Some(number::negative(number_of(a, env, cells)?)),
+        Operand::Negative(a) => Some(number::negative(inner_number(a, env, cells)?)),
         Operand::Nearest(a, low, high) => {
-            let a = number_of(a, env, cells)?;
+            let a = inner_number(a, env, cells)?;
             Some(number::clamped(a, *low, *high))
         }
         Operand::Length(a) => Some(items_in(a, env, cells)?.len() as i64),
@@ -105,7 +115,7 @@ fn right_number<C: Cells>(term: &Term, env: &Env, cells: &C) -> Option<i64>
     if term.links.is_empty() {
         return first_number(&term.first, env, cells);
     }
-    number_of(term, env, cells)
+    inner_number(term, env, cells)
 }
 
 /// Whether a term is true; `None` where it is no truth value, or isn't read off as one.

@@ -1,4 +1,5 @@
-use Rattle.std.proofs.Common.{◌≡◌, ◌-◌, List, map, drop}
+use Rattle.std.proofs.Common.{◌≡◌, ◌-◌, List, map, drop, slice_set}
+use Rattle.terms.specs.declared.scalar.Scalar.{Scalar}
 use Rattle.terms.specs.Datum.{Datum}
 use Rattle.terms.specs.Meaning.{each, turn, after, AreParts, IsPart, IsPartOfTurn}
 use Rattle.terms.specs.Shapes.{members, members_from, count}
@@ -17,6 +18,7 @@ invariant-turns-loop-k g l =
       marked : g.C.Cells.marked l.cells ≡ g.C.Cells.marked l.initial.cells;
       formals : l.inner.formals ≡ l.env.formals;
       parameters : l.inner.parameters ≡ l.env.parameters;
+      loops : (member : Scalar) → slice_set l.inner.loops l.slot member ≡ slice_set l.env.loops l.slot member;
     }
 
 abbrev pub invariant-run-loop-part : goal.invariant-run-loop-part
