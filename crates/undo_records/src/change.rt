@@ -32,6 +32,15 @@ impl Change {
         }
     }
 
+    /// Whether what it replaced is a sequence or an array.
+    #[inline(always)]
+    pub(crate) fn has_list(&self) -> bool {
+        match self {
+            Change::Cell(_, old) => old.is_list(),
+            Change::Item(_, _, old) => old.is_list(),
+        }
+    }
+
     /// Whether one of the last few changes replaced all that this one did, so that it need not be kept: it is the same whether it
     /// is put back.
     pub(crate) fn is_covered(&self, earlier: &[Change]) -> bool

@@ -57,10 +57,14 @@ impl Store {
         ensures ok { OnOk result (self.new ≡ marked self.old) }
         ensures err { OnErr result (self.new ≡ self.old) }
     {
-        let mut room = mem::replace(&mut self.spare, Vec::new(alloc));
-        room.clear();
-        self.marks.push_front(room)?;
-        Ok(())
+        let room = emptied(mem::replace(&mut self.spare, Vec::new(alloc)));
+        match self.marks.push_front(room) {
+            Ok(()) => Ok(()),
+            Err(refused) => {
+                let_go(refused.value);
+                Err(NoMemory)
+            }
+        }
     }
 
     /// Drops the current state, and answers `false` where it is the only one. Takes no memory.
@@ -92,6 +96,19 @@ impl Store {
     {
         let left = self.marks.len() - count;
         keep_newest(&mut self.marks, &mut self.spare, left);
+    }
+
+    // Puts a value into a cell of which the newest mark has noted nothing of late.
+    #[inline(always)]
+    fn set_new(&mut self, cell: usize, value: Value) -> Result<(), NoMemory>
+        ensures ok { OnOk result (self.new ≡ record self.old { current = slice_set self.old.current cell value }) }
+        ensures err { OnErr result (self.new ≡ self.old) }
+    {
+        if cell >= self.current.len() {
+            return Ok(());
+        }
+        let old = mem::replace(&mut self.current[cell], value);
+        keep_new(&mut self.current, &mut self.marks, Change::Cell(cell, old))
     }
 
     /// Whether the first states of two stores are equal. Takes no memory.
@@ -151,7 +168,7 @@ impl Cells for Store {
             self.current[cell].put_scalar(scalar);
             return Ok(());
         }
-        self.set(cell, Value::of_scalar(scalar))
+        self.set_new(cell, Value::of_scalar(scalar))
     }
 
     fn set_at(&mut self, cell: usize, index: usize, value: Value) -> Result<(), NoMemory>
@@ -221,6 +238,42 @@ fn note(marks: &mut VecDeque<Vec<Change>>, change: Change) -> Result<(), Change>
     }
 }
 
+// The same for a change that is known not to be covered.
+#[inline(always)]
+fn keep_new(
+    current: &mut Vec<Value>,
+    marks: &mut VecDeque<Vec<Change>>,
+    change: Change,
+) -> Result<(), NoMemory>
+    ensures ok { OnOk result ((current.new.items ≡ current.old.items) × IsNoted change (map changes_in marks.old.items) (map changes_in marks.new.items)) }
+    ensures err { OnErr result ((current.new.items ≡ restored change current.old.items) × (map changes_in marks.new.items ≡ map changes_in marks.old.items)) }
+{
+    match note_new(marks, change) {
+        Ok(()) => Ok(()),
+        Err(change) => {
+            put_one_back(current, change);
+            Err(NoMemory)
+        }
+    }
+}
+
+#[inline(always)]
+fn note_new(marks: &mut VecDeque<Vec<Change>>, change: Change) -> Result<(), Change>
+    ensures ok { OnOk result (IsNoted change (map changes_in marks.old.items) (map changes_in marks.new.items)) }
+    ensures err { IfErr result (λ back. (back ≡ change) × (map changes_in marks.new.items ≡ map changes_in marks.old.items)) }
+{
+    match marks.front_mut() {
+        None => {
+            drop(change);
+            Ok(())
+        }
+        Some(changes) => match changes.push(change) {
+            Ok(()) => Ok(()),
+            Err(refused) => Err(refused.value),
+        },
+    }
+}
+
 #[tactic(auto, using(terms::specs::Turns::items))]
 fn put_one_back(current: &mut Vec<Value>, change: Change)
     ensures { current.new.items ≡ restored change current.old.items }
@@ -262,14 +315,57 @@ fn keep_newest(marks: &mut VecDeque<Vec<Change>>, spare: &mut Vec<Change>, left:
         return;
     };
     keep_room(spare, oldest);
+    if marks.len() > left {
+        cut(marks, left);
+    }
+}
+
+#[inline(never)]
+fn cut(marks: &mut VecDeque<Vec<Change>>, left: usize)
+    ensures { marks.new.items ≡ take left marks.old.items }
+{
     marks.truncate(left);
 }
 
 // Drops changes, and keeps their room for the next mark.
+#[inline(always)]
 fn keep_room(spare: &mut Vec<Change>, mut changes: Vec<Change>)
     ensures { spare.new.items ≡ [] }
 {
-    changes.clear();
+    if changes.iter().any(|change| change.has_list()) {
+        empty(&mut changes);
+    }
+    // What is left are scalars, which own no memory.
+    while let Some(scalar) = changes.pop() {
+        mem::forget(scalar);
+    }
     let old = mem::replace(spare, changes);
-    drop(old);
+    if old.capacity() == 0 {
+        mem::forget(old);
+    } else {
+        let_go(old);
+    }
+}
+
+#[inline(always)]
+fn emptied(mut room: Vec<Change>) -> Vec<Change>
+    ensures { result.items ≡ [] }
+{
+    if room.is_empty() {
+        return room;
+    }
+    empty(&mut room);
+    room
+}
+
+#[inline(never)]
+fn empty(room: &mut Vec<Change>)
+    ensures { room.new.items ≡ [] }
+{
+    room.clear();
+}
+
+#[inline(never)]
+fn let_go(changes: Vec<Change>) {
+    drop(changes);
 }

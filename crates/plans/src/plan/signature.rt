@@ -1,12 +1,12 @@
 //! The signatures of the components and of their composition.
 ghost use Rattle.std.specs.Prelude.{◌≡◌, ◌++◌, ◌∷◌, [], IfOk, IfSome, OnOk, cond, length, int_le, int_lt, pos, ◌+ℤ◌, ◌&&◌, option_copied, find, filter, is_some, ℕ};
 ghost use Rattle.plans.specs.Automata.{transition_of};
+ghost use Rattle.terms.specs.Meaning.{slot};
 ghost use Rattle.plans.specs.Signatures.{is_member, fits_one, fits, has, kind_of, receives, receivers_of, is_external, is_open, takes_input, some_component, takers_of};
 
 use crate::automaton::{Entry, Kind, Param};
 use crate::plan::Plan;
 use std::alloc::Global;
-use terms::evaluate::slot_of;
 use terms::{Action, Listed, NoMemory, Scalar};
 
 impl Plan {
@@ -212,18 +212,28 @@ fn is_member(listed: Listed, value: Scalar) -> bool
     }
 }
 
-fn fits_one(formals: &[Scalar], param: Param, value: Scalar) -> bool
-    ensures { result ≡ fits_one formals.now param value }
+fn is_slot(formals: &[Scalar], n: usize, value: &Scalar) -> bool
+    ensures { result ≡ ⟦<Scalar as PartialEq>⟧.eq (slot formals.now n) value.now }
+{
+    match formals.get(n) {
+        Some(formal) => *formal == *value,
+        None => Scalar::Int(0) == *value,
+    }
+}
+
+#[inline(always)]
+fn fits_one(formals: &[Scalar], param: &Param, value: &Scalar) -> bool
+    ensures { result ≡ fits_one formals.now param.now value.now }
 {
     match param {
-        Param::Const(n) => slot_of(formals, n) == value,
-        Param::Member(listed) => is_member(listed, value),
-        Param::Between(low, high) => match value {
-            Scalar::Int(number) => low <= number && number <= high,
+        Param::Const(n) => is_slot(formals, *n, value),
+        Param::Member(listed) => is_member(*listed, *value),
+        Param::Between(low, high) => match *value {
+            Scalar::Int(number) => *low <= number && number <= *high,
             Scalar::Bool(_) => false,
             Scalar::Member(_) => false,
         },
-        Param::Whole => match value {
+        Param::Whole => match *value {
             Scalar::Int(_) => true,
             Scalar::Bool(_) => false,
             Scalar::Member(_) => false,
@@ -231,17 +241,19 @@ fn fits_one(formals: &[Scalar], param: Param, value: Scalar) -> bool
     }
 }
 
+#[inline(always)]
 fn fits(formals: &[Scalar], params: &[Param], args: &[Scalar]) -> bool
     ensures { result ≡ fits formals.now params.now args.now }
 {
-    match (params.split_first(), args.split_first()) {
-        (None, None) => true,
-        (Some((param, params)), Some((value, args))) => {
-            fits_one(formals, *param, *value) && fits(formals, params, args)
-        }
-        (None, Some(_)) => false,
-        (Some(_), None) => false,
+    if params.len() != args.len() {
+        return false;
     }
+    for k in 0..params.len() {
+        if !fits_one(formals, &params[k], &args[k]) {
+            return false;
+        }
+    }
+    true
 }
 
 fn has(formals: &[Scalar], action: &Action, entry: &Entry) -> bool
