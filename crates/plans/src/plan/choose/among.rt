@@ -14,9 +14,8 @@ use terms::{Action, Cells, NoMemory, Scalar};
 fn made(alloc: Global, name: u16, args: &[Scalar]) -> Result<Action, NoMemory>
     ensures { IfOk result (λ action. action ≡ record { name = name; args = args.now }) }
 {
-    let mut copied = Vec::with_capacity(alloc, args.len())?;
-    copied.extend_from_slice(args)?;
-    Ok(Action { name, args: copied })
+    let action = Action::of_slice(alloc, name, args)?;
+    Ok(action)
 }
 
 // Whether the precondition holds for the tuple at a place, which then stands in `args`.
