@@ -1,5 +1,6 @@
 pub mod Checked
 mod Joining
+mod Played
 mod Queued
 pub mod Runs
 mod Scheduled

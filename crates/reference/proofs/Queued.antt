@@ -1,70 +1,15 @@
--- A queue of next keys: one key more, and the first one replaced.
-use Rattle.std.proofs.Common.{◌≡◌, ℕ, suc, ◌+◌, ◌<◌, ◌≤◌, ◌⊎◌, inl, inr, Bool, true, false, Option, None, Some, List, [], ◌∷◌, refl, ap, sym, subst, ◌∙◌, arith}
-use Rattle.std.specs.Prelude.{if◌then◌else◌, ◌==◌, slice_get, IsSome, IfSome}
-use Rattle.std.specs.List.{All, AllByRecursion}
-use Rattle.std.specs.List.Sorted.{IsPermutation}
-use Rattle.std.specs.BinaryHeap.{IsHeap}
-use Rattle.std.specs.declared.cmp.Reverse.{Reverse}
-use Rattle.std.proofs.lemmas.Bool.{cases_eq, cases_lt, eq-eqb, ne_eqb}
-use Rattle.std.proofs.lemmas.List.Elements.{All-cons, All-head, All-tail, All-weaker, All-from_recursion, recursion_from_All}
-use Rattle.std.proofs.lemmas.List.Sorted.{IsPermutation-refl, All-permutation, sum_by_pushed, sum_by-IsPermutation}
+-- The queue of next keys: its least key, and one key replaced.
+use Rattle.std.proofs.Common.{◌≡◌, ℕ, ◌+◌, ◌*◌, ◌/◌, ◌%◌, ◌<◌, ◌≤◌, ◌⊎◌, inl, inr, Bool, true, false, Option, None, Some, List, length, refl, ap, sym, subst, ◌∙◌, arith}
+use Rattle.std.specs.Prelude.{if◌then◌else◌, ◌==◌, IfSome, replicate, slice_index_or, slice_set}
+use Rattle.std.proofs.lemmas.Bool.{cases_eq, cases_lt, eq-eqb, ne_eqb, lt-ltb}
+use Rattle.std.proofs.lemmas.List.{get_or-set_same, get_or-set_other, length-set, get_or-replicate, length-replicate, get_or_past}
 use Rattle.event_keys.specs.declared.key.Key.{Key}
-use Rattle.task_seed.specs.Turning.{System, key_of, key_at, ticks, has_turns}
-use Rattle.reference.specs.Queues.{IsDue, IsQueue, least_first, replaced, count_of}
-
--- what an entry adds to the count of component j
-abbrev weight : ℕ → Reverse Key → ℕ
-weight j entry = if entry.0.component == j then 1 else 0
-
-own_weight : (j : ℕ) (entry : Reverse Key) → entry.0.component ≡ j → weight j entry ≡ 1
-own_weight j entry own = ap (λ b. if b then 1 else 0) (eq-eqb entry.0.component j own)
-
-no_weight : (j : ℕ) (entry : Reverse Key) → (entry.0.component ≡ j → ⊥) → weight j entry ≡ 0
-no_weight j entry other = ap (λ b. if b then 1 else 0) (ne_eqb entry.0.component j other)
-
-count_more : (j : ℕ) (entry : Reverse Key) (entries : List (Reverse Key)) → count_of j (entry ∷ entries) ≡ weight j entry + count_of j entries
-count_more j entry entries = sum_by_pushed (weight j) entry entries (entry ∷ entries) (IsPermutation-refl (entry ∷ entries))
-
-count_same : (j : ℕ) (old new : List (Reverse Key)) → IsPermutation old new → count_of j new ≡ count_of j old
-count_same j old new same = sum_by-IsPermutation (weight j) old new same
-
-none_counted : (j : ℕ) (entries : List (Reverse Key)) → AllByRecursion (λ entry. entry.0.component ≡ j → ⊥) entries → count_of j entries ≡ 0
-none_counted j [] all = refl
-none_counted j (entry ∷ entries) all =
-    let more = count_more j entry entries in
-    let none = no_weight j entry all.0 in
-    let rest = none_counted j entries all.1 in
-    omega (arith, more, none, rest)
-
-others : (j : ℕ) (entries : List (Reverse Key)) → count_of j entries ≡ 0 → AllByRecursion (λ entry. entry.0.component ≡ j → ⊥) entries
-others j [] none = tt
-others j (entry ∷ entries) none =
-    let more = count_more j entry entries in (
-      λ own. let one = own_weight j entry own in absurd (omega (arith, more, one, none)),
-      others j entries (omega (arith, more, none)),
-    )
-
--- an entry of component j
-pub record IsHeld (j : ℕ) (entries : List (Reverse Key)) : Type 0 where
-  pub place : ℕ
-  pub entry : Reverse Key
-  pub at : slice_get entries place ≡ Some entry
-  pub own : entry.0.component ≡ j
-
-pub held : (j : ℕ) (entries : List (Reverse Key)) → 0 < count_of j entries → IsHeld j entries
-held j [] some = absurd (omega (arith, some))
-held j (entry ∷ entries) some = go (cases_eq entry.0.component j) (held j entries) where
-  go : (entry.0.component ≡ j) ⊎ (entry.0.component ≡ j → ⊥) → (0 < count_of j entries → IsHeld j entries) → IsHeld j (entry ∷ entries)
-  go (inl own) rest = record { place = 0; entry = entry; at = refl; own = own }
-  go (inr other) rest =
-      let more = count_more j entry entries in
-      let none = no_weight j entry other in
-      let later = rest (omega (arith, more, none, some)) in
-      record { place = suc later.place; entry = later.entry; at = later.at; own = later.own }
-
-both : {X : Type 0} (P Q R : X → Type 0) → ((x : X) → P x → Q x → R x) → (xs : List X) → AllByRecursion P xs → AllByRecursion Q xs → AllByRecursion R xs
-both P Q R step [] ps qs = tt
-both P Q R step (x ∷ xs) ps qs = (step x ps.0 qs.0, both P Q R step xs ps.1 qs.1)
+use Rattle.event_keys.specs.Ranks.{rank}
+use Rattle.task_seed.specs.Turning.{System, key_of, key_at as key_with, ticks, has_turns}
+use Rattle.task_seed.specs.Machines.{turn_rank, end_rank}
+use Rattle.reference.specs.Queues.{ArePlaced, IsQueue, IsSmall, key_at, least_key, least_rank, place_of, rank_or_end}
+use Rattle.reference.specs.Tournaments.{IsTournament, node}
+use Rattle.reference.proofs.Played.{IsOne, root_low, root_reached}
 
 -- a key of turn n of component j
 pub record IsKeyOf (j n : ℕ) (key : Key) : Type 0 where
@@ -73,159 +18,208 @@ pub record IsKeyOf (j n : ℕ) (key : Key) : Type 0 where
 
 pub key_there : (s : System) (j n : ℕ) (key : Key) → Some key ≡ key_of s j n → IsKeyOf j n key
 key_there s j n key e = go (has_turns s j (n + 1)) e where
-  go : (b : Bool) → Some key ≡ (if b then Some (key_at j n (ticks s j (n + 1))) else None) → IsKeyOf j n key
+  go : (b : Bool) → Some key ≡ (if b then Some (key_with j n (ticks s j (n + 1))) else None) → IsKeyOf j n key
   go true is =
-      let same : key ≡ key_at j n (ticks s j (n + 1)) = cc in
+      let same : key ≡ key_with j n (ticks s j (n + 1)) = cc in
       record { component = ap (λ (x : Key). x.component) same; number = ap (λ (x : Key). x.number) same }
   go false is = cc
 
-none_there : (o : Option Key) → o ≡ None → IsSome o → ⊥
-none_there None e some = cc
-none_there (Some key) e some = cc
+-- the rank of a turn is that of its key
+pub ranked : (s : System) (j n : ℕ) → j < length s.composition → rank_or_end (key_of s j n) ≡ turn_rank s j n
+ranked s j n there = rw (lt-ltb j (length s.composition) there) (go (has_turns s j (n + 1))) where
+  k : Key
+  k = key_with j n (ticks s j (n + 1))
 
-module _ (s : System) where
-  -- an empty queue is that of no component
-  pub empty : (next : ℕ → ℕ) → IsHeap least_first [] → IsQueue s 0 next []
-  empty next ordered = record { ordered = ordered; due = All-from_recursion (λ entry. IsDue s 0 next entry.0) [] tt; once = λ j below some. absurd (omega (arith, below)) }
+  go : (b : Bool) → rank_or_end (if b then Some k else None) ≡ (if b then rank k else end_rank)
+  go true = refl
+  go false = refl
 
-  module _ (i : ℕ) (next : ℕ → ℕ) (old : List (Reverse Key)) (queue : IsQueue s i next old) where
-    wider : (entry : Reverse Key) → IsDue s i next entry.0 → IsDue s (i + 1) next entry.0
-    wider entry due = record { there = due.there; within = (let below = due.within in omega (arith, below)); component_fits = due.component_fits; number_fits = due.number_fits }
+-- the first turns of the components before this one are placed
+pub placed_none : (s : System) (n : ℕ) (next : ℕ → ℕ) (places : List ℕ) → IsTournament n places → ArePlaced s n 0 next places
+placed_none s n next places is = record { tournament = is; placed = λ j below. absurd (omega (arith, below)); small = λ j below. absurd (omega (arith, below)) }
 
-    old_due : All (λ entry. IsDue s (i + 1) next entry.0) old
-    old_due = All-weaker (λ entry. IsDue s i next entry.0) (λ entry. IsDue s (i + 1) next entry.0) wider old queue.due
+pub placed_one : (s : System) (n i : ℕ) (next : ℕ → ℕ) (places : List ℕ) → i < n → ArePlaced s n i next places
+    → (new : List ℕ) → IsTournament n new → node new (n + i) ≡ place_of (key_of s i (next i)) → ((k : ℕ) → k < n → (k ≡ i → ⊥) → node new (n + k) ≡ node places (n + k))
+    → IfSome (key_of s i (next i)) IsSmall → ArePlaced s n (i + 1) next new
+placed_one s n i next places within before new is own others small = record { tournament = is; placed = λ j below. placed j below (cases_eq j i); small = λ j below. smalls j below (cases_eq j i) } where
+  placed : (j : ℕ) → j < i + 1 → (j ≡ i) ⊎ (j ≡ i → ⊥) → node new (n + j) ≡ place_of (key_of s j (next j))
+  placed j below (inl e) = subst (λ k. node new (n + k) ≡ place_of (key_of s k (next k))) (sym e) own
+  placed j below (inr ne) = others j (omega (arith, below, within)) ne ∙ before.placed j (omega (arith, below, ne))
 
-    -- the next component has no turn
-    pub skipped : key_of s i (next i) ≡ None → IsQueue s (i + 1) next old
-    skipped none = record { ordered = queue.ordered; due = old_due; once = once } where
-      once : (j : ℕ) → j < i + 1 → IsSome (key_of s j (next j)) → count_of j old ≡ 1
-      once j below some = go (cases_lt j i) where
-        go : (j < i) ⊎ (i ≤ j) → count_of j old ≡ 1
-        go (inl less) = queue.once j less some
-        go (inr above) =
-            let same : j ≡ i = omega (arith, above, below) in
-            absurd (none_there (key_of s j (next j)) (subst (λ k. key_of s k (next k) ≡ None) (sym same) none) some)
+  smalls : (j : ℕ) → j < i + 1 → (j ≡ i) ⊎ (j ≡ i → ⊥) → IfSome (key_of s j (next j)) IsSmall
+  smalls j below (inl e) = subst (λ k. IfSome (key_of s k (next k)) IsSmall) (sym e) small
+  smalls j below (inr ne) = before.small j (omega (arith, below, ne))
 
-    -- the key of the next component's turn is put in
-    pub pushed : (entry : Reverse Key) (new : List (Reverse Key)) → Some entry.0 ≡ key_of s i (next i) → i < 65536 → next i < 4294967296
-        → IsPermutation (entry ∷ old) new → IsHeap least_first new → IsQueue s (i + 1) next new
-    pushed entry new is component_fits number_fits same ordered = record {
-      ordered = ordered;
-      due = All-permutation (λ e. IsDue s (i + 1) next e.0) (entry ∷ old) new same (All-cons (λ e. IsDue s (i + 1) next e.0) entry old own_due old_due);
-      once = once;
-    } where
-      key : IsKeyOf i (next i) entry.0
-      key = key_there s i (next i) entry.0 is
+pub first_queue : (s : System) (n : ℕ) (places numbers : List ℕ) → ArePlaced s n n (λ j. 0) places → numbers ≡ replicate n 0 → IsQueue s n (λ j. 0) places numbers
+first_queue s n places numbers are e = record {
+  places = are;
+  many = ap length e ∙ length-replicate n 0;
+  numbered = λ j below. ap (λ l. slice_index_or l j 0) e ∙ get_or-replicate n j 0 0 below;
+}
 
-      own_due : IsDue s (i + 1) next entry.0
-      own_due =
-          let component = key.component in
-          let number = key.number in
-          record {
-            there = subst (λ j. Some entry.0 ≡ key_of s j (next j)) (sym component) is;
-            within = omega (arith, component);
-            component_fits = omega (arith, component, component_fits);
-            number_fits = omega (arith, number, number_fits);
-          }
+-- the key of a component's next turn, which stands at the root
+pub record IsFirst (s : System) (n : ℕ) (next : ℕ → ℕ) (places : List ℕ) (key : Key) : Type 0 where
+  pub there : Some key ≡ key_of s key.component (next key.component)
+  pub within : key.component < n
+  pub small : IsSmall key
+  pub place : node places 1 ≡ key.tick * 65536 + key.component
+  pub number : key.number ≡ next key.component
 
-      apart : AllByRecursion (λ e. e.0.component ≡ i → ⊥) old
-      apart = recursion_from_All (λ e. e.0.component ≡ i → ⊥) old (All-weaker (λ e. IsDue s i next e.0) (λ e. e.0.component ≡ i → ⊥) (λ e due own. let below = due.within in absurd (omega (arith, below, own))) old queue.due)
+record IsWinner (s : System) (n : ℕ) (next : ℕ → ℕ) (places : List ℕ) : Type 0 where
+  pub key : Key
+  pub is : IsFirst s n next places key
 
-      once : (j : ℕ) → j < i + 1 → IsSome (key_of s j (next j)) → count_of j new ≡ 1
-      once j below some = count_same j (entry ∷ old) new same ∙ go (cases_lt j i) where
-        go : (j < i) ⊎ (i ≤ j) → count_of j (entry ∷ old) ≡ 1
-        go (inl less) =
-            let more = count_more j entry old in
-            let component = key.component in
-            let none = no_weight j entry (λ own. absurd (omega (arith, own, component, less))) in
-            let one = queue.once j less some in
-            omega (arith, more, none, one)
-        go (inr above) =
-            let same : i ≡ j = omega (arith, above, below) in
-            let more = count_more j entry old in
-            let one = own_weight j entry (key.component ∙ same) in
-            let none = none_counted j old (subst (λ k. AllByRecursion (λ e. e.0.component ≡ k → ⊥) old) same apart) in
-            omega (arith, more, one, none)
+module _ (s : System) (n : ℕ) (next : ℕ → ℕ) (places numbers : List ℕ) (queue : IsQueue s n next places numbers) where
+  winner : 0 < n → (node places 1 ≡ 18446744073709551615 → ⊥) → IsWinner s n next places
+  winner some there = go (key_of s one.index (next one.index)) refl where
+    one : IsOne n places (node places 1)
+    one = root_reached n places queue.places.tournament some
 
-  -- the first key's component has taken its turn, and its next key, if it has one, is in place of that key
-  pub refilled : (n : ℕ) (next after : ℕ → ℕ) (first : Reverse Key) (rest : List (Reverse Key)) → IsQueue s n next (first ∷ rest)
-      → ((j : ℕ) → (j ≡ first.0.component → ⊥) → after j ≡ next j)
-      → (follower : Option Key) → follower ≡ key_of s first.0.component (after first.0.component) → IfSome follower (λ key. key.number < 4294967296)
-      → (new : List (Reverse Key)) → IsPermutation (replaced follower (first ∷ rest)) new → IsHeap least_first new → IsQueue s n after new
-  refilled n next after first rest queue stays follower is small new same ordered = go follower is small same where
-    i : ℕ
-    i = first.0.component
+    go : (o : Option Key) → o ≡ key_of s one.index (next one.index) → IsWinner s n next places
+    go None e = absurd (there (one.is ∙ queue.places.placed one.index one.within ∙ ap place_of (sym e)))
+    go (Some key) e =
+        let at = key_there s one.index (next one.index) key e in
+        let component = at.component in
+        let within = one.within in
+        record {
+          key = key;
+          is = record {
+            there = subst (λ k. Some key ≡ key_of s k (next k)) (sym component) e;
+            within = omega (arith, component, within);
+            small = subst (λ o. IfSome o IsSmall) (sym e) (queue.places.small one.index one.within);
+            place = one.is ∙ queue.places.placed one.index one.within ∙ ap place_of (sym e);
+            number = at.number ∙ ap next (sym component);
+          };
+        }
 
-    first_due : IsDue s n next first.0
-    first_due = All-head (λ e. IsDue s n next e.0) first rest queue.due
+  -- the key at the root's place is this one
+  first_is : (key : Key) → IsFirst s n next places key → Some key ≡ least_key places numbers
+  first_is key is =
+      let place = is.place in
+      let tick_small = is.small.tick in
+      let component_small = is.small.component in
+      let tick : key.tick ≡ node places 1 / 65536 = omega (arith, place, component_small) in
+      let component : key.component ≡ node places 1 % 65536 = omega (arith, place, component_small) in
+      let number : key.number ≡ slice_index_or numbers (node places 1 % 65536) 0 =
+      is.number ∙ sym (queue.numbered key.component is.within) ∙ ap (λ k. slice_index_or numbers k 0) component in
+      let other : (node places 1 == 18446744073709551615) ≡ false = ne_eqb (node places 1) 18446744073709551615 (λ e. absurd (omega (arith, e, place, tick_small, component_small))) in
+      (λ i. Some (record { tick = tick i; component = component i; number = number i })) ∙ sym (ap (λ b. if b then None else Some (key_at (node places 1) numbers)) other)
 
-    there_is : (o : Option Key) → Some first.0 ≡ o → IsSome o
-    there_is None e = cc
-    there_is (Some key) e = refl
+  ended_is : node places 1 ≡ 18446744073709551615 → least_key places numbers ≡ None
+  ended_is e = ap (λ b. if b then None else Some (key_at (node places 1) numbers)) (eq-eqb (node places 1) 18446744073709551615 e)
 
-    alone : count_of i rest ≡ 0
-    alone =
-        let more = count_more i first rest in
-        let own = own_weight i first refl in
-        let one = queue.once i first_due.within (there_is (key_of s i (next i)) first_due.there) in
-        omega (arith, more, own, one)
+  -- what is at the root: nothing, or a first key
+  pub record IsLed (o : Option Key) : Type 0 where
+    pub is : o ≡ least_key places numbers
+    pub first : IfSome o (IsFirst s n next places)
 
-    stays_due : (e : Reverse Key) → IsDue s n next e.0 → (e.0.component ≡ i → ⊥) → IsDue s n after e.0
-    stays_due e due other = record {
-      there = due.there ∙ ap (λ m. key_of s e.0.component m) (sym (stays e.0.component other));
-      within = due.within;
-      component_fits = due.component_fits;
-      number_fits = due.number_fits;
-    }
+  none_past : (k : ℕ) → length places ≤ k → node places k ≡ 18446744073709551615
+  none_past k past = past_default places k 18446744073709551615 past where
+    past_default : (xs : List ℕ) (i d : ℕ) → length xs ≤ i → slice_index_or xs i d ≡ d
+    past_default xs i d short = get_or_past xs i d short
 
-    rest_due : All (λ e. IsDue s n after e.0) rest
-    rest_due = All-from_recursion (λ e. IsDue s n after e.0) rest (both (λ e. IsDue s n next e.0) (λ e. e.0.component ≡ i → ⊥) (λ e. IsDue s n after e.0) stays_due rest
-        (recursion_from_All (λ e. IsDue s n next e.0) rest (All-tail (λ e. IsDue s n next e.0) first rest queue.due)) (others i rest alone))
+  pub led : (o : Option Key) → o ≡ least_key places numbers → IfSome o (IsFirst s n next places)
+  led None e = tt
+  led (Some key) e = go (cases_eq (node places 1) 18446744073709551615) (cases_lt 0 n) where
+    same_key : {a b : Key} → Some a ≡ Some b → a ≡ b
+    same_key e = cc
 
-    -- what the others have is as it was
-    others_once : (j : ℕ) → j < n → (j ≡ i → ⊥) → IsSome (key_of s j (after j)) → count_of j rest ≡ 1
-    others_once j below other some =
-        let more = count_more j first rest in
-        let none = no_weight j first (λ e. other (sym e)) in
-        let one = queue.once j below (subst (λ m. IsSome (key_of s j m)) (stays j other) some) in
-        omega (arith, more, none, one)
+    go : (node places 1 ≡ 18446744073709551615) ⊎ (node places 1 ≡ 18446744073709551615 → ⊥) → (0 < n) ⊎ (n ≤ 0) → IsFirst s n next places key
+    go (inl none) some = let out : Some key ≡ None = e ∙ ended_is none in cc
+    go (inr there) (inl some) =
+        let found = winner some there in
+        subst (IsFirst s n next places) (same_key (first_is found.key found.is ∙ sym e)) found.is
+    go (inr there) (inr none) = let many = queue.places.tournament.many in absurd (there (none_past 1 (omega (arith, many, none))))
 
-    go : (o : Option Key) → o ≡ key_of s i (after i) → IfSome o (λ key. key.number < 4294967296) → IsPermutation (replaced o (first ∷ rest)) new → IsQueue s n after new
-    go None none fits moved = record { ordered = ordered; due = All-permutation (λ e. IsDue s n after e.0) rest new moved rest_due; once = once } where
-      once : (j : ℕ) → j < n → IsSome (key_of s j (after j)) → count_of j new ≡ 1
-      once j below some = count_same j rest new moved ∙ by (cases_eq j i) where
-        by : (j ≡ i) ⊎ (j ≡ i → ⊥) → count_of j rest ≡ 1
-        by (inl own) = absurd (none_there (key_of s j (after j)) (subst (λ k. key_of s k (after k) ≡ None) (sym own) (sym none)) some)
-        by (inr other) = others_once j below other some
-    go (Some key) there fits moved = record { ordered = ordered; due = All-permutation (λ e. IsDue s n after e.0) (entry ∷ rest) new moved (All-cons (λ e. IsDue s n after e.0) entry rest own_due rest_due); once = once } where
-      entry : Reverse Key
-      entry = record { 0 = key }
+  -- the place at the root has a component with a number
+  pub has_number : (node places 1 ≡ 18446744073709551615 → ⊥) → node places 1 % 65536 < length numbers
+  has_number there = go (cases_lt 0 n) where
+    go : (0 < n) ⊎ (n ≤ 0) → node places 1 % 65536 < length numbers
+    go (inl some) =
+        let found = winner some there in
+        let place = found.is.place in
+        let component = found.is.small.component in
+        let within = found.is.within in
+        let many = queue.many in
+        omega (arith, place, component, within, many)
+    go (inr none) = let many = queue.places.tournament.many in absurd (there (none_past 1 (omega (arith, many, none))))
 
-      component : key.component ≡ i
-      component = (key_there s i (after i) key there).component
+  -- no component's next turn has a lesser place
+  low : (j : ℕ) → j < n → node places 1 ≤ place_of (key_of s j (next j))
+  low j below =
+      let least = root_low n places queue.places.tournament (n + j) (omega (arith, below)) (omega (arith, below)) in
+      let at = queue.places.placed j below in
+      omega (arith, least, at)
 
-      own_due : IsDue s n after key
-      own_due =
-          let c = component in
-          let within = first_due.within in
-          let component_fits = first_due.component_fits in
-          record {
-            there = subst (λ j. Some key ≡ key_of s j (after j)) (sym c) there;
-            within = subst (λ j. j < n) (sym c) within;
-            component_fits = subst (λ j. j < 65536) (sym c) component_fits;
-            number_fits = fits;
-          }
+  module _ (n_is : n ≡ length s.composition) where
+    -- no component's next turn has a lesser rank
+    pub least_low : (end : (k : Key) → IsSmall k → rank k ≤ end_rank) (j : ℕ) → j < n → least_rank places numbers ≤ turn_rank s j (next j)
+    least_low end j below = go (cases_eq (node places 1) 18446744073709551615) (key_of s j (next j)) refl where
+      theirs : (o : Option Key) → o ≡ key_of s j (next j) → rank_or_end o ≡ turn_rank s j (next j)
+      theirs o e = ap rank_or_end e ∙ ranked s j (next j) (subst (λ m. j < m) n_is below)
 
-      once : (j : ℕ) → j < n → IsSome (key_of s j (after j)) → count_of j new ≡ 1
-      once j below some = count_same j (entry ∷ rest) new moved ∙ by (cases_eq j i) where
-        by : (j ≡ i) ⊎ (j ≡ i → ⊥) → count_of j (entry ∷ rest) ≡ 1
-        by (inl own) =
-            let more = count_more j entry rest in
-            let one = own_weight j entry (component ∙ sym own) in
-            let none = subst (λ k. count_of k rest ≡ 0) (sym own) alone in
-            omega (arith, more, one, none)
-        by (inr other) =
-            let more = count_more j entry rest in
-            let none = no_weight j entry (λ e. other (sym e ∙ component)) in
-            let one = others_once j below other some in
-            omega (arith, more, none, one)
+      by_place : (a b : Key) → IsSmall a → IsSmall b → a.number ≡ next a.component → b.number ≡ next b.component → a.tick * 65536 + a.component ≤ b.tick * 65536 + b.component → rank a ≤ rank b
+      by_place a b a_small b_small a_number b_number le = pick (cases_eq a.component b.component) where
+        pick : (a.component ≡ b.component) ⊎ (a.component ≡ b.component → ⊥) → rank a ≤ rank b
+        pick (inl e) =
+            let numbers_same : a.number ≡ b.number = a_number ∙ ap next e ∙ sym b_number in
+            omega (arith, e, numbers_same, le)
+        pick (inr ne) =
+            let ac = a_small.component in
+            let bc = b_small.component in
+            let an = a_small.number in
+            omega (arith, ne, le, ac, bc, an)
+
+      on : (a : Key) → IsFirst s n next places a → (o : Option Key) → o ≡ key_of s j (next j) → rank a ≤ turn_rank s j (next j)
+      on a is None e = let t = theirs None e in let h = end a is.small in omega (arith, t, h)
+      on a is (Some b) e =
+          let at = key_there s j (next j) b e in
+          let low_here : node places 1 ≤ b.tick * 65536 + b.component = subst (λ o. node places 1 ≤ place_of o) (sym e) (low j below) in
+          let place = is.place in
+          let b_small : IsSmall b = subst (λ o. IfSome o IsSmall) (sym e) (queue.places.small j below) in
+          let number : b.number ≡ next b.component = at.number ∙ ap next (sym at.component) in
+          let t = theirs (Some b) e in
+          let h = by_place a b is.small b_small is.number number (omega (arith, place, low_here)) in
+          omega (arith, t, h)
+
+      go : (node places 1 ≡ 18446744073709551615) ⊎ (node places 1 ≡ 18446744073709551615 → ⊥) → (o : Option Key) → o ≡ key_of s j (next j) → least_rank places numbers ≤ turn_rank s j (next j)
+      go (inl none) None e = let t = theirs None e in let h = ap rank_or_end (ended_is none) in omega (arith, t, h)
+      go (inl none) (Some b) e =
+          let low_here : node places 1 ≤ b.tick * 65536 + b.component = subst (λ o. node places 1 ≤ place_of o) (sym e) (low j below) in
+          let b_small : IsSmall b = subst (λ o. IfSome o IsSmall) (sym e) (queue.places.small j below) in
+          let tick = b_small.tick in
+          let component = b_small.component in
+          absurd (omega (arith, none, low_here, tick, component))
+      go (inr there) o e =
+          let found = winner (omega (arith, below)) there in
+          let h = on found.key found.is o e in
+          let is = ap rank_or_end (first_is found.key found.is) in
+          omega (arith, h, is)
+
+-- the component of a key has taken its turn, and its next key is in place of that key
+pub refilled : (s : System) (n : ℕ) (next after : ℕ → ℕ) (places numbers : List ℕ) → IsQueue s n next places numbers → (i number : ℕ) → i < n
+    → after i ≡ number → ((j : ℕ) → (j ≡ i → ⊥) → after j ≡ next j)
+    → (follower : Option Key) → follower ≡ key_of s i number → IfSome follower IsSmall
+    → (new : List ℕ) → IsTournament n new → node new (n + i) ≡ place_of follower → ((k : ℕ) → k < n → (k ≡ i → ⊥) → node new (n + k) ≡ node places (n + k))
+    → IsQueue s n after new (slice_set numbers i number)
+refilled s n next after places numbers queue i number within own stays follower is small new tournament at_own others = record {
+  places = record { tournament = tournament; placed = λ j below. placed j below (cases_eq j i); small = λ j below. smalls j below (cases_eq j i) };
+  many = length-set numbers i number ∙ queue.many;
+  numbered = λ j below. numbered j below (cases_eq j i);
+} where
+  follows : follower ≡ key_of s i (after i)
+  follows = is ∙ ap (key_of s i) (sym own)
+
+  placed : (j : ℕ) → j < n → (j ≡ i) ⊎ (j ≡ i → ⊥) → node new (n + j) ≡ place_of (key_of s j (after j))
+  placed j below (inl e) = subst (λ k. node new (n + k) ≡ place_of (key_of s k (after k))) (sym e) (at_own ∙ ap place_of follows)
+  placed j below (inr ne) = others j below ne ∙ queue.places.placed j below ∙ ap (λ m. place_of (key_of s j m)) (sym (stays j ne))
+
+  smalls : (j : ℕ) → j < n → (j ≡ i) ⊎ (j ≡ i → ⊥) → IfSome (key_of s j (after j)) IsSmall
+  smalls j below (inl e) = subst (λ k. IfSome (key_of s k (after k)) IsSmall) (sym e) (subst (λ o. IfSome o IsSmall) follows small)
+  smalls j below (inr ne) = subst (λ m. IfSome (key_of s j m) IsSmall) (sym (stays j ne)) (queue.places.small j below)
+
+  numbered : (j : ℕ) → j < n → (j ≡ i) ⊎ (j ≡ i → ⊥) → slice_index_or (slice_set numbers i number) j 0 ≡ after j
+  numbered j below (inl e) =
+      let many = queue.many in
+      subst (λ k. slice_index_or (slice_set numbers i number) k 0 ≡ after k) (sym e) (get_or-set_same numbers i number 0 (omega (arith, many, within)) ∙ sym own)
+  numbered j below (inr ne) = get_or-set_other numbers i j number 0 ne ∙ queue.numbered j below ∙ sym (stays j ne)

@@ -1,9 +1,7 @@
 -- Where a simulator stands: the key of the next turn and the state of each component.
 use Rattle.std.specs.Prelude.{◌≡◌, ℕ, Some, List, length, slice_get}
-use Rattle.std.specs.declared.cmp.Reverse.{Reverse}
 use Rattle.terms.specs.Datum.{Datum}
 use Rattle.terms.specs.Named.{Named}
-use Rattle.event_keys.specs.declared.key.Key.{Key}
 use Rattle.undo_records.specs.States.{States}
 use Rattle.virtual_time.specs.Reference.{Turn, Point, point, reference_below}
 use Rattle.task_seed.specs.Turning.{System}
@@ -12,15 +10,15 @@ use Rattle.reference.specs.Queues.{IsQueue, least_rank}
 use Rattle.reference.specs.Taking.{plain}
 
 -- these are the queue and the states of the components at a point
-pub record IsAt (s : System) (p : Point (List Datum)) (entries : List (Reverse Key)) (states : List States) : Type 0 where
-  pub queue : IsQueue s (length s.composition) p.next entries
+pub record IsAt (s : System) (p : Point (List Datum)) (places numbers : List ℕ) (states : List States) : Type 0 where
+  pub queue : IsQueue s (length s.composition) p.next places numbers
   pub states_many : length states ≡ length s.composition
   pub currents : (j : ℕ) (state : States) → slice_get states j ≡ Some state → state ≡ plain (p.state j)
 
 -- the same at the point before the least key of the queue
-abbrev pub IsBeforeLeast : System → List (Reverse Key) → List States → Type 0
-IsBeforeLeast s entries states = IsAt s (point (machine s) (least_rank entries)) entries states
+abbrev pub IsBeforeLeast : System → List ℕ → List ℕ → List States → Type 0
+IsBeforeLeast s places numbers states = IsAt s (point (machine s) (least_rank places numbers)) places numbers states
 
 -- the turns that were taken where this is the queue, the last one first: all turns below its least key
-abbrev pub taken_at : System → List (Reverse Key) → List (Turn Named)
-taken_at s entries = reference_below (machine s) (least_rank entries)
+abbrev pub taken_at : System → List ℕ → List ℕ → List (Turn Named)
+taken_at s places numbers = reference_below (machine s) (least_rank places numbers)

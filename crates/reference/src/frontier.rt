@@ -1,28 +1,23 @@
 //! How far the turns of a setup were taken.
-ghost use Rattle.std.specs.Prelude.{◌≡◌, ◌<◌, [], false, IfOk, IfSome, OnErr, IsPermutation, length, map, option_map, slice_get};
-ghost use Rattle.std.specs.List.{All, range_with_len};
-ghost use Rattle.std.specs.BinaryHeap.{IsHeap, heap_items, heap_len};
-ghost use Rattle.std.specs.Ordering.{is_lt};
-ghost use Rattle.event_keys.specs.Orders.{key_order};
+ghost use Rattle.std.specs.Prelude.{◌≡◌, ◌+◌, ◌*◌, ◌%◌, ◌<◌, ℕ, [], IfOk, IfSome, OnErr, length, map, replicate, slice_set};
+ghost use Rattle.std.specs.List.{range_with_len};
 ghost use Rattle.plans.specs.Plans.{composition};
 ghost use Rattle.plans.specs.Steps.{start_of};
 ghost use Rattle.task_seed.specs.Setups.{system, plan_of};
 ghost use Rattle.task_seed.specs.Machines.{machine};
-ghost use Rattle.reference.specs.Queues.{IsQueue, least_first, replaced};
+ghost use Rattle.reference.specs.Queues.{ArePlaced, HasItsNumber, IsSmall, least_key, place_of};
 ghost use Rattle.reference.specs.Reading.{AreRead};
 ghost use Rattle.reference.specs.Standing.{taken_at, IsBeforeLeast};
 ghost use Rattle.reference.specs.Taking.{plain};
+ghost use Rattle.reference.specs.Tournaments.{IsTournament, node};
 ghost use Rattle.reference.specs.Views.{IsNextTurn, IsComplete};
 
 use crate::readers::Readers;
-use crate::taking::take_turn;
-use event_keys::laws::rank_law;
+use crate::taking::{found_at, take_found, turned_of};
+use crate::tournament::put;
 use event_keys::{Key, Turned};
 use plans::Plan;
 use std::alloc::Global;
-use std::cmp::Reverse;
-use std::collections::BinaryHeap;
-use std::collections::binary_heap::PeekMut;
 use task_seed::laws::machine_is_lawful;
 use task_seed::{Setup, Turns};
 use terms::{Action, NoMemory, State};
@@ -32,26 +27,53 @@ use virtual_time::reference::{reference_is_complete, reference_is_one};
 /// Where the turns of a setup were taken up to a key: what is due next, and in which states.
 #[derive(Drop)]
 pub(crate) struct Frontier {
-    // The key of each component's next turn, where there is one. The least comes first.
-    queue: BinaryHeap<Reverse<Key>>,
+    // The places of the keys of the components' next turns, in a tournament: the least comes to the root.
+    places: Vec<u64>,
+    // The numbers of those turns.
+    numbers: Vec<u64>,
     // One state for each component, but inside a call.
     states: Vec<Store>,
     readers: Readers,
 }
 
-fn first_keys<T: Turns>(
-    alloc: Global,
-    setup: &Setup<T>,
-) -> Result<BinaryHeap<Reverse<Key>>, NoMemory>
-    ensures { IfOk result (λ queue. IsQueue (system T.turn_of setup.now) (length (composition (plan_of setup.now))) (λ j. 0) (heap_items queue)) }
+// A component's keys are told apart by their places, since their ticks rise.
+#[inline(always)]
+fn place_of(key: Option<Key>) -> u64
+    requires { IfSome key IsSmall }
+    ensures { result ≡ place_of key }
 {
-    let mut queue = BinaryHeap::new(alloc);
-    for i in 0..setup.plan().components() {
-        if let Some(key) = setup.first_key(i) {
-            queue.push(Reverse(key))?;
-        }
+    match key {
+        None => u64::MAX,
+        Some(key) => key.tick * 65_536 + u64::from(key.component),
     }
-    Ok(queue)
+}
+
+fn first_places<T: Turns>(alloc: Global, setup: &Setup<T>) -> Result<Vec<u64>, NoMemory>
+    ensures { IfOk result (λ places. (n : ℕ) → n ≡ length (composition (plan_of setup.now))
+        → ArePlaced (system T.turn_of setup.now) n n (λ j. 0) places.items) }
+{
+    let count = setup.plan().components();
+    let mut places = no_places(alloc, count)?;
+    for i in 0..count {
+        let place = place_of(setup.first_key(i));
+        put(&mut places, usize::from(count), usize::from(i), place);
+    }
+    Ok(places)
+}
+
+// A tournament of so many components that have no turn.
+fn no_places(alloc: Global, count: u16) -> Result<Vec<u64>, NoMemory>
+    ensures { IfOk result (λ places. IsTournament count places.items) }
+{
+    let places = vec![in alloc; u64::MAX; 2 * usize::from(count)]?;
+    Ok(places)
+}
+
+fn first_numbers(alloc: Global, count: u16) -> Result<Vec<u64>, NoMemory>
+    ensures { IfOk result (λ numbers. numbers.items ≡ replicate count 0) }
+{
+    let numbers = vec![in alloc; 0; usize::from(count)]?;
+    Ok(numbers)
 }
 
 fn start_states(alloc: Global, plan: &Plan) -> Result<Vec<Store>, NoMemory>
@@ -65,80 +87,95 @@ fn start_states(alloc: Global, plan: &Plan) -> Result<Vec<Store>, NoMemory>
     Ok(states)
 }
 
-fn least_of(queue: &BinaryHeap<Reverse<Key>>) -> Option<Key>
-    requires { IsHeap least_first (heap_items queue.now) }
-    ensures first { result ≡ option_map (λ entry. entry.0) (slice_get (heap_items queue.now) 0) }
-    ensures least { IfSome result (λ key. All (λ entry. is_lt (key_order entry.0 key) ≡ false) (heap_items queue.now)) }
+// The least of the keys of the next turns.
+#[inline(always)]
+fn least_key(places: &[u64], numbers: &[u64]) -> Option<Key>
+    requires { HasItsNumber places.now numbers.now }
+    ensures { result ≡ least_key places.now numbers.now }
 {
-    match queue.peek() {
-        None => None,
-        Some(least) => Some(least.0),
+    let place = match places.get(1) {
+        Some(place) => *place,
+        None => return None,
+    };
+    if place == u64::MAX {
+        return None;
     }
+    let component = (place % 65_536) as u16;
+    Some(Key {
+        tick: place / 65_536,
+        component,
+        number: numbers[usize::from(component)],
+    })
 }
 
-// Puts a key in place of the least one, or only takes that out. It needs no memory.
-fn replace_least(queue: &mut BinaryHeap<Reverse<Key>>, next: Option<Key>)
-    requires some { 0 < heap_len queue.old }
-    requires ordered { IsHeap least_first (heap_items queue.old) }
-    ensures ordered { IsHeap least_first (heap_items queue.new) }
-    ensures replaced { IsPermutation (replaced next (heap_items queue.old)) (heap_items queue.new) }
+// The turn of this key is taken, and its component's next key comes in its place.
+#[inline(always)]
+fn move_on(places: &mut [u64], numbers: &mut [u64], key: Key, next: Option<Key>)
+    requires within { key.component < length numbers.old }
+    requires fits { key.number < 4294967296 }
+    requires small { IfSome next IsSmall }
+    requires tournament { IsTournament (length numbers.old) places.old }
+    ensures tournament { IsTournament (length numbers.old) places.new }
+    ensures many { length places.new ≡ length places.old }
+    ensures own { node places.new (length numbers.old + key.component) ≡ place_of next }
+    ensures others { (k : ℕ) → k < length numbers.old → (k ≡ key.component → ⊥)
+        → node places.new (length numbers.old + k) ≡ node places.old (length numbers.old + k) }
+    ensures numbers { numbers.new ≡ slice_set numbers.old key.component (key.number + 1) }
 {
-    let Some(mut least) = queue.peek_mut() else {
-        return;
-    };
-    match next {
-        Some(key) => *least = Reverse(key),
-        None => {
-            PeekMut::pop(least);
-        }
-    }
+    let i = usize::from(key.component);
+    put(places, numbers.len(), i, place_of(next));
+    numbers[i] = key.number + 1;
 }
 
 impl Frontier {
     /// No turn was taken.
     pub(crate) fn start<T: Turns>(alloc: Global, setup: &Setup<T>) -> Result<Frontier, NoMemory>
-        ensures stands { IfOk result (λ frontier. IsBeforeLeast (system T.turn_of setup.now) (heap_items frontier.queue) frontier.states.items) }
-        ensures none { IfOk result (λ frontier. taken_at (system T.turn_of setup.now) (heap_items frontier.queue) ≡ []) }
+        ensures stands { IfOk result (λ frontier. IsBeforeLeast (system T.turn_of setup.now) frontier.places.items frontier.numbers.items frontier.states.items) }
+        ensures none { IfOk result (λ frontier. taken_at (system T.turn_of setup.now) frontier.places.items frontier.numbers.items ≡ []) }
         ensures read { IfOk result (λ f. AreRead T.turn_of T.stands setup.now f.readers.readers.items) }
     {
         machine_is_lawful(setup);
         reference_is_one::<State, Action>();
         reference_is_complete::<State, Action>();
-        let queue = first_keys(alloc, setup)?;
+        let places = first_places(alloc, setup)?;
+        let numbers = first_numbers(alloc, setup.plan().components())?;
         let states = start_states(alloc, setup.plan())?;
         let readers = Readers::new(alloc, setup)?;
         Ok(Frontier {
-            queue,
+            places,
+            numbers,
             states,
             readers,
         })
     }
 
     /// Takes the turn with the least key, if there is one. A refusal leaves everything as it was.
+    #[inline]
     pub(crate) fn take_next<T: Turns>(
         &mut self,
         alloc: Global,
         setup: &Setup<T>,
     ) -> Result<Option<Turned>, NoMemory>
-        requires stands { IsBeforeLeast (system T.turn_of setup.now) (heap_items self.old.queue) self.old.states.items }
+        requires stands { IsBeforeLeast (system T.turn_of setup.now) self.old.places.items self.old.numbers.items self.old.states.items }
         requires read { AreRead T.turn_of T.stands setup.now self.old.readers.readers.items }
-        ensures stands { IsBeforeLeast (system T.turn_of setup.now) (heap_items self.new.queue) self.new.states.items }
+        ensures stands { IsBeforeLeast (system T.turn_of setup.now) self.new.places.items self.new.numbers.items self.new.states.items }
         ensures read { AreRead T.turn_of T.stands setup.now self.new.readers.readers.items }
-        ensures ok { IfOk result (λ turn. IsNextTurn (machine (system T.turn_of setup.now)) (taken_at (system T.turn_of setup.now) (heap_items self.old.queue)) turn (taken_at (system T.turn_of setup.now) (heap_items self.new.queue))) }
-        ensures err { OnErr result (heap_items self.new.queue ≡ heap_items self.old.queue) }
-        ensures whole { IsComplete (machine (system T.turn_of setup.now)) (taken_at (system T.turn_of setup.now) (heap_items self.new.queue)) }
+        ensures ok { IfOk result (λ turn. IsNextTurn (machine (system T.turn_of setup.now)) (taken_at (system T.turn_of setup.now) self.old.places.items self.old.numbers.items) turn (taken_at (system T.turn_of setup.now) self.new.places.items self.new.numbers.items)) }
+        ensures err_places { OnErr result (self.new.places.items ≡ self.old.places.items) }
+        ensures err_numbers { OnErr result (self.new.numbers.items ≡ self.old.numbers.items) }
+        ensures whole { IsComplete (machine (system T.turn_of setup.now)) (taken_at (system T.turn_of setup.now) self.new.places.items self.new.numbers.items) }
     {
         machine_is_lawful(setup);
         reference_is_one::<State, Action>();
         reference_is_complete::<State, Action>();
-        let Some(key) = least_of(&self.queue) else {
+        let Some(key) = least_key(&self.places, &self.numbers) else {
             return Ok(None);
         };
-        rank_law(key);
         let turn = self.readers.turn(setup, key);
-        let turned = take_turn(alloc, setup, key, turn, &mut self.states)?;
+        let found = found_at(alloc, setup, key, turn, &self.states)?;
+        take_found(alloc, setup, key.component, &found, &mut self.states)?;
         let next = self.readers.read_on(setup, key);
-        replace_least(&mut self.queue, next);
-        Ok(Some(turned))
+        move_on(&mut self.places, &mut self.numbers, key, next);
+        Ok(Some(turned_of(key, found)))
     }
 }

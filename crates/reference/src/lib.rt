@@ -8,6 +8,7 @@ mod readers;
 pub mod scheduling;
 pub mod simulator;
 mod taking;
+mod tournament;
 
 pub use checking::{Verdict, check_run};
 pub use scheduling::schedule;

@@ -30,6 +30,7 @@ impl Readers {
     }
 
     /// The turn of a key.
+    #[inline]
     pub(crate) fn turn<T: Turns>(&self, setup: &Setup<T>, key: Key) -> Option<Turn>
         requires there { Some key ≡ key_of (system T.turn_of setup.now) key.component key.number }
         requires within { key.component < length (composition (plan_of setup.now)) }
@@ -41,6 +42,7 @@ impl Readers {
     }
 
     /// The key of the turn of its component after the one of this key, if there is one. That turn is read.
+    #[inline]
     pub(crate) fn read_on<T: Turns>(&mut self, setup: &Setup<T>, key: Key) -> Option<Key>
         requires there { Some key ≡ key_of (system T.turn_of setup.now) key.component key.number }
         requires small { key.number < 4294967296 }

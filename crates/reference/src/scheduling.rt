@@ -1,6 +1,5 @@
 //! All turns of a setup.
 ghost use Rattle.std.specs.Prelude.{◌≡◌, [], IfOk};
-ghost use Rattle.std.specs.BinaryHeap.{heap_items};
 ghost use Rattle.task_seed.specs.Setups.{system, plan_of};
 ghost use Rattle.task_seed.specs.Machines.{machine, end_rank};
 ghost use Rattle.task_seed.specs.Taken.{turns_of};
@@ -24,9 +23,9 @@ fn take_all<T: Turns>(
     setup: &Setup<T>,
     frontier: &mut Frontier,
 ) -> Result<Vec<Turned>, NoMemory>
-    requires stands { IsBeforeLeast (system T.turn_of setup.now) (heap_items frontier.old.queue) frontier.old.states.items }
+    requires stands { IsBeforeLeast (system T.turn_of setup.now) frontier.old.places.items frontier.old.numbers.items frontier.old.states.items }
     requires read { AreRead T.turn_of T.stands setup.now frontier.old.readers.readers.items }
-    requires none { taken_at (system T.turn_of setup.now) (heap_items frontier.old.queue) ≡ [] }
+    requires none { taken_at (system T.turn_of setup.now) frontier.old.places.items frontier.old.numbers.items ≡ [] }
     ensures reference { IfOk result (λ turns. IsReference (machine (system T.turn_of setup.now)) end_rank (turns_of turns.items)) }
     ensures turns { IfOk result (λ turns. turns_of turns.items ≡ reference_below (machine (system T.turn_of setup.now)) end_rank) }
 {

@@ -23,7 +23,6 @@ pub struct Reference<T: Turns> {
 
 impl<T: Turns> Model for Reference<T> {
     ghost use Rattle.std.specs.Arc.{arc_value};
-    ghost use Rattle.std.specs.BinaryHeap.{heap_items};
     ghost use Rattle.std.specs.Coded.{codes};
     ghost use Rattle.terms.specs.Datum.{datum_code};
     ghost use Rattle.terms.specs.contracts.scalar.Shape as shape;
@@ -40,9 +39,9 @@ impl<T: Turns> Model for Reference<T> {
     ghost use Rattle.reference.specs.Reading.{AreRead};
     ghost use Rattle.reference.specs.Standing.{taken_at, IsBeforeLeast};
 
-    ghost view = { λ r. record { setup = arc_value r.setup; taken = taken_at (system T.turn_of (arc_value r.setup)) (heap_items r.frontier.queue) } };
+    ghost view = { λ r. record { setup = arc_value r.setup; taken = taken_at (system T.turn_of (arc_value r.setup)) r.frontier.places.items r.frontier.numbers.items } };
 
-    ghost invariant = { λ r. IsBeforeLeast (system T.turn_of (arc_value r.setup)) (heap_items r.frontier.queue) r.frontier.states.items
+    ghost invariant = { λ r. IsBeforeLeast (system T.turn_of (arc_value r.setup)) r.frontier.places.items r.frontier.numbers.items r.frontier.states.items
         × AreRead T.turn_of T.stands (arc_value r.setup) r.frontier.readers.readers.items };
 }
 
@@ -71,13 +70,13 @@ impl<T: Turns> Reference<T> {
     /// # Errors
     ///
     /// `NoMemory`; then no turn was taken, and the next call takes the same one.
+    #[inline]
     pub fn step(&mut self, alloc: Global) -> Result<Option<Turned>, NoMemory>
         ensures ok { IfOk result (λ turn. IsNextTurn (machine (system T.turn_of self.old.setup)) self.old.taken turn self.new.taken) }
         ensures err { OnErr result (self.new.taken ≡ self.old.taken) }
         ensures setup { self.new.setup ≡ self.old.setup }
         ensures whole { IsComplete (machine (system T.turn_of self.old.setup)) self.new.taken }
     {
-        let turn = self.frontier.take_next(alloc, &self.setup)?;
-        Ok(turn)
+        self.frontier.take_next(alloc, &self.setup)
     }
 }

@@ -87,48 +87,49 @@ fn take_action(
     Ok(())
 }
 
-// What comes of turn `n` of component `i`, which is this one if it exists, in its state.
-fn outcome_at<T: Turns>(
+/// The action of the turn of a key, which is this one, if its component has one enabled in its state.
+#[inline]
+pub(crate) fn found_at<T: Turns>(
     alloc: Global,
     setup: &Setup<T>,
-    i: u16,
-    n: u64,
+    key: Key,
     turn: Option<Turn>,
-    state: &Store,
-) -> Result<Outcome, NoMemory>
-    requires { turn ≡ turn_in (system T.turn_of setup.now) i n }
-    ensures { IfOk result (λ outcome. action_of outcome ≡ turn_outcome (system T.turn_of setup.now) i n state.now.current) }
+    states: &[Store],
+) -> Result<Option<Action>, NoMemory>
+    requires turn { turn ≡ turn_in (system T.turn_of setup.now) key.component key.number }
+    requires within { key.component < length states.now }
+    ensures { IfOk result (λ found. IfSome (slice_get states.now key.component) (λ state.
+        found ≡ turn_outcome (system T.turn_of setup.now) key.component key.number state.current)) }
 {
-    let _ = n;
     let Some(turn) = turn else {
-        return Ok(Outcome::Idle);
+        return Ok(None);
     };
-    match setup
+    let i = key.component;
+    let state = &states[usize::from(i)];
+    setup
         .plan()
-        .outcome(alloc, i, turn.task, turn.choice, state)?
-    {
-        None => Ok(Outcome::Idle),
-        Some(action) => Ok(Outcome::Did(action)),
-    }
+        .outcome(alloc, i, turn.task, turn.choice, state)
 }
 
-// What came of component `i`'s turn is taken by it and by each receiver.
-fn take_outcome<T: Turns>(
+/// What was found for component `i`'s turn is taken by it and by each receiver. A refusal leaves the states as they
+/// were.
+#[inline]
+pub(crate) fn take_found<T: Turns>(
     alloc: Global,
     setup: &Setup<T>,
     i: u16,
-    outcome: &Outcome,
+    found: &Option<Action>,
     states: &mut [Store],
 ) -> Result<(), NoMemory>
     requires within { i < length (composition (plan_of setup.now)) }
     requires many { length states.old ≡ length (composition (plan_of setup.now)) }
     requires plain { (j : ℕ) (state : States) → slice_get states.old j ≡ Some state → state.below ≡ [] }
-    ensures ok { OnOk result ((j : ℕ) → slice_get states.new j ≡ option_map (joining (machine (system T.turn_of setup.now)) i (action_of outcome.now) j) (slice_get states.old j)) }
+    ensures ok { OnOk result ((j : ℕ) → slice_get states.new j ≡ option_map (joining (machine (system T.turn_of setup.now)) i found.now j) (slice_get states.old j)) }
     ensures many { length states.new ≡ length states.old }
     ensures err { OnErr result (states.new ≡ states.old) }
 {
     machine_is_lawful(setup);
-    let Outcome::Did(action) = outcome else {
+    let Some(action) = found else {
         return Ok(());
     };
     let plan = setup.plan();
@@ -137,26 +138,20 @@ fn take_outcome<T: Turns>(
     take_action(alloc, plan, action, &takers, states)
 }
 
-/// Takes the turn of a key, which is this one. A refusal leaves the states as they were.
-pub(crate) fn take_turn<T: Turns>(
-    alloc: Global,
-    setup: &Setup<T>,
-    key: Key,
-    turn: Option<Turn>,
-    states: &mut [Store],
-) -> Result<Turned, NoMemory>
-    requires turn { turn ≡ turn_in (system T.turn_of setup.now) key.component key.number }
-    requires within { key.component < length (composition (plan_of setup.now)) }
-    requires many { length states.old ≡ length (composition (plan_of setup.now)) }
-    requires plain { (j : ℕ) (state : States) → slice_get states.old j ≡ Some state → state.below ≡ [] }
-    ensures key { IfOk result (λ turned. turned.key ≡ key) }
-    ensures outcome { IfOk result (λ turned. IfSome (slice_get states.old key.component) (λ state. action_of turned.outcome ≡ turn_outcome (system T.turn_of setup.now) key.component key.number state.current)) }
-    ensures states { IfOk result (λ turned. (j : ℕ) → slice_get states.new j ≡ option_map (joining (machine (system T.turn_of setup.now)) key.component (action_of turned.outcome) j) (slice_get states.old j)) }
-    ensures many { length states.new ≡ length states.old }
-    ensures err { OnErr result (states.new ≡ states.old) }
+/// A turn with this key, and what was found for it.
+#[inline(always)]
+pub(crate) fn turned_of(key: Key, found: Option<Action>) -> Turned
+    ensures key { result.key ≡ key }
+    ensures found { action_of result.outcome ≡ found }
 {
-    let i = key.component;
-    let outcome = outcome_at(alloc, setup, i, key.number, turn, &states[usize::from(i)])?;
-    take_outcome(alloc, setup, i, &outcome, states)?;
-    Ok(Turned { key, outcome })
+    match found {
+        None => Turned {
+            key,
+            outcome: Outcome::Idle,
+        },
+        Some(action) => Turned {
+            key,
+            outcome: Outcome::Did(action),
+        },
+    }
 }

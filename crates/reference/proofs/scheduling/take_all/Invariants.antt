@@ -1,5 +1,4 @@
 use Rattle.std.proofs.Common.{◌≡◌, ◌-◌, length}
-use Rattle.std.specs.BinaryHeap.{heap_items}
 use Rattle.task_seed.specs.Setups.{system}
 use Rattle.task_seed.specs.Machines.{machine, end_rank}
 use Rattle.task_seed.specs.Taken.{turns_of}
@@ -10,10 +9,10 @@ use Rattle.reference.proofs.scheduling.take_all.Given as goal
 
 abbrev pub invariant-loop-turns : goal.invariant-loop-turns
 invariant-loop-turns g l = record {
-  stands : IsBeforeLeast (system g.T.Turns.turn_of l.setup) (heap_items l.frontier.queue) l.frontier.states.items;
+  stands : IsBeforeLeast (system g.T.Turns.turn_of l.setup) l.frontier.places.items l.frontier.numbers.items l.frontier.states.items;
   read : AreRead g.T.Turns.turn_of g.T.Turns.stands l.setup l.frontier.readers.readers.items;
-  taken : turns_of l.turns.items ≡ taken_at (system g.T.Turns.turn_of l.setup) (heap_items l.frontier.queue);
+  taken : turns_of l.turns.items ≡ taken_at (system g.T.Turns.turn_of l.setup) l.frontier.places.items l.frontier.numbers.items;
 }
 
 abbrev pub decreases-loop-turns : goal.decreases-loop-turns
-decreases-loop-turns g l = length (reference_below (machine (system g.T.Turns.turn_of l.setup)) end_rank) - length (taken_at (system g.T.Turns.turn_of l.setup) (heap_items l.frontier.queue))
+decreases-loop-turns g l = length (reference_below (machine (system g.T.Turns.turn_of l.setup)) end_rank) - length (taken_at (system g.T.Turns.turn_of l.setup) l.frontier.places.items l.frontier.numbers.items)

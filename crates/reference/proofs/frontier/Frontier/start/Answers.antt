@@ -1,5 +1,5 @@
-use Rattle.std.proofs.Common.{◌≡◌, length, map, subst}
-use Rattle.std.specs.BinaryHeap.{heap_items}
+use Rattle.std.proofs.Common.{◌≡◌, ◌∙◌, ap, length, map, refl, subst}
+use Rattle.std.specs.Prelude.{replicate}
 use Rattle.std.specs.List.{range_with_len}
 use Rattle.plans.specs.Plans.{composition}
 use Rattle.plans.specs.Steps.{start_of}
@@ -13,18 +13,26 @@ pub returns-clause-stands : goal.returns-clause-stands
 returns-clause-stands g c =
     let s = system g.T.Turns.turn_of c.args.setup.now in
     let law = c.machine_is_lawful.ensures.lawful in
-    let entries = heap_items c.in_ok-queue.queue in
     let states = c.in_ok-states.states.items in
     let starts : states ≡ map (λ i. plain (start_of s.composition i)) (range_with_len 0 (length s.composition))
-    = subst (λ p. states ≡ map (λ i. plain (start_of (composition p) i)) (range_with_len 0 (length (composition p)))) c.plan.ensures c.in_ok-states.ensures in
-    (start_found s law c.machine_is_lawful.ensures.counted (λ b h. c.reference_is_complete.ensures.exists (machine s) b law h) (c.reference_is_one.ensures.same (machine s)) entries states (start_at s entries states c.in_ok-queue.ensures starts)).stands
+    = subst (λ p. states ≡ map (λ i. plain (start_of (composition p) i)) (range_with_len 0 (length (composition p)))) c.plan-2.ensures c.in_ok-states.ensures in
+    let places = c.in_ok-places.places.items in
+    let numbers = c.in_ok-numbers.numbers.items in
+    let many = c.components.ensures ∙ ap (λ p. length (composition p)) c.plan.ensures in
+    let zeros = c.in_ok-numbers.ensures ∙ ap (λ n. replicate n 0) many in
+    let at = start_at s places numbers states (c.in_ok-places.ensures (length s.composition) refl) zeros starts in
+    (start_found s law c.machine_is_lawful.ensures.counted (λ b h. c.reference_is_complete.ensures.exists (machine s) b law h) (c.reference_is_one.ensures.same (machine s)) places numbers states at).stands
 
 pub returns-clause-none : goal.returns-clause-none
 returns-clause-none g c =
     let s = system g.T.Turns.turn_of c.args.setup.now in
     let law = c.machine_is_lawful.ensures.lawful in
-    let entries = heap_items c.in_ok-queue.queue in
     let states = c.in_ok-states.states.items in
     let starts : states ≡ map (λ i. plain (start_of s.composition i)) (range_with_len 0 (length s.composition))
-    = subst (λ p. states ≡ map (λ i. plain (start_of (composition p) i)) (range_with_len 0 (length (composition p)))) c.plan.ensures c.in_ok-states.ensures in
-    (start_found s law c.machine_is_lawful.ensures.counted (λ b h. c.reference_is_complete.ensures.exists (machine s) b law h) (c.reference_is_one.ensures.same (machine s)) entries states (start_at s entries states c.in_ok-queue.ensures starts)).taken
+    = subst (λ p. states ≡ map (λ i. plain (start_of (composition p) i)) (range_with_len 0 (length (composition p)))) c.plan-2.ensures c.in_ok-states.ensures in
+    let places = c.in_ok-places.places.items in
+    let numbers = c.in_ok-numbers.numbers.items in
+    let many = c.components.ensures ∙ ap (λ p. length (composition p)) c.plan.ensures in
+    let zeros = c.in_ok-numbers.ensures ∙ ap (λ n. replicate n 0) many in
+    let at = start_at s places numbers states (c.in_ok-places.ensures (length s.composition) refl) zeros starts in
+    (start_found s law c.machine_is_lawful.ensures.counted (λ b h. c.reference_is_complete.ensures.exists (machine s) b law h) (c.reference_is_one.ensures.same (machine s)) places numbers states at).taken

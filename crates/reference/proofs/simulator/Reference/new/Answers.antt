@@ -1,6 +1,5 @@
 use Rattle.std.proofs.Common.{◌≡◌, [], ap, subst}
 use Rattle.std.specs.Arc.{arc_value}
-use Rattle.std.specs.BinaryHeap.{heap_items}
 use Rattle.task_seed.specs.Setups.{system}
 use Rattle.reference.specs.Reading.{AreRead}
 use Rattle.reference.specs.Standing.{IsBeforeLeast, taken_at}
@@ -11,7 +10,7 @@ pub invariant_of-result : goal.invariant_of-result
 invariant_of-result g c =
     let t = g.T.Turns.turn_of in
     let f = c.in_ok-frontier.frontier in (
-      subst (λ p. IsBeforeLeast (system t p) (heap_items f.queue) f.states.items) c.deref.ensures c.in_ok-frontier.ensures.stands,
+      subst (λ p. IsBeforeLeast (system t p) f.places.items f.numbers.items f.states.items) c.deref.ensures c.in_ok-frontier.ensures.stands,
       subst (λ p. AreRead t g.T.Turns.stands p f.readers.readers.items) c.deref.ensures c.in_ok-frontier.ensures.read,
     )
 
@@ -19,4 +18,4 @@ pub returns : goal.returns
 returns g c =
     let t = g.T.Turns.turn_of in
     let f = c.in_ok-frontier.frontier in
-    ap (seen (arc_value c.args.setup)) (subst (λ p. taken_at (system t p) (heap_items f.queue) ≡ []) c.deref.ensures c.in_ok-frontier.ensures.none)
+    ap (seen (arc_value c.args.setup)) (subst (λ p. taken_at (system t p) f.places.items f.numbers.items ≡ []) c.deref.ensures c.in_ok-frontier.ensures.none)
