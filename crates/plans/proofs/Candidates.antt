@@ -70,13 +70,13 @@ module _ (every : Truth) (index : Kept) (found : List ℕ) (action : Named) (all
     go rest false here g = rest g
 
 pub taker_found : (index : Kept) (composition : List Instance) (found : List ℕ) (action : Named) → IsIndexed false index composition → HasListed index found action → (j : ℕ) → inputs composition j action ≡ true → Contains found j
-taker_found index composition found action indexed all j h = by_entries false index found action all (component_at composition j).formals j Input (λ other same. same) (component_at composition j).entries (indexed j) h
+taker_found index composition found action indexed all j h = by_entries false index found action all (component_at composition j).formals j Input (λ other same. same) (component_at composition j).entries (indexed.entries j) h
 
 -- whoever has an action is found where every entry is noted
 pub actor_found : (index : Kept) (composition : List Instance) (found : List ℕ) (action : Named) → IsIndexed true index composition → HasListed index found action → (j : ℕ) → acts composition j action ≡ true → Contains found j
 actor_found index composition found action indexed all j h = go (inputs composition j action) (outputs composition j action) (internals composition j action) refl refl refl h where
   by_kind : (kind : Kind) → any_as kind (component_at composition j) action ≡ true → Contains found j
-  by_kind kind g = by_entries true index found action all (component_at composition j).formals j kind (λ other same. refl) (component_at composition j).entries (indexed j) g
+  by_kind kind g = by_entries true index found action all (component_at composition j).formals j kind (λ other same. refl) (component_at composition j).entries (indexed.entries j) g
 
   go : (a b c : Truth) → inputs composition j action ≡ a → outputs composition j action ≡ b → internals composition j action ≡ c → (a || b || c) ≡ true → Contains found j
   go true b c is_a is_b is_c g = by_kind Input is_a

@@ -1,43 +1,53 @@
 -- What stands in an index stays there.
-use Rattle.std.specs.Prelude.{◌≡◌, ℕ, zero, suc, ◌+◌, ◌<◌, Bool as Truth, true, false, ◌&&◌, ◌||◌, cond, List, [], ◌∷◌, ◌++◌, map, length, take, get_or, None, Some, Contains, All, refl, nat_eq, nat_lt, ◌≤◌, slice_get, slice_index_or}
-use Rattle.std.specs.Cmp.{IsEquivalence}
+use Rattle.std.specs.Prelude.{◌≡◌, ℕ, zero, suc, ◌+◌, ◌<◌, Bool as Truth, true, false, ◌||◌, List, [], ◌∷◌, ◌++◌, map, length, take, drop, get_or, None, Some, Contains, All, refl, nat_eq, nat_lt, ◌≤◌, slice_get, slice_set, slice_index_or}
 use Rattle.std.specs.List.{list_any}
-use Rattle.std.proofs.Common.{rules, arith, ap, sym, subst, ◌∙◌}
-use Rattle.std.proofs.lemmas.Grind.{common_steps}
+use Rattle.std.specs.List.Sorted.{IsStrictlyIncreasing}
+use Rattle.std.proofs.Common.{arith, ap, sym, subst, ◌∙◌}
 use Rattle.std.proofs.lemmas.Bool.{ltb-true, ltb-false}
 use Rattle.std.proofs.lemmas.Bool.Decides.{nat_tests}
 use Rattle.std.proofs.lemmas.List.Elements.{All-map, All-more, All-nil, All-weaker, All-contains, All-contains_itself, Contains-append_left, Contains-append_right}
 use Rattle.std.specs.declared.vec.Vec.{Vec}
-use Rattle.std.specs.Map.{lookup}
 use lib.Pointwise.{pointwise, pointwise_decides}
 use Rattle.std.specs.Bool.{beq}
-use Rattle.terms.specs.SameTreeLaws.{decides_by, both_by, number_is, number_refl}
+use Rattle.terms.specs.SameTreeLaws.{decides_by, number_is}
 use Rattle.terms.specs.declared.scalar.Scalar.{Scalar}
 use Rattle.plans.specs.declared.automaton.Entry.{Entry}
 use Rattle.plans.specs.declared.automaton.Automaton.{Automaton}
 use Rattle.plans.specs.declared.automaton.Component.{Component}
 use Rattle.plans.specs.Automata.{Transition, Instance, absent, component_at, composed, instance_of, placed, transition_of}
-use Rattle.plans.specs.declared.index.Fixed.{Fixed}
-use Rattle.plans.specs.declared.index.Pattern.{Pattern}
-use Rattle.plans.specs.contracts.index.FixedPartialEq.TheImpl as fixed_eq
-use Rattle.plans.specs.contracts.index.PatternPartialEq.TheImpl as pattern_eq
-use Rattle.plans.specs.Patterns.{Kept, items_or_none, under, flags_of, mask_of, values_of, masked, IsListed, Keeps, IsNoted, is_for, HasEntries, IsIndexed}
+use Rattle.plans.specs.Patterns.{Kept, list_at, flags_of, mask_of, values_of, masked, place_of, IsListed, AreRising, Keeps, IsNoted, is_for, HasEntries, IsIndexed}
 
-module _ {K X A : Type 0} (eq : K → K → Truth) (laws : IsEquivalence eq) where
-  same_under : (table : List (K × Vec X A)) (a b : K) → eq a b ≡ true → under eq table a ≡ under eq table b
-  same_under table a b h = λ i. items_or_none (lookup (λ z. laws.congr a b z h i) table)
+module _ {X A : Type 0} where
+  -- one more list, with nothing in it
+  room_made : (lists : List (Vec X A)) (list : Vec X A) → list.items ≡ [] → (n : ℕ) → list_at (lists ++ list ∷ []) n ≡ list_at lists n
+  room_made [] list empty zero = empty
+  room_made [] list empty (suc n) = refl
+  room_made (first ∷ lists) list empty zero = refl
+  room_made (first ∷ lists) list empty (suc n) = room_made lists list empty n
 
-  -- a list that one more value is added to keeps what it has, and so do the others
-  pub kept_after : (old new : List (K × Vec X A)) (key : K) (list : Vec X A) (value : X) → ((q : K) → lookup (eq q) new ≡ cond (eq key q) (Some list) (lookup (eq q) old)) → list.items ≡ under eq old key ++ value ∷ [] → (k : K) (v : X) → Contains (under eq old k) v → Contains (under eq new k) v
-  kept_after old new key list value updates is k v has = go (eq key k) refl where
-    go : (b : Truth) → eq key k ≡ b → Contains (under eq new k) v
-    go true h =
-        let at : under eq new k ≡ list.items = ap items_or_none (updates k ∙ ap (λ b. cond b (Some list) (lookup (eq k) old)) h) in
-        let had : under eq old key ≡ under eq old k = same_under old key k h in
-        subst (λ xs. Contains xs v) (sym (at ∙ is ∙ ap (λ xs. xs ++ value ∷ []) had)) (Contains-append_left (under eq old k) (value ∷ []) v has)
-    go false h =
-        let at : under eq new k ≡ under eq old k = ap items_or_none (updates k ∙ ap (λ b. cond b (Some list) (lookup (eq k) old)) h) in
-        subst (λ xs. Contains xs v) (sym at) has
+  -- after one list is set, each is that one or as it was
+  pub after_set : (P : List X → Type 0) (lists : List (Vec X A)) (n : ℕ) (list : Vec X A) (k : ℕ) → n < length lists → (k ≡ n → P list.items) → P (list_at lists k) → P (list_at (slice_set lists n list) k)
+  after_set P [] n list k below here there = absurd (omega (arith, below))
+  after_set P (first ∷ lists) zero list zero below here there = here refl
+  after_set P (first ∷ lists) zero list (suc k) below here there = there
+  after_set P (first ∷ lists) (suc n) list zero below here there = there
+  after_set P (first ∷ lists) (suc n) list (suc k) below here there = after_set P lists n list k (omega (arith, below)) (λ same. here (ap suc same)) there
+
+  pub at_set : (lists : List (Vec X A)) (n : ℕ) (list : Vec X A) → n < length lists → list_at (slice_set lists n list) n ≡ list.items
+  at_set [] n list below = absurd (omega (arith, below))
+  at_set (first ∷ lists) zero list below = refl
+  at_set (first ∷ lists) (suc n) list below = at_set lists n list (omega (arith, below))
+
+  pub at_there : (lists : List (Vec X A)) (n : ℕ) (list : Vec X A) → n < length lists → list ≡ get_or lists n list → list_at lists n ≡ list.items
+  at_there [] n list below is = absurd (omega (arith, below))
+  at_there (first ∷ lists) zero list below is = ap (λ (l : Vec X A). l.items) (sym is)
+  at_there (first ∷ lists) (suc n) list below is = at_there lists n list (omega (arith, below)) is
+
+  -- what one more value is put into keeps what it has, and so do the others
+  pub kept_more : (lists : List (Vec X A)) (n : ℕ) (old new : Vec X A) (k : ℕ) (value : X) → n < length lists → old ≡ get_or lists n old → ((v : X) → Contains old.items v → Contains new.items v) → Contains (list_at lists k) value → Contains (list_at (slice_set lists n new) k) value
+  kept_more lists n old new k value below is kept has =
+      after_set (λ xs. Contains xs value) lists n new k below
+      (λ same. kept value (subst (λ xs. Contains xs value) (ap (list_at lists) same ∙ at_there lists n old below is) has)) has
 
 module _ {X Y : Type 0} (f : X → Y) where
   place_in_map : (xs : List X) (x : X) (k : ℕ) → k < length xs → slice_index_or xs k x ≡ x → Contains (map f xs) (f x)
@@ -78,22 +88,6 @@ mask_found mask (other ∷ others) h = go (λ g. mask_found mask others g) (poin
   go : (list_any (λ other. pointwise beq other.items mask) others ≡ true → Contains (map flags_of others) mask) → (b : Truth) → pointwise beq other.items mask ≡ b → (b || list_any (λ other. pointwise beq other.items mask) others) ≡ true → Contains (other.items ∷ map flags_of others) mask
   go rest true here g = (0, omega arith, (pointwise_decides (decides_by beq truth_is truth_refl) other.items mask).0 here)
   go rest false here g = one_more other.items (map flags_of others) mask (rest g)
-
--- patterns with one name and the same values are equal
-fixed_is : (a b : Fixed) → fixed_eq.ghosts.eq a b ≡ true → a ≡ b
-fixed_is a b h = first_of (search rules, grind (arith, common_steps))
-
-fixed_refl : (a : Fixed) → fixed_eq.ghosts.eq a a ≡ true
-fixed_refl a = first_of (search rules, grind (arith, common_steps))
-
-pattern_refl : (a : Pattern) → pattern_eq.ghosts.eq a a ≡ true
-pattern_refl a =
-    let values = a.values.items in
-    both_by (nat_eq a.name a.name) (pointwise fixed_eq.ghosts.eq values values) (number_refl a.name) ((pointwise_decides (decides_by fixed_eq.ghosts.eq fixed_is fixed_refl) values values).1 refl)
-
-pub same_pattern : (a b : Pattern) → b.name ≡ a.name → b.values.items ≡ a.values.items → pattern_eq.ghosts.eq a b ≡ true
-same_pattern a b name values =
-    (λ i. nat_eq a.name (name i) && pointwise fixed_eq.ghosts.eq a.values.items (values i)) ∙ pattern_refl a
 
 pub keeps_same : (index : Kept) → Keeps index index
 keeps_same index = record { masks = λ name mask has. has; numbers = λ name j values listed. listed }
@@ -158,25 +152,44 @@ module _ (every : Truth) where
     go true same = subst (λ (k : ℕ). HasEntries every new k (component_at (composed automata components) k)) (sym (number_is i j same)) (subst (HasEntries every new j) (component_is automata components j d below) here)
     go false other = let less : i < j = grind (arith, nat_tests) in entries_still old new i (component_at (composed automata components) i) kept (before i less)
 
-  pub all_indexed : (index : Kept) (automata : List Automaton) (components : List Component) (n : ℕ) → length components ≤ n → ((i : ℕ) → i < n → HasEntries every index i (component_at (composed automata components) i)) → IsIndexed every index (composed automata components)
-  all_indexed index automata components n long before j = go (nat_lt j n) refl where
-    go : (b : Truth) → nat_lt j n ≡ b → HasEntries every index j (component_at (composed automata components) j)
-    go true within = before j (ltb-true j n within)
-    go false past =
+  pub all_indexed : (index : Kept) (automata : List Automaton) (components : List Component) (n : ℕ) → AreRising index.numbers → length components ≤ n → ((i : ℕ) → i < n → HasEntries every index i (component_at (composed automata components) i)) → IsIndexed every index (composed automata components)
+  all_indexed index automata components n rising long before = record { rising = rising; entries = λ j. go j (nat_lt j n) refl } where
+    go : (j : ℕ) (b : Truth) → nat_lt j n ≡ b → HasEntries every index j (component_at (composed automata components) j)
+    go j true within = before j (ltb-true j n within)
+    go j false past =
         let beyond : n ≤ j = ltb-false j n past in
         subst (HasEntries every index j) (sym (none_beyond automata components j (omega (arith, long, beyond))))
         (All-nil (λ entry. is_for every entry.kind ≡ true → IsNoted index [] j entry))
 
-module _ {A : Type 0} (numbers : List (Pattern × Vec ℕ A)) (name : ℕ) (args : List Scalar) where
-  -- all that stands under an action's pattern by this mask is found
+module _ {A : Type 0} (numbers : List (Vec ℕ A)) (name : ℕ) (args : List Scalar) where
+  -- all that stands at the place of an action's pattern by this mask is found
   abbrev pub Gathers : List ℕ → List Truth → Type 0
   Gathers found mask = (j : ℕ) → IsListed numbers name (masked mask args) j → Contains found j
 
-  pub gathered_more : {B : Type 0} (masks : List (Vec Truth B)) (i : ℕ) (d : Vec Truth B) (pattern : Pattern) (old new more : List ℕ) → i < length masks → pattern.name ≡ name → pattern.values.items ≡ masked (get_or masks i d).items args → more ≡ under pattern_eq.ghosts.eq numbers pattern → new ≡ old ++ more → All (λ mask. Gathers old mask.items) (take i masks) → All (λ mask. Gathers new mask.items) (take (i + 1) masks)
-  gathered_more masks i d pattern old new more below is_name is_values is_more is_new before =
-      All-more (λ mask. Gathers new mask.items) masks i d below
+  pub gathered_more : {B : Type 0} (masks : List (Vec Truth B)) (i : ℕ) (mask : Vec Truth B) (old new more : List ℕ) → i < length masks → get_or masks i mask ≡ mask → more ≡ list_at numbers (place_of name (masked mask.items args) (length numbers)) → new ≡ old ++ more → All (λ mask. Gathers old mask.items) (take i masks) → All (λ mask. Gathers new mask.items) (take (i + 1) masks)
+  gathered_more masks i mask old new more below at is_more is_new before =
+      All-more (λ mask. Gathers new mask.items) masks i mask below
       (All-weaker (λ mask. Gathers old mask.items) (λ mask. Gathers new mask.items) (λ mask gathers j listed. subst (λ xs. Contains xs j) (sym is_new) (Contains-append_left old more j (gathers j listed))) (take i masks) before)
-      (λ j listed. subst (λ xs. Contains xs j) (sym (is_new ∙ ap (λ xs. old ++ xs) is_more)) (Contains-append_right old (under pattern_eq.ghosts.eq numbers pattern) j (listed pattern is_name is_values)))
+      (subst (λ (m : Vec Truth _). Gathers new m.items) (sym at)
+      (λ j listed. subst (λ xs. Contains xs j) (sym (is_new ∙ ap (λ xs. old ++ xs) is_more)) (Contains-append_right old (list_at numbers (place_of name (masked mask.items args) (length numbers))) j listed)))
 
   pub gathered_all : {B : Type 0} (masks : List (Vec Truth B)) (found : List ℕ) → All (λ mask. Gathers found mask.items) masks → (mask : List Truth) → Contains (map flags_of masks) mask → Gathers found mask
   gathered_all masks found all mask has = All-contains (Gathers found) (map flags_of masks) mask (All-map (Gathers found) flags_of masks all) has
+
+-- lists that rise still do with an empty one at their end
+pub rising_room : {A : Type 0} (lists : List (Vec ℕ A)) (list : Vec ℕ A) → list.items ≡ [] → AreRising lists → AreRising (lists ++ list ∷ [])
+rising_room lists list empty rising n = subst IsStrictlyIncreasing (sym (room_made lists list empty n)) (rising n)
+
+masked_none : (mask : List Truth) → masked mask [] ≡ []
+masked_none [] = refl
+masked_none (flag ∷ mask) = refl
+
+none_left : (args : List Scalar) (k : ℕ) → length args ≤ k → drop k args ≡ []
+none_left [] zero past = refl
+none_left [] (suc k) past = refl
+none_left (value ∷ args) zero past = absurd (omega (arith, past))
+none_left (value ∷ args) (suc k) past = none_left args k (omega (arith, past))
+
+-- past the last argument a mask shows nothing
+pub past_arguments : (mask : List Truth) (args : List Scalar) (k : ℕ) → length args ≤ k → masked mask (drop k args) ≡ []
+past_arguments mask args k past = ap (masked mask) (none_left args k past) ∙ masked_none mask

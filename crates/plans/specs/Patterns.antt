@@ -1,8 +1,8 @@
 -- Where to look for the components that have an action as an input.
-use Rattle.std.specs.Prelude.{◌≡◌, ℕ, Bool as Truth, true, false, List, [], ◌∷◌, map, Option, None, Some, All, Contains, nat_eq}
+use Rattle.std.specs.Prelude.{◌≡◌, ℕ, ◌+◌, ◌-◌, ◌*◌, ◌%◌, ◌^◌, Bool as Truth, true, false, List, [], ◌∷◌, length, map, slice_get, Option, None, Some, All, Contains, unsigned_abs, bit_and, if◌then◌else◌}
 use Rattle.std.specs.declared.vec.Vec.{Vec}
 use Rattle.std.specs.Global.{Global}
-use Rattle.std.specs.Map.{lookup}
+use Rattle.std.specs.List.Sorted.{IsStrictlyIncreasing}
 use Rattle.terms.specs.Meaning.{slot}
 use Rattle.terms.specs.declared.scalar.Scalar.{Scalar}
 use Rattle.terms.specs.declared.scalar.Scalar.TheVariants as scalar
@@ -12,15 +12,13 @@ use Rattle.plans.specs.declared.automaton.Param.{Param}
 use Rattle.plans.specs.declared.automaton.Param.TheVariants.{Const, Member, Between, Whole}
 use Rattle.plans.specs.declared.index.Fixed.{Fixed}
 use Rattle.plans.specs.declared.index.Fixed.TheVariants as fixed
-use Rattle.plans.specs.declared.index.Pattern.{Pattern}
-use Rattle.plans.specs.contracts.index.PatternPartialEq.TheImpl as pattern_eq
 use Rattle.plans.specs.Automata.{Transition, Instance, component_at}
 use Rattle.plans.specs.Signatures.{same_kind}
 
--- what an index keeps: masks under names, and numbers under patterns
+-- what an index keeps: masks at names, and numbers at the places of patterns
 pub record Kept : Type 0 where
-  pub masks : List (ℕ × Vec (Vec Truth Global) Global)
-  pub numbers : List (Pattern × Vec ℕ Global)
+  pub masks : List (Vec (Vec Truth Global) Global)
+  pub numbers : List (Vec ℕ Global)
 
 -- a value that a pattern asks for
 abbrev pub fixed_as : Scalar → Fixed
@@ -63,20 +61,44 @@ abbrev pub items_or_none : {X A : Type 0} → Option (Vec X A) → List X
 items_or_none None = []
 items_or_none (Some items) = items.items
 
--- what stands in a table of lists under a key
-abbrev pub under : {K X A : Type 0} → (K → K → Truth) → List (K × Vec X A) → K → List X
-under eq table key = items_or_none (lookup (eq key) table)
+-- what stands in one of several lists
+abbrev pub list_at : {X A : Type 0} → List (Vec X A) → ℕ → List X
+list_at lists n = items_or_none (slice_get lists n)
 
 abbrev pub flags_of : {A : Type 0} → Vec Truth A → List Truth
 flags_of mask = mask.items
 
--- the masks that stand under a name
-abbrev pub masks_in : {A B : Type 0} → List (ℕ × Vec (Vec Truth A) B) → ℕ → List (List Truth)
-masks_in masks name = map flags_of (under nat_eq masks name)
+-- the masks that stand at a name
+abbrev pub masks_in : {A B : Type 0} → List (Vec (Vec Truth A) B) → ℕ → List (List Truth)
+masks_in masks name = map flags_of (list_at masks name)
 
--- the number stands under the pattern of this name and these values, wherever that lies in memory
-abbrev pub IsListed : {A : Type 0} → List (Pattern × Vec ℕ A) → ℕ → List Fixed → ℕ → Type 0
-IsListed numbers name values j = (pattern : Pattern) → pattern.name ≡ name → pattern.values.items ≡ values → Contains (under pattern_eq.ghosts.eq numbers pattern) j
+-- a number for what a pattern asks of an argument; others may have the same
+abbrev pub fixed_number : Fixed → ℕ
+fixed_number fixed.Free = 0
+fixed_number (fixed.Int z) = unsigned_abs z
+fixed_number (fixed.Bool b) = if b then 1 else 0
+fixed_number (fixed.Member n) = n
+
+-- a number with one more value mixed in
+abbrev pub mixed : ℕ → Fixed → ℕ
+mixed number value = (number * 1640531527 % 2 ^ 64 + fixed_number value) % 2 ^ 64
+
+-- a number for a pattern, from that of its name; others may have the same
+abbrev pub pattern_number : ℕ → List Fixed → ℕ
+pattern_number number [] = number
+pattern_number number (value ∷ values) = pattern_number (mixed number value) values
+
+-- where a pattern stands among so many lists
+abbrev pub place_of : ℕ → List Fixed → ℕ → ℕ
+place_of name values count = bit_and (pattern_number name values) (count - 1)
+
+-- the number stands at the place of the pattern of this name and these values
+abbrev pub IsListed : {A : Type 0} → List (Vec ℕ A) → ℕ → List Fixed → ℕ → Type 0
+IsListed numbers name values j = Contains (list_at numbers (place_of name values (length numbers))) j
+
+-- each list of numbers rises
+abbrev pub AreRising : {A : Type 0} → List (Vec ℕ A) → Type 0
+AreRising numbers = (n : ℕ) → IsStrictlyIncreasing (list_at numbers n)
 
 -- what stands in an index stands in a later one
 pub record Keeps (old new : Kept) : Type 0 where
@@ -97,6 +119,7 @@ is_for false kind = same_kind Input kind
 abbrev pub HasEntries : Truth → Kept → ℕ → Instance → Type 0
 HasEntries every index j component = All (λ entry. is_for every entry.kind ≡ true → IsNoted index component.formals j entry) component.entries
 
--- the index has each entry of each component that it is for
-abbrev pub IsIndexed : Truth → Kept → List Instance → Type 0
-IsIndexed every index composition = (j : ℕ) → HasEntries every index j (component_at composition j)
+-- the index has each entry of each component that it is for, and its numbers rise
+pub record IsIndexed (every : Truth) (index : Kept) (composition : List Instance) : Type 0 where
+  pub rising : AreRising index.numbers
+  pub entries : (j : ℕ) → HasEntries every index j (component_at composition j)

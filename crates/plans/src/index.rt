@@ -1,43 +1,30 @@
 //! Where to look for the receivers of an action.
-ghost use Rattle.std.specs.Prelude.{◌≡◌, ◌++◌, ℕ, Bool as Truth, IfOk, IfSome, OnOk, List, Contains, nat_eq};
+ghost use Rattle.std.specs.Prelude.{◌≡◌, ℕ, Bool as Truth, IfOk, IfSome, List, Contains, length};
 ghost use Rattle.std.specs.List.Sorted.{IsStrictlyIncreasing};
-ghost use Rattle.terms.specs.Meaning.{slot};
-ghost use Rattle.plans.specs.Patterns.{fixed_as, fixes, mask_of, asked, values_of, shown, masked, under, masks_in, IsListed};
+ghost use Rattle.plans.specs.Patterns.{fixed_as, shown, masked, fixed_number, mixed, pattern_number, place_of, list_at, masks_in, IsListed, AreRising};
 
 mod notes;
 
-use crate::automaton::{Entry, Param};
-use indexmap::IndexMap;
-use smallvec::SmallVec;
 use std::alloc::Global;
-use std::hash::Hash;
 use std::marker::Model;
-use terms::evaluate::slot_of;
 use terms::{Action, NoMemory, Scalar};
 
 /// What a pattern asks of an argument: nothing, or one value.
-#[derive(Clone, Copy, Debug, Default, PartialEq, Eq, Hash)]
+#[derive(Clone, Copy)]
 pub enum Fixed {
-    #[default]
     Free,
     Int(i64),
     Bool(bool),
     Member(u16),
 }
 
-/// The name of an input entry, and the values of those of its parameters that are formals.
-#[derive(Debug, PartialEq, Eq, Hash, Drop)]
-pub struct Pattern {
-    name: u16,
-    values: SmallVec<Fixed, 4>,
-}
-
-/// For each name of an action the masks of its input entries (which parameters are formals), each once; for each pattern the
-/// numbers of the components that have an input entry of it.
+/// For each name of an action the masks of its input entries (which parameters are formals), each once. And lists of numbers,
+/// as many as a power of two: a component that has an input entry stands in the list at the place of its pattern, the entry's
+/// name with the values of those of its parameters that are formals. Several patterns may have one place.
 #[derive(Debug, Drop)]
 pub struct Index {
-    masks: IndexMap<u16, Vec<Vec<bool>>>,
-    numbers: IndexMap<Pattern, Vec<u16>>,
+    masks: Vec<Vec<Vec<bool>>>,
+    numbers: Vec<Vec<u16>>,
 }
 
 impl Model for Index {
@@ -48,11 +35,11 @@ impl Model for Index {
 
     ghost coded = { Prim.hlevel codes };
 
-    ghost view = { λ i. record { masks = i.masks.entries; numbers = i.numbers.entries } };
+    ghost view = { λ i. record { masks = i.masks.items; numbers = i.numbers.items } };
 }
 
 impl Index {
-    /// The numbers that stand under an action's patterns, in order and each once.
+    /// The numbers that stand at the places of an action's patterns, in order and each once.
     pub fn candidates(&self, alloc: Global, action: &Action) -> Result<Vec<u16>, NoMemory>
         ensures rise { IfOk result (λ found. IsStrictlyIncreasing found.items) }
         ensures all { IfOk result (λ found. (mask : List Truth) (j : ℕ) → Contains (masks_in self.now.masks action.now.name) mask → IsListed self.now.numbers action.now.name (masked mask action.now.args) j → Contains found.items j) }
@@ -63,23 +50,27 @@ impl Index {
         Ok(found)
     }
 
-    /// The same, lent, where the name has one mask and the numbers stand in order as they are.
-    pub fn lent(&self, alloc: Global, action: &Action) -> Result<Option<&[u16]>, NoMemory>
-        ensures rise { IfOk result (λ lent. IfSome lent (λ found. IsStrictlyIncreasing found.now)) }
-        ensures all { IfOk result (λ lent. IfSome lent
+    /// The same, lent, where the name has one mask.
+    pub fn lent(&self, action: &Action) -> Option<&[u16]>
+        ensures rise { IfSome result
+            (λ found. AreRising self.now.numbers → IsStrictlyIncreasing found.now) }
+        ensures all { IfSome result
             (λ found. (mask : List Truth) (j : ℕ) → Contains
             (masks_in self.now.masks action.now.name) mask
             → IsListed self.now.numbers action.now.name (masked mask action.now.args) j
-            → Contains found.now j)) }
+            → Contains found.now j) }
     {
-        match masks_under(&self.masks, action.name) {
+        match masks_at(self.masks.as_slice(), action.name) {
             [mask] => {
-                let pattern = masked(alloc, action, mask.as_slice())?;
-                let numbers = self.numbers_of(&pattern);
-                drop(pattern);
-                Ok(if_rising(numbers))
+                let numbers = numbers_at(
+                    self.numbers.as_slice(),
+                    action.name,
+                    mask.as_slice(),
+                    action.args.as_slice(),
+                );
+                Some(numbers)
             }
-            _ => Ok(None),
+            _ => None,
         }
     }
 
@@ -87,70 +78,77 @@ impl Index {
         ensures { IfOk result (λ found. (mask : List Truth) (j : ℕ) → Contains (masks_in self.now.masks action.now.name) mask → IsListed self.now.numbers action.now.name (masked mask action.now.args) j → Contains found.items j) }
     {
         let mut found = Vec::new(alloc);
-        for mask in masks_under(&self.masks, action.name) {
-            let pattern = masked(alloc, action, mask.as_slice())?;
-            found.extend_from_slice(self.numbers_of(&pattern))?;
+        for mask in masks_at(self.masks.as_slice(), action.name) {
+            let numbers = numbers_at(
+                self.numbers.as_slice(),
+                action.name,
+                mask.as_slice(),
+                action.args.as_slice(),
+            );
+            found.extend_from_slice(numbers)?;
         }
         Ok(found)
     }
-
-    fn numbers_of(&self, pattern: &Pattern) -> &[u16]
-        ensures { result.now ≡ under ⟦<Pattern as PartialEq>⟧.eq self.now.numbers pattern.now }
-    {
-        match self.numbers.get(pattern) {
-            Some(numbers) => numbers.as_slice(),
-            None => &[],
-        }
-    }
 }
 
-fn if_rising(numbers: &[u16]) -> Option<&[u16]>
-    ensures rise { IfSome result (λ found. IsStrictlyIncreasing found.now) }
-    ensures same { IfSome result (λ found. found.now ≡ numbers.now) }
+fn masks_at(masks: &[Vec<Vec<bool>>], name: u16) -> &[Vec<bool>]
+    ensures { result.now ≡ list_at masks.now name }
 {
-    for k in 1..numbers.len() {
-        if numbers[k - 1] >= numbers[k] {
-            return None;
-        }
-    }
-    Some(numbers)
-}
-
-fn masks_under(masks: &IndexMap<u16, Vec<Vec<bool>>>, name: u16) -> &[Vec<bool>]
-    ensures { result.now ≡ under nat_eq masks.now.entries name }
-{
-    match masks.get(&name) {
+    match masks.get(name as usize) {
         Some(masks) => masks.as_slice(),
         None => &[],
     }
 }
 
-fn masked(alloc: Global, action: &Action, mask: &[bool]) -> Result<Pattern, NoMemory>
-    ensures name { IfOk result (λ pattern. pattern.name ≡ action.now.name) }
-    ensures values { IfOk result (λ pattern. pattern.values.items ≡ masked mask.now action.now.args) }
+// What stands at the place of an action's pattern by a mask.
+#[inline(always)]
+fn numbers_at<'a>(numbers: &'a [Vec<u16>], name: u16, mask: &[bool], args: &[Scalar]) -> &'a [u16]
+    ensures { result.now ≡ list_at numbers.now
+        (place_of name (masked mask.now args.now) (length numbers.now)) }
 {
-    let mut values = SmallVec::new(alloc);
-    show(mask, action.args.as_slice(), &mut values)?;
-    Ok(Pattern {
-        name: action.name,
-        values,
-    })
-}
-
-fn show(mask: &[bool], args: &[Scalar], out: &mut SmallVec<Fixed, 4>) -> Result<(), NoMemory>
-    ensures { OnOk result (out.new.items ≡ out.old.items ++ masked mask.now args.now) }
-{
-    match (mask.split_first(), args.split_first()) {
-        (Some((flag, mask)), Some((value, args))) => {
-            out.push(shown(*flag, *value))?;
-            show(mask, args, out)
-        }
-        (None, Some(_)) => Ok(()),
-        (Some(_), None) => Ok(()),
-        (None, None) => Ok(()),
+    let place = number_of(name, mask, args) & numbers.len().saturating_sub(1);
+    match numbers.get(place) {
+        Some(numbers) => numbers.as_slice(),
+        None => &[],
     }
 }
 
+#[inline(always)]
+fn number_of(name: u16, mask: &[bool], args: &[Scalar]) -> usize
+    ensures { result ≡ pattern_number name (masked mask.now args.now) }
+{
+    let mut number = name as usize;
+    for k in 0..mask.len() {
+        if k >= args.len() {
+            return number;
+        }
+        number = mixed(number, shown(mask[k], args[k]));
+    }
+    number
+}
+
+#[inline(always)]
+fn mixed(number: usize, value: Fixed) -> usize
+    ensures { result ≡ mixed number value }
+{
+    number
+        .wrapping_mul(1_640_531_527)
+        .wrapping_add(fixed_number(value))
+}
+
+#[inline(always)]
+fn fixed_number(value: Fixed) -> usize
+    ensures { result ≡ fixed_number value }
+{
+    match value {
+        Fixed::Free => 0,
+        Fixed::Int(number) => number.unsigned_abs() as usize,
+        Fixed::Bool(truth) => truth as usize,
+        Fixed::Member(member) => member as usize,
+    }
+}
+
+#[inline(always)]
 fn shown(flag: bool, value: Scalar) -> Fixed
     ensures { result ≡ shown flag value }
 {

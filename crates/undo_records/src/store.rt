@@ -329,17 +329,10 @@ fn cut(marks: &mut VecDeque<Vec<Change>>, left: usize)
 
 // Drops changes, and keeps their room for the next mark.
 #[inline(always)]
-fn keep_room(spare: &mut Vec<Change>, mut changes: Vec<Change>)
+fn keep_room(spare: &mut Vec<Change>, changes: Vec<Change>)
     ensures { spare.new.items ≡ [] }
 {
-    if changes.iter().any(|change| change.has_list()) {
-        empty(&mut changes);
-    }
-    // What is left are scalars, which own no memory.
-    while let Some(scalar) = changes.pop() {
-        mem::forget(scalar);
-    }
-    let old = mem::replace(spare, changes);
+    let old = mem::replace(spare, let_changes_go(changes));
     if old.capacity() == 0 {
         mem::forget(old);
     } else {
@@ -347,22 +340,37 @@ fn keep_room(spare: &mut Vec<Change>, mut changes: Vec<Change>)
     }
 }
 
+// Drops changes, and gives their room. Scalars own no memory, and so need not be dropped one by one.
 #[inline(always)]
-fn emptied(mut room: Vec<Change>) -> Vec<Change>
+fn let_changes_go(mut changes: Vec<Change>) -> Vec<Change>
+    ensures { result.items ≡ [] }
+{
+    if changes.iter().any(|change| change.has_list()) {
+        return cleared(changes);
+    }
+    while let Some(scalar) = changes.pop() {
+        mem::forget(scalar);
+    }
+    changes
+}
+
+// A list that is to have nothing in it; mostly it has nothing as it is.
+#[inline(always)]
+fn emptied(room: Vec<Change>) -> Vec<Change>
     ensures { result.items ≡ [] }
 {
     if room.is_empty() {
         return room;
     }
-    empty(&mut room);
-    room
+    cleared(room)
 }
 
 #[inline(never)]
-fn empty(room: &mut Vec<Change>)
-    ensures { room.new.items ≡ [] }
+fn cleared(mut room: Vec<Change>) -> Vec<Change>
+    ensures { result.items ≡ [] }
 {
     room.clear();
+    room
 }
 
 #[inline(never)]

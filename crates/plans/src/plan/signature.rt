@@ -41,8 +41,7 @@ impl Plan {
     ) -> Result<Vec<u16>, NoMemory>
         ensures { IfOk result (λ receivers. receivers.items ≡ receivers_of (composition self.now) action.now sender) }
     {
-        let lent = self.lent(alloc, action)?;
-        match lent {
+        match self.lent(action) {
             Some(numbers) => self.receivers_among(alloc, numbers, action, sender),
             None => self.receivers_merged(alloc, action, sender),
         }
@@ -89,14 +88,13 @@ impl Plan {
         Ok(found)
     }
 
-    fn lent(&self, alloc: Global, action: &Action) -> Result<Option<&[u16]>, NoMemory>
-        ensures { IfOk result (λ lent. IfSome lent
-            (λ found. (sender : ℕ) → filter
+    fn lent(&self, action: &Action) -> Option<&[u16]>
+        ensures { IfSome result (λ found. (sender : ℕ) → filter
             (receives (composition self.now) sender action.now) found.now ≡ receivers_of
-            (composition self.now) action.now sender)) }
+            (composition self.now) action.now sender) }
     {
-        let found = self.index.lent(alloc, action)?;
-        Ok(found)
+        let found = self.index.lent(action);
+        found
     }
 
     /// The components that have an action, each once and in order.

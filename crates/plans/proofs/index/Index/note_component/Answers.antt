@@ -1,4 +1,4 @@
-use Rattle.std.proofs.Common.{rules, ◌≡◌, ◌<◌, ◌≤◌, ◌∙◌, true, None, Some, length, get_or, slice_get, sym, subst, take, take_all}
+use Rattle.std.proofs.Common.{rules, ℕ, ◌≡◌, ◌<◌, ◌≤◌, ◌∙◌, true, None, Some, length, get_or, slice_get, sym, subst, take, take_all}
 use Rattle.plans.specs.Automata.{transition_of}
 use Rattle.plans.specs.Patterns.{IsNoted, is_for}
 use Rattle.plans.proofs.Noted.{Passed, keeps_both, passed_more, instance_noted, none_noted, found_there, none_there}
@@ -16,6 +16,8 @@ loop-entry-preserved c =
     let noted = subst (λ fs. is_for every entry.kind ≡ true → IsNoted c.note_if.new.self fs c.args.j (transition_of entry)) c.as_slice.ensures.value wanted in
     let here = subst (λ e. is_for every e.kind ≡ true → IsNoted c.note_if.new.self formals c.args.j (transition_of e)) (sym at) noted in
     record {
+      many = c.note_if.ensures.many ∙ c.loop-entry.invariant.many;
+      rising = λ rising. c.note_if.ensures.rising (c.loop-entry.invariant.rising rising);
       kept = keeps_both c.args.self.now c.loop-entry.self c.note_if.new.self c.loop-entry.invariant.kept c.in_ok-note_if.ensures.kept;
       noted = passed_more every c.loop-entry.self c.note_if.new.self formals c.args.j entries c.loop-entry.entry-index entry below c.in_ok-note_if.ensures.kept c.loop-entry.invariant.noted here;
     }
@@ -32,3 +34,18 @@ pub returns-in_default-clause-noted : goal.returns-in_default-clause-noted
 returns-in_default-clause-noted c =
     let none : slice_get c.args.automata.now c.args.component.now.automaton ≡ None = none_there c.args.automata.now c.args.component.now.automaton c.in_default.ensures.lookup.3 in
     none_noted c.args.every c.args.self.now c.args.automata.now c.args.component.now c.args.j none
+
+pub note_if-requires : goal.note_if-requires
+note_if-requires c = record { some = subst (λ (n : ℕ). 0 < n) (sym c.loop-entry.invariant.many) c.requires.some }
+
+pub returns-in_err-note_if-clause-many : goal.returns-in_err-note_if-clause-many
+returns-in_err-note_if-clause-many c = c.note_if.ensures.many ∙ c.loop-entry.invariant.many
+
+pub returns-in_err-note_if-clause-rising : goal.returns-in_err-note_if-clause-rising
+returns-in_err-note_if-clause-rising c rising = c.note_if.ensures.rising (c.loop-entry.invariant.rising rising)
+
+pub returns-after-loop-entry-clause-many : goal.returns-after-loop-entry-clause-many
+returns-after-loop-entry-clause-many c = c.loop-entry.invariant.many
+
+pub returns-after-loop-entry-clause-rising : goal.returns-after-loop-entry-clause-rising
+returns-after-loop-entry-clause-rising c rising = c.loop-entry.invariant.rising rising

@@ -4,6 +4,7 @@ use Rattle.std.proofs.Math.Logic.{∥∥₁_elim}
 use Rattle.std.specs.Prelude.{filter}
 use Rattle.std.specs.List.Sorted.{IsStrictlyIncreasing}
 use Rattle.plans.specs.Plans.{composition}
+use Rattle.plans.specs.Patterns.{Kept, AreRising}
 use Rattle.plans.specs.Signatures.{receives, receivers_of}
 use Rattle.plans.proofs.Candidates.{HasListed, receivers_among, taker_found, if_both}
 use Rattle.plans.proofs.plan.Plan.lent.Goals as goal
@@ -12,7 +13,8 @@ pub returns : goal.returns
 returns c =
     let all = composition c.args.self.now in
     let action = c.args.action.now in
-    if_both c.in_ok-found.found (λ found. IsStrictlyIncreasing found.now) (λ found. HasListed c.deref.result.now found.now action) (λ found. (sender : ℕ) → filter (receives all sender action) found.now ≡ receivers_of all action sender) c.in_ok-found.ensures.rise c.in_ok-found.ensures.all
+    if_both c.lent-found.result (λ found. AreRising c.deref.result.now.numbers → IsStrictlyIncreasing found.now) (λ found. HasListed c.deref.result.now found.now action) (λ found. (sender : ℕ) → filter (receives all sender action) found.now ≡ receivers_of all action sender) c.lent-found.ensures.rise c.lent-found.ensures.all
     (λ found rise every sender.
+    let rises = subst (λ (index : Kept). AreRising index.numbers → IsStrictlyIncreasing found.now) c.deref.ensures rise in
     let listed = subst (λ index. HasListed index found.now action) c.deref.ensures every in
-    ∥∥₁_elim c.args.self.now.indexed (hlevel props) (λ indexed. receivers_among all action sender found.now rise (taker_found c.args.self.now.index.value all found.now action indexed listed)))
+    ∥∥₁_elim c.args.self.now.indexed (hlevel props) (λ indexed. receivers_among all action sender found.now (rises indexed.rising) (taker_found c.args.self.now.index.value all found.now action indexed listed)))
