@@ -57,7 +57,29 @@ impl Store {
         ensures ok { OnOk result (self.new ≡ marked self.old) }
         ensures err { OnErr result (self.new ≡ self.old) }
     {
-        let room = emptied(mem::replace(&mut self.spare, Vec::new(alloc)));
+        let room = mem::replace(&mut self.spare, Vec::new(alloc));
+        if !room.is_empty() {
+            return self.mark_cleared(room);
+        }
+        self.mark_with(room)
+    }
+
+    #[inline(never)]
+    fn mark_cleared(&mut self, mut room: Vec<Change>) -> Result<(), NoMemory>
+        ensures ok { OnOk result (self.new ≡ marked self.old) }
+        ensures err { OnErr result (self.new ≡ self.old) }
+    {
+        room.clear();
+        self.mark_with(room)
+    }
+
+    // Marks the state with a list that has nothing in it.
+    #[inline(always)]
+    fn mark_with(&mut self, room: Vec<Change>) -> Result<(), NoMemory>
+        requires { room.items ≡ [] }
+        ensures ok { OnOk result (self.new ≡ marked self.old) }
+        ensures err { OnErr result (self.new ≡ self.old) }
+    {
         match self.marks.push_front(room) {
             Ok(()) => Ok(()),
             Err(refused) => {
@@ -327,42 +349,40 @@ fn cut(marks: &mut VecDeque<Vec<Change>>, left: usize)
     marks.truncate(left);
 }
 
-// Drops changes, and keeps their room for the next mark.
+// Drops changes, and keeps their room for the next mark. Scalars own no memory, and so aren't dropped one by one.
 #[inline(always)]
 fn keep_room(spare: &mut Vec<Change>, mut changes: Vec<Change>)
     ensures { spare.new.items ≡ [] }
 {
     if changes.iter().any(|change| change.has_list()) {
-        empty(&mut changes);
+        keep_cleared(spare, changes);
+        return;
     }
-    // What is left are scalars, which own no memory.
     while let Some(scalar) = changes.pop() {
         mem::forget(scalar);
     }
-    let old = mem::replace(spare, changes);
+    put_room(spare, changes);
+}
+
+#[inline(never)]
+fn keep_cleared(spare: &mut Vec<Change>, mut changes: Vec<Change>)
+    ensures { spare.new.items ≡ [] }
+{
+    changes.clear();
+    put_room(spare, changes);
+}
+
+// Puts a list that has nothing in it in the place of the spare one.
+#[inline(always)]
+fn put_room(spare: &mut Vec<Change>, room: Vec<Change>)
+    ensures { spare.new.items ≡ room.items }
+{
+    let old = mem::replace(spare, room);
     if old.capacity() == 0 {
         mem::forget(old);
     } else {
         let_go(old);
     }
-}
-
-#[inline(always)]
-fn emptied(mut room: Vec<Change>) -> Vec<Change>
-    ensures { result.items ≡ [] }
-{
-    if room.is_empty() {
-        return room;
-    }
-    empty(&mut room);
-    room
-}
-
-#[inline(never)]
-fn empty(room: &mut Vec<Change>)
-    ensures { room.new.items ≡ [] }
-{
-    room.clear();
 }
 
 #[inline(never)]
