@@ -57,7 +57,29 @@ impl Store {
         ensures ok { OnOk result (self.new ≡ marked self.old) }
         ensures err { OnErr result (self.new ≡ self.old) }
     {
-        let room = emptied(mem::replace(&mut self.spare, Vec::new(alloc)));
+        let room = mem::replace(&mut self.spare, Vec::new(alloc));
+        if !room.is_empty() {
+            return self.mark_cleared(room);
+        }
+        self.mark_with(room)
+    }
+
+    #[inline(never)]
+    fn mark_cleared(&mut self, mut room: Vec<Change>) -> Result<(), NoMemory>
+        ensures ok { OnOk result (self.new ≡ marked self.old) }
+        ensures err { OnErr result (self.new ≡ self.old) }
+    {
+        room.clear();
+        self.mark_with(room)
+    }
+
+    // Marks the state with a list that has nothing in it.
+    #[inline(always)]
+    fn mark_with(&mut self, room: Vec<Change>) -> Result<(), NoMemory>
+        requires { room.items ≡ [] }
+        ensures ok { OnOk result (self.new ≡ marked self.old) }
+        ensures err { OnErr result (self.new ≡ self.old) }
+    {
         match self.marks.push_front(room) {
             Ok(()) => Ok(()),
             Err(refused) => {
@@ -327,50 +349,40 @@ fn cut(marks: &mut VecDeque<Vec<Change>>, left: usize)
     marks.truncate(left);
 }
 
-// Drops changes, and keeps their room for the next mark.
+// Drops changes, and keeps their room for the next mark. Scalars own no memory, and so aren't dropped one by one.
 #[inline(always)]
-fn keep_room(spare: &mut Vec<Change>, changes: Vec<Change>)
+fn keep_room(spare: &mut Vec<Change>, mut changes: Vec<Change>)
     ensures { spare.new.items ≡ [] }
 {
-    let old = mem::replace(spare, let_changes_go(changes));
+    if changes.iter().any(|change| change.has_list()) {
+        keep_cleared(spare, changes);
+        return;
+    }
+    while let Some(scalar) = changes.pop() {
+        mem::forget(scalar);
+    }
+    put_room(spare, changes);
+}
+
+#[inline(never)]
+fn keep_cleared(spare: &mut Vec<Change>, mut changes: Vec<Change>)
+    ensures { spare.new.items ≡ [] }
+{
+    changes.clear();
+    put_room(spare, changes);
+}
+
+// Puts a list that has nothing in it in the place of the spare one.
+#[inline(always)]
+fn put_room(spare: &mut Vec<Change>, room: Vec<Change>)
+    ensures { spare.new.items ≡ room.items }
+{
+    let old = mem::replace(spare, room);
     if old.capacity() == 0 {
         mem::forget(old);
     } else {
         let_go(old);
     }
-}
-
-// Drops changes, and gives their room. Scalars own no memory, and so need not be dropped one by one.
-#[inline(always)]
-fn let_changes_go(mut changes: Vec<Change>) -> Vec<Change>
-    ensures { result.items ≡ [] }
-{
-    if changes.iter().any(|change| change.has_list()) {
-        return cleared(changes);
-    }
-    while let Some(scalar) = changes.pop() {
-        mem::forget(scalar);
-    }
-    changes
-}
-
-// A list that is to have nothing in it; mostly it has nothing as it is.
-#[inline(always)]
-fn emptied(room: Vec<Change>) -> Vec<Change>
-    ensures { result.items ≡ [] }
-{
-    if room.is_empty() {
-        return room;
-    }
-    cleared(room)
-}
-
-#[inline(never)]
-fn cleared(mut room: Vec<Change>) -> Vec<Change>
-    ensures { result.items ≡ [] }
-{
-    room.clear();
-    room
 }
 
 #[inline(never)]
