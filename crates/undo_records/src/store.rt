@@ -1,6 +1,6 @@
 //! A state with marks.
 ghost use Rattle.std.specs.Prelude.{◌≡◌, ◌<◌, ◌+◌, [], IfOk, IfErr, OnOk, OnErr, List, true, length, map, slice_set, take};
-ghost use Rattle.undo_records.specs.Changes.{restored, unwound, IsNoted, changes_in, states_below};
+ghost use Rattle.undo_records.specs.Changes.{covers, restored, unwound, IsNoted, changes_in, states_below};
 ghost use Rattle.terms.specs.Datum.{Datum, Just};
 ghost use Rattle.terms.specs.Shapes.{set_item};
 
@@ -120,6 +120,20 @@ impl Store {
         keep_newest(&mut self.marks, &mut self.spare, left);
     }
 
+    // Puts a scalar into a cell that isn't the one written last.
+    #[inline(never)]
+    fn set_other(&mut self, cell: usize, scalar: Scalar) -> Result<(), NoMemory>
+        requires { cell < length self.old.current }
+        ensures ok { OnOk result (self.new ≡ record self.old { current = slice_set self.old.current cell (Just scalar) }) }
+        ensures err { OnErr result (self.new ≡ self.old) }
+    {
+        if is_kept(&self.marks, &Change::Cell(cell, Value::of_scalar(scalar))) {
+            self.current[cell].put_scalar(scalar);
+            return Ok(());
+        }
+        self.set_new(cell, Value::of_scalar(scalar))
+    }
+
     // Puts a value into a cell of which the newest mark has noted nothing of late.
     #[inline(always)]
     fn set_new(&mut self, cell: usize, value: Value) -> Result<(), NoMemory>
@@ -179,6 +193,7 @@ impl Cells for Store {
         keep(&mut self.current, &mut self.marks, Change::Cell(cell, old))
     }
 
+    #[inline]
     fn set_scalar(&mut self, cell: usize, scalar: Scalar) -> Result<(), NoMemory>
         ensures ok { OnOk result (self.new ≡ record self.old { current = slice_set self.old.current cell (Just scalar) }) }
         ensures err { OnErr result (self.new ≡ self.old) }
@@ -186,11 +201,11 @@ impl Cells for Store {
         if cell >= self.current.len() {
             return Ok(());
         }
-        if is_kept(&self.marks, &Change::Cell(cell, Value::of_scalar(scalar))) {
+        if is_newest(&self.marks, cell) {
             self.current[cell].put_scalar(scalar);
             return Ok(());
         }
-        self.set_new(cell, Value::of_scalar(scalar))
+        self.set_other(cell, scalar)
     }
 
     fn set_at(&mut self, cell: usize, index: usize, value: Value) -> Result<(), NoMemory>
@@ -208,6 +223,41 @@ impl Cells for Store {
                 Change::Item(cell, index, old),
             ),
         }
+    }
+}
+
+// Whether the write before replaced this cell as a whole, so that going back needs nothing of what another one replaces.
+#[inline(always)]
+fn is_newest(marks: &VecDeque<Vec<Change>>, cell: usize) -> bool
+    ensures { result ≡ true → (old : Datum) (state : List Datum) →
+        states_below (map changes_in marks.now.items) (slice_set state cell old)
+        ≡ states_below (map changes_in marks.now.items) state }
+{
+    match marks.front() {
+        None => true,
+        Some(changes) => is_last_of(changes.as_slice(), cell),
+    }
+}
+
+#[inline(always)]
+fn is_last_of(changes: &[Change], cell: usize) -> bool
+    ensures { result ≡ true → (old : Datum) (state : List Datum) →
+        unwound changes.now (slice_set state cell old) ≡ unwound changes.now state }
+{
+    let count = changes.len();
+    if count == 0 {
+        return false;
+    }
+    is_of_cell(&changes[count - 1], cell)
+}
+
+#[inline(always)]
+fn is_of_cell(change: &Change, cell: usize) -> bool
+    ensures { (old : Datum) → result ≡ covers change.now (Change.Cell cell old) }
+{
+    match change {
+        Change::Cell(at, _) => *at == cell,
+        Change::Item(_, _, _) => false,
     }
 }
 
