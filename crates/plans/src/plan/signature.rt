@@ -210,11 +210,25 @@ fn is_member(listed: Listed, value: Scalar) -> bool
     }
 }
 
+// Whole numbers are compared first.
+#[inline(always)]
+fn is_same(a: &Scalar, b: &Scalar) -> bool
+    ensures { result ≡ ⟦<Scalar as PartialEq>⟧.eq a.now b.now }
+{
+    if let Scalar::Int(first) = a {
+        if let Scalar::Int(second) = b {
+            return *first == *second;
+        }
+    }
+    *a == *b
+}
+
+#[inline(always)]
 fn is_slot(formals: &[Scalar], n: usize, value: &Scalar) -> bool
     ensures { result ≡ ⟦<Scalar as PartialEq>⟧.eq (slot formals.now n) value.now }
 {
     match formals.get(n) {
-        Some(formal) => *formal == *value,
+        Some(formal) => is_same(formal, value),
         None => Scalar::Int(0) == *value,
     }
 }
