@@ -1,6 +1,9 @@
+mod AllOrNone
 mod Among
 mod Candidates
 mod Chosen
+mod Counted
 mod Noted
+mod OneEntry
 mod Pairs
 mod Placed
