@@ -1,7 +1,10 @@
+mod AllOrNone
 mod Among
 mod Candidates
 mod Chosen
+mod Counted
 mod Fitting
 mod Noted
+mod OneEntry
 mod Pairs
 mod Placed

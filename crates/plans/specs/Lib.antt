@@ -1,3 +1,4 @@
+pub mod Asked
 pub mod Automata
 pub mod Compatible
 pub mod Each

@@ -1,5 +1,5 @@
 -- Where to look for the components that have an action as an input.
-use Rattle.std.specs.Prelude.{◌≡◌, ℕ, ◌+◌, ◌-◌, ◌*◌, ◌%◌, ◌^◌, Bool as Truth, true, false, List, [], ◌∷◌, length, map, slice_get, Option, None, Some, All, Contains, unsigned_abs, bit_and, if◌then◌else◌}
+use Rattle.std.specs.Prelude.{◌≡◌, ℕ, ◌+◌, ◌-◌, ◌*◌, ◌%◌, ◌/◌, ◌^◌, Bool as Truth, true, false, List, [], ◌∷◌, length, map, slice_get, Option, None, Some, All, Contains, unsigned_abs, bit_and, if◌then◌else◌}
 use Rattle.std.specs.declared.vec.Vec.{Vec}
 use Rattle.std.specs.Global.{Global}
 use Rattle.std.specs.List.Sorted.{IsStrictlyIncreasing}
@@ -81,7 +81,7 @@ fixed_number (fixed.Member n) = n
 
 -- a number with one more value mixed in
 abbrev pub mixed : ℕ → Fixed → ℕ
-mixed number value = (number * 1640531527 % 2 ^ 64 + fixed_number value) % 2 ^ 64
+mixed number value = let spread = (number + fixed_number value) % 2 ^ 64 * 11400714819323198485 % 2 ^ 64 in (spread + spread / 4294967296) % 2 ^ 64
 
 -- a number for a pattern, from that of its name; others may have the same
 abbrev pub pattern_number : ℕ → List Fixed → ℕ

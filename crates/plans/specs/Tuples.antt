@@ -19,6 +19,13 @@ many (Member listed ∷ params) = count listed * many params
 many (Between low high ∷ params) = 0
 many (Whole ∷ params) = 0
 
+-- how many values a parameter ranges over; none where they are not listed
+abbrev pub choices : Param → ℕ
+choices (Const n) = 1
+choices (Member listed) = count listed
+choices (Between low high) = 0
+choices Whole = 0
+
 -- the tuple at a place: what follows a listed parameter changes faster
 abbrev pub tuple_at : List Scalar → List Param → ℕ → List Scalar
 tuple_at formals [] at = []

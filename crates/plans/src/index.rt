@@ -127,13 +127,16 @@ fn number_of(name: u16, mask: &[bool], args: &[Scalar]) -> usize
     number
 }
 
+// Multiplied by 2^64 over the golden ratio (Fibonacci hashing: Knuth, The Art of Computer Programming, volume 3, section 6.4),
+// and the upper half added to the lower, so that values that differ by a power of two don't share a place.
 #[inline(always)]
 fn mixed(number: usize, value: Fixed) -> usize
     ensures { result ≡ mixed number value }
 {
-    number
-        .wrapping_mul(1_640_531_527)
+    let spread = number
         .wrapping_add(fixed_number(value))
+        .wrapping_mul(11_400_714_819_323_198_485);
+    spread.wrapping_add(spread / 4_294_967_296)
 }
 
 #[inline(always)]

@@ -3,6 +3,7 @@ pub mod EffectTree
 pub mod Items
 pub mod Linked
 pub mod Meaning
+pub mod Mentions
 pub mod Nodes
 pub mod NodesFall
 pub mod Same

@@ -12,6 +12,7 @@ pub mod evaluate;
 mod glance;
 pub mod laws;
 mod look;
+pub mod mentions;
 mod number;
 pub mod parts;
 mod perform;

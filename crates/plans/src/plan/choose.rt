@@ -1,15 +1,18 @@
 //! The enabled actions of a task, and the one that a turn takes.
-ghost use Rattle.std.specs.Prelude.{◌≡◌, ◌++◌, ◌<◌, ◌%◌, IfOk, OnOk, option_copied, map, slice_get, length, sum};
+ghost use Rattle.std.specs.Prelude.{◌≡◌, ◌++◌, ◌<◌, ◌%◌, IfOk, OnOk, Some, false, option_copied, map, slice_get, length, sum};
 ghost use Rattle.std.specs.Option.{option_map};
 ghost use Rattle.std.specs.List.{flat_map};
+ghost use Rattle.plans.specs.Asked.{asks, Tells};
 ghost use Rattle.plans.specs.Automata.{component_at, transition_of};
 ghost use Rattle.plans.specs.Outcomes.{task_of, enabled_of, enabled_by, outcome_of};
-ghost use Rattle.plans.specs.Tuples.{enabled_in, enabled_count};
+ghost use Rattle.plans.specs.Tuples.{many, enabled_in, enabled_count};
 
 mod among;
 
 use crate::automaton::Entry;
 use crate::plan::Plan;
+use crate::plan::asked::flag_at;
+use crate::plan::step::holds;
 use crate::plan::tuples::count_all;
 use smallvec::SmallVec;
 use std::alloc::Global;
@@ -74,20 +77,118 @@ impl Plan {
     {
         let entries = self.entries(i);
         let formals = self.formals(i);
+        let flags = self.asks(i);
         let places = self.task(i, task);
-        let counts = counts_of(alloc, entries, formals, places, cells)?;
-        let outcome = chosen(
-            alloc,
-            entries,
-            formals,
-            places,
-            counts.as_slice(),
-            choice,
-            cells,
-        );
-        drop(counts);
-        outcome
+        if places.len() == 1 {
+            let asked = flag_at(flags, places[0]);
+            let entry = entry_among(entries, places[0]);
+            return outcome_of_one(alloc, entry, asked, formals, choice, cells);
+        }
+        outcome_of_several(alloc, entries, flags, formals, places, choice, cells)
     }
+}
+
+// The outcome of a task of one entry, where it is known whether its condition mentions a parameter.
+#[inline(always)]
+fn outcome_of_one<C: Cells>(
+    alloc: Global,
+    entry: Option<&Entry>,
+    asked: bool,
+    formals: &[Scalar],
+    choice: u32,
+    cells: &C,
+) -> Result<Option<Action>, NoMemory>
+    requires asked { Tells asked (option_map transition_of (option_copied entry)) }
+    ensures { IfOk result (λ found. let enabled = enabled_by formals.now (C.values cells.now)
+        (option_map transition_of (option_copied entry.entry)) in found ≡ slice_get enabled
+        (choice % length enabled)) }
+{
+    match entry {
+        Some(entry) => {
+            if asked {
+                return outcome_of_each(alloc, entry, formals, choice, cells);
+            }
+            outcome_of_alike(alloc, entry, formals, choice, cells)
+        }
+        None => Ok(None),
+    }
+}
+
+// The outcome where the condition mentions no parameter: it holds for all tuples or for none, and is evaluated before any
+// argument is put in its place.
+#[inline(always)]
+fn outcome_of_alike<C: Cells>(
+    alloc: Global,
+    entry: &Entry,
+    formals: &[Scalar],
+    choice: u32,
+    cells: &C,
+) -> Result<Option<Action>, NoMemory>
+    requires unasked { asks (transition_of entry.now) ≡ false }
+    ensures { IfOk result (λ found. let enabled = enabled_by formals.now (C.values cells.now)
+        (Some (transition_of entry.now)) in found ≡ slice_get enabled (choice % length enabled)) }
+{
+    let holding = holds(alloc, entry, formals, &[], cells)?;
+    if !holding {
+        return Ok(None);
+    }
+    let count = count_all(entry.params.as_slice())?;
+    if count == 0 {
+        return Ok(None);
+    }
+    let at = choice as usize % count;
+    action_among(alloc, entry, formals, count, count, at, cells)
+}
+
+// The outcome where the condition is asked for each tuple.
+#[inline(never)]
+fn outcome_of_each<C: Cells>(
+    alloc: Global,
+    entry: &Entry,
+    formals: &[Scalar],
+    choice: u32,
+    cells: &C,
+) -> Result<Option<Action>, NoMemory>
+    ensures { IfOk result (λ found. let enabled = enabled_by formals.now (C.values cells.now)
+        (Some (transition_of entry.now)) in found ≡ slice_get enabled (choice % length enabled)) }
+{
+    let enabled = count_each(alloc, entry, formals, cells)?;
+    if enabled == 0 {
+        return Ok(None);
+    }
+    let at = choice as usize % enabled;
+    let count = count_all(entry.params.as_slice())?;
+    action_among(alloc, entry, formals, count, enabled, at, cells)
+}
+
+// The outcome of a task of any number of entries.
+#[inline(never)]
+fn outcome_of_several<C: Cells>(
+    alloc: Global,
+    entries: &[Entry],
+    flags: &[bool],
+    formals: &[Scalar],
+    places: &[usize],
+    choice: u32,
+    cells: &C,
+) -> Result<Option<Action>, NoMemory>
+    requires flags { flags.now ≡ map asks (map transition_of entries.now) }
+    ensures { IfOk result (λ found. let enabled = flat_map
+        (enabled_in entries.now formals.now (C.values cells.now)) places.now in found
+        ≡ slice_get enabled (choice % length enabled)) }
+{
+    let counts = counts_of(alloc, entries, flags, formals, places, cells)?;
+    let outcome = chosen(
+        alloc,
+        entries,
+        formals,
+        places,
+        counts.as_slice(),
+        choice,
+        cells,
+    );
+    drop(counts);
+    outcome
 }
 
 fn add_entry<C: Cells>(
@@ -123,47 +224,91 @@ fn add_entry<C: Cells>(
 fn counts_of<C: Cells>(
     alloc: Global,
     entries: &[Entry],
+    flags: &[bool],
     formals: &[Scalar],
     places: &[usize],
     cells: &C,
 ) -> Result<SmallVec<usize, 8>, NoMemory>
+    requires flags { flags.now ≡ map asks (map transition_of entries.now) }
     ensures { IfOk result (λ counts. counts.items ≡ map
         (enabled_count entries.now formals.now (C.values cells.now)) places.now) }
 {
     let mut counts = SmallVec::new(alloc);
     for place in places {
+        let asked = flag_at(flags, *place);
         let entry = entry_among(entries, *place);
-        let count = count_of(alloc, entry, formals, cells)?;
+        let count = count_of(alloc, entry, asked, formals, cells)?;
         counts.push(count)?;
     }
     Ok(counts)
 }
 
+// How many actions of an entry are enabled, where it is known whether its condition mentions a parameter.
+#[inline(always)]
 fn count_of<C: Cells>(
     alloc: Global,
     entry: Option<&Entry>,
+    asked: bool,
     formals: &[Scalar],
     cells: &C,
 ) -> Result<usize, NoMemory>
+    requires asked { Tells asked (option_map transition_of (option_copied entry)) }
     ensures { IfOk result (λ count. count ≡ length
         (enabled_by formals.now (C.values cells.now)
         (option_map transition_of (option_copied entry.entry)))) }
 {
     match entry {
         Some(entry) => {
-            let count = count_all(entry.params.as_slice())?;
-            let many = entry.params.len();
-            if many <= FEW {
-                let mut args = [Scalar::Int(0); FEW];
-                return among::count(alloc, entry, formals, count, &mut args[..many], cells);
+            if asked {
+                return count_each(alloc, entry, formals, cells);
             }
-            let mut args = vec![in alloc; Scalar::Int(0); many]?;
-            let enabled = among::count(alloc, entry, formals, count, args.as_mut_slice(), cells);
-            drop(args);
-            enabled
+            count_alike(alloc, entry, formals, cells)
         }
         None => Ok(0),
     }
+}
+
+// The number where the condition mentions no parameter: it holds for all tuples or for none, and is evaluated before any
+// argument is put in its place.
+#[inline(always)]
+fn count_alike<C: Cells>(
+    alloc: Global,
+    entry: &Entry,
+    formals: &[Scalar],
+    cells: &C,
+) -> Result<usize, NoMemory>
+    requires unasked { asks (transition_of entry.now) ≡ false }
+    ensures { IfOk result (λ count. count ≡ length
+        (enabled_by formals.now (C.values cells.now) (Some (transition_of entry.now)))) }
+{
+    let holding = holds(alloc, entry, formals, &[], cells)?;
+    if holding {
+        return count_all(entry.params.as_slice());
+    }
+    Ok(0)
+}
+
+// The number where the condition is asked for each tuple.
+#[inline(never)]
+fn count_each<C: Cells>(
+    alloc: Global,
+    entry: &Entry,
+    formals: &[Scalar],
+    cells: &C,
+) -> Result<usize, NoMemory>
+    ensures { IfOk result (λ count. count ≡ length
+        (enabled_by formals.now (C.values cells.now) (Some (transition_of entry.now)))) }
+{
+    let count = count_all(entry.params.as_slice())?;
+    let many = entry.params.len();
+    if many <= FEW {
+        let mut args = [Scalar::Int(0); FEW];
+        return among::count(alloc, entry, formals, count, &mut args[..many], cells);
+    }
+    let mut args = vec![in alloc; Scalar::Int(0); many]?;
+    let enabled = among::count(alloc, entry, formals, count, args.as_mut_slice(), cells);
+    drop(args);
+    enabled
 }
 
 fn entry_among(entries: &[Entry], place: usize) -> Option<&Entry>
@@ -238,34 +383,69 @@ fn action_of<C: Cells>(
     match entry {
         Some(entry) => {
             let count = count_all(entry.params.as_slice())?;
-            let many = entry.params.len();
-            if many <= FEW {
-                let mut args = [Scalar::Int(0); FEW];
-                return among::action(
-                    alloc,
-                    entry,
-                    formals,
-                    count,
-                    enabled,
-                    at,
-                    &mut args[..many],
-                    cells,
-                );
-            }
-            let mut args = vec![in alloc; Scalar::Int(0); many]?;
-            let found = among::action(
-                alloc,
-                entry,
-                formals,
-                count,
-                enabled,
-                at,
-                args.as_mut_slice(),
-                cells,
-            );
-            drop(args);
-            found
+            action_among(alloc, entry, formals, count, enabled, at, cells)
         }
         None => Ok(None),
     }
+}
+
+// The action at `at` of the `enabled` ones among the `count` tuples of an entry.
+#[inline(always)]
+fn action_among<C: Cells>(
+    alloc: Global,
+    entry: &Entry,
+    formals: &[Scalar],
+    count: usize,
+    enabled: usize,
+    at: usize,
+    cells: &C,
+) -> Result<Option<Action>, NoMemory>
+    requires count { count ≡ many entry.now.params.items }
+    requires enabled { enabled ≡ length
+        (enabled_by formals.now (C.values cells.now) (Some (transition_of entry.now))) }
+    requires below { at < enabled }
+    ensures { IfOk result (λ found. found ≡ slice_get
+        (enabled_by formals.now (C.values cells.now) (Some (transition_of entry.now))) at) }
+{
+    let size = entry.params.len();
+    if size <= FEW {
+        let mut args = [Scalar::Int(0); FEW];
+        let few = &mut args[..size];
+        return among::action(alloc, entry, formals, count, enabled, at, few, cells);
+    }
+    action_of_long(alloc, entry, formals, count, enabled, at, cells)
+}
+
+// The same where the arguments take memory while they are tried.
+#[cold]
+#[inline(never)]
+fn action_of_long<C: Cells>(
+    alloc: Global,
+    entry: &Entry,
+    formals: &[Scalar],
+    count: usize,
+    enabled: usize,
+    at: usize,
+    cells: &C,
+) -> Result<Option<Action>, NoMemory>
+    requires count { count ≡ many entry.now.params.items }
+    requires enabled { enabled ≡ length
+        (enabled_by formals.now (C.values cells.now) (Some (transition_of entry.now))) }
+    requires below { at < enabled }
+    ensures { IfOk result (λ found. found ≡ slice_get
+        (enabled_by formals.now (C.values cells.now) (Some (transition_of entry.now))) at) }
+{
+    let mut args = vec![in alloc; Scalar::Int(0); entry.params.len()]?;
+    let found = among::action(
+        alloc,
+        entry,
+        formals,
+        count,
+        enabled,
+        at,
+        args.as_mut_slice(),
+        cells,
+    );
+    drop(args);
+    found
 }

@@ -1,9 +1,11 @@
 //! The parts of a component.
 ghost use Rattle.std.specs.Prelude.{◌≡◌, map, length};
+ghost use Rattle.plans.specs.Asked.{asks};
 ghost use Rattle.plans.specs.Automata.{component_at, transition_of, items_in};
 
 use crate::automaton::{Automaton, Entry};
 use crate::plan::Plan;
+use crate::plan::asked::flags_at;
 use terms::{Scalar, Term};
 
 #[tactic(auto, using(crate::specs::Plans::component_found))]
@@ -37,6 +39,17 @@ impl Plan {
     {
         match self.components.get(i as usize) {
             Some(component) => component.formals.as_slice(),
+            None => &[],
+        }
+    }
+
+    /// Of each entry whether its condition mentions a parameter of the action.
+    pub(super) fn asks(&self, i: u16) -> &[bool]
+        ensures { result.now ≡ map asks (component_at (composition self.now) i).entries }
+    {
+        let flags = self.asks.as_slice();
+        match self.components.get(i as usize) {
+            Some(component) => flags_at(flags, component.automaton),
             None => &[],
         }
     }

@@ -1,6 +1,6 @@
 //! The tuples of arguments that the parameters of an entry stand for.
 ghost use Rattle.std.specs.Prelude.{◌≡◌, ◌+◌, ◌<◌, ◌++◌, ◌*◌, IfOk, length, take};
-ghost use Rattle.plans.specs.Tuples.{many, tuple_at};
+ghost use Rattle.plans.specs.Tuples.{many, choices, tuple_at};
 
 use crate::automaton::Param;
 use terms::evaluate::slot_of;
@@ -14,14 +14,23 @@ use terms::{NoMemory, Scalar, parts};
 pub(super) fn count_all(params: &[Param]) -> Result<usize, NoMemory>
     ensures { IfOk result (λ count. count ≡ many params.now) }
 {
-    match params.split_first() {
-        None => Ok(1),
-        Some((param, params)) => match param {
-            Param::Const(_) => count_all(params),
-            Param::Member(listed) => times(parts::count_of(*listed), count_all(params)?),
-            Param::Between(_, _) => Ok(0),
-            Param::Whole => Ok(0),
-        },
+    let mut count: usize = 1;
+    for param in params {
+        count = times(choices(param), count)?;
+    }
+    Ok(count)
+}
+
+// How many values a parameter ranges over; none where they aren't listed.
+#[inline(always)]
+fn choices(param: &Param) -> u16
+    ensures { result ≡ choices param.now }
+{
+    match param {
+        Param::Const(_) => 1,
+        Param::Member(listed) => parts::count_of(*listed),
+        Param::Between(_, _) => 0,
+        Param::Whole => 0,
     }
 }
 

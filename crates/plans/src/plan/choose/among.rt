@@ -108,6 +108,7 @@ fn plus_if(count: usize, test: bool) -> usize
 }
 
 /// The action at `at` among the `enabled` ones of an entry. Where all are, none is evaluated again.
+#[inline(always)]
 pub(super) fn action<C: Cells>(
     alloc: Global,
     entry: &Entry,
@@ -134,6 +135,7 @@ pub(super) fn action<C: Cells>(
     sought(alloc, entry, formals, count, at, args, cells)
 }
 
+#[inline(never)]
 fn sought<C: Cells>(
     alloc: Global,
     entry: &Entry,
