@@ -14,7 +14,7 @@ loop-mask-preserved c =
     let at : get_or masks c.loop-mask.mask-index mask ≡ mask = search rules in
     let lists = c.as_slice-in-loop-mask.ensures.value ∙ ap (λ (k : Kept). k.numbers) c.self.view_is in
     let flags = c.as_slice-in-loop-mask-2.ensures.value in
-    let args = c.as_slice-in-loop-mask-3.ensures.value ∙ ap (λ (a : Named). a.args) c.action.view_is in
+    let args = c.as_slice-in-loop-mask-3.ensures ∙ ap (λ (a : Named). a.args) c.action.view_is in
     let more : c.numbers_at-numbers.result.now ≡ list_at numbers (place_of action.name (masked mask.items action.args) (length numbers)) = c.numbers_at-numbers.ensures ∙ (λ i. list_at (lists i) (place_of (c.action.view_is i).name (masked (flags i) (args i)) (length (lists i)))) in
     gathered_more numbers action.name action.args masks c.loop-mask.mask-index mask c.loop-mask.found.items c.extend_from_slice.new.self.items c.numbers_at-numbers.result.now below at more (search rules) c.loop-mask.invariant
 
