@@ -94,6 +94,7 @@ impl<T: Turns> Setup<T> {
     }
 
     // The tick of a turn that comes after `tick`, up to the horizon.
+    #[inline(always)]
     fn tick_of(&self, turn: Turn, tick: u64) -> Option<u64>
         requires in_time { tick ≤ horizon_of self.now }
         requires gap { 1 ≤ turn.gap }
@@ -109,6 +110,7 @@ impl<T: Turns> Setup<T> {
     }
 
     // The turn before which a walk stands, and its tick where it comes after `tick`.
+    #[inline(always)]
     fn walk_after(&self, i: u16, n: u64, tick: u64, walk: &mut Walk) -> Option<Timed>
         requires in_time { tick ≤ horizon_of self.now }
         requires stands { T.stands (source_of self.now) walk.old i n }
@@ -136,6 +138,7 @@ impl<T: Turns> Setup<T> {
 
     // Turn `n` of component `i` with its tick, if that turn exists, read off a walk that stands before it, where `tick` is that of the turn
     // before (0 for the first). The walk then stands before the next turn. Nothing is drawn but that turn.
+    #[inline(always)]
     fn next_turn(&self, i: u16, n: u64, tick: u64, walk: &mut Walk) -> Option<Timed>
         requires reaches { Reaches (system T.turn_of self.now) i n tick }
         requires stands { T.stands (source_of self.now) walk.old i n }
@@ -152,6 +155,7 @@ impl<T: Turns> Setup<T> {
     }
 
     // A turn, its task below the number of the component's tasks, 0 where it has none.
+    #[inline(always)]
     fn in_tasks(&self, i: u16, turn: Turn) -> Turn
         ensures { result ≡ with_task_below (task_count (composition (plan_of self.now)) i) turn }
     {
@@ -204,6 +208,7 @@ impl<T: Turns> Setup<T> {
 
     /// The turn of component `i` after the one of this key, with its own key, if there is one. It is read off the walk, if that stands there; else
     /// a new one jumps there along the generator's words. The walk that is left stands before the turn after that, if there is one.
+    #[inline(always)]
     pub fn turn_after(&self, i: u16, key: Key, walk: &mut Option<Walk>) -> Option<KeyedTurn>
         requires there { Some key ≡ key_of (system T.turn_of self.now) i key.number }
         requires small { key.number < 4294967296 }
@@ -234,6 +239,7 @@ impl<T: Turns> Setup<T> {
     }
 
     // Has a walk stand before turn `n`; it stays if it does.
+    #[inline(always)]
     fn put_before(&self, i: u16, n: u64, walk: &mut Option<Walk>)
         requires { IfSome walk.old (λ walk. T.stands (source_of self.now) walk i walk.number) }
         ensures { IsSomeAnd walk.new (λ walk. T.stands (source_of self.now) walk i n) }

@@ -31,6 +31,7 @@ impl TurnReader {
     }
 
     /// Turn `n` of component `i`, which exists.
+    #[inline]
     pub fn turn<T: Turns>(&self, setup: &Setup<T>, i: u16, n: u64) -> Option<Turn>
         requires there { IsSome (key_of (system T.turn_of setup.now) i n) }
         requires read { IsRead T.turn_of T.stands setup.now i self.now }
@@ -43,6 +44,7 @@ impl TurnReader {
     }
 
     /// The key of the turn after the one of this key, if there is one. That turn is read.
+    #[inline(always)]
     pub fn read_on<T: Turns>(&mut self, setup: &Setup<T>, i: u16, key: Key) -> Option<Key>
         requires there { Some key ≡ key_of (system T.turn_of setup.now) i key.number }
         requires small { key.number < 4294967296 }

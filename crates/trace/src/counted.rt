@@ -36,6 +36,7 @@ impl<W: Write> Counted<W> {
     /// Writes a first part of a piece, and gives its length in bytes; the rest is for later calls. A write that fails is
     /// counted: it gives an error, which is the writer's own, or takes 0 bytes of a nonempty piece. At an error no byte goes
     /// out.
+    #[inline]
     pub fn write(&mut self, piece: &[u8]) -> io::Result<usize>
         ensures bound { WritesAtMost result piece.now }
         ensures bytes { WriteAppends (W.contents (writer_of self.old)) (W.contents (writer_of self.new)) result piece.now }
@@ -55,7 +56,37 @@ impl<W: Write> Counted<W> {
 
     /// Writes a whole piece, by as many writes as it takes, up to the first that fails. An error is the number of the bytes
     /// that went out before it, from the front; then one more failure is counted.
+    #[inline]
     pub fn write_piece(&mut self, piece: &[u8]) -> Result<(), usize>
+        ensures ok { OnOk result (Appends (W.contents (writer_of self.old)) (W.contents (writer_of self.new)) piece.now) }
+        ensures ok_failures { OnOk result (failures_of self.new ≡ failures_of self.old) }
+        ensures err { IfErr result (λ written. Appends (W.contents (writer_of self.old)) (W.contents (writer_of self.new)) (take written piece.now)) }
+        ensures err_short { IfErr result (λ written. written < length piece.now) }
+        ensures err_failures { OnErr result (failures_of self.new ≡ one_more (failures_of self.old)) }
+    {
+        if piece.is_empty() {
+            return Ok(());
+        }
+        let taken = match self.write(piece) {
+            Ok(taken) => taken,
+            Err(_) => return Err(0),
+        };
+        if taken == piece.len() {
+            return Ok(());
+        }
+        if taken == 0 {
+            return Err(0);
+        }
+        match self.write_rest(&piece[taken..]) {
+            Ok(()) => Ok(()),
+            Err(more) => Err(taken + more),
+        }
+    }
+
+    // Writes what a first write left of a piece, as `write_piece` does.
+    #[cold]
+    #[inline(never)]
+    fn write_rest(&mut self, piece: &[u8]) -> Result<(), usize>
         ensures ok { OnOk result (Appends (W.contents (writer_of self.old)) (W.contents (writer_of self.new)) piece.now) }
         ensures ok_failures { OnOk result (failures_of self.new ≡ failures_of self.old) }
         ensures err { IfErr result (λ written. Appends (W.contents (writer_of self.old)) (W.contents (writer_of self.new)) (take written piece.now)) }

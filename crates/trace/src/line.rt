@@ -87,7 +87,7 @@ impl Line {
     }
 
     /// Writes what waits, which is then nothing.
-    #[inline]
+    #[inline(always)]
     pub(crate) fn send<W: Write>(
         &mut self,
         out: &mut Counted<W>,
@@ -105,6 +105,7 @@ impl Line {
     }
 }
 
+#[inline]
 fn put_bytes<W: Write>(out: &mut Counted<W>, bytes: &[u8], before: u64) -> Result<u64, WriteFault>
     ensures ok { IfOk result (λ after. Puts W.contents out.old out.new before after bytes.now) }
     ensures err { IfErr result (λ fault. Stops W.contents out.old out.new before bytes.now fault) }
@@ -117,6 +118,7 @@ fn put_bytes<W: Write>(out: &mut Counted<W>, bytes: &[u8], before: u64) -> Resul
 
 // A piece for which there was no room.
 #[cold]
+#[inline(never)]
 #[tactic(auto, using(crate::proofs::Adding::pieces))]
 fn put_past<W: Write>(
     line: &mut Line,

@@ -75,6 +75,7 @@ pub fn append_turns<'a, W: Write, I: Iterator<Item = &'a Turned> + Drop>(
 }
 
 /// Writes the line of one more turn, if it is wanted, as [`append_turns`] does.
+#[inline(always)]
 pub fn append_turn<W: Write>(
     plan: &Plan,
     turned: &Turned,
@@ -110,6 +111,7 @@ fn did_external(plan: &Plan, outcome: &Outcome) -> bool
     }
 }
 
+#[inline(always)]
 #[tactic(auto, using(crate::proofs::Adding::lines))]
 fn put_line<W: Write>(
     out: &mut Counted<W>,

@@ -1,7 +1,7 @@
 use Rattle.std.proofs.Common.{length, ◌-◌, ◌≡◌, ◌≤◌, take}
 use Rattle.std.specs.Io.KnownBytes.{Appends}
 use Rattle.trace.specs.Counts.{writer_of, failures_of}
-use Rattle.trace.proofs.counted.Counted.write_piece.Given as goal
+use Rattle.trace.proofs.counted.Counted.write_rest.Given as goal
 
 abbrev pub invariant-loop-written : goal.invariant-loop-written
 invariant-loop-written g l = record {
