@@ -137,7 +137,9 @@ impl Store {
     // Puts a value into a cell of which the newest mark has noted nothing of late.
     #[inline(always)]
     fn set_new(&mut self, cell: usize, value: Value) -> Result<(), NoMemory>
-        ensures ok { OnOk result (self.new ≡ record self.old { current = slice_set self.old.current cell value }) }
+        ensures ok { OnOk result (self.new ≡ record self.old {
+          current = slice_set self.old.current cell value;
+        }) }
         ensures err { OnErr result (self.new ≡ self.old) }
     {
         if cell >= self.current.len() {
@@ -317,8 +319,10 @@ fn keep_new(
     marks: &mut VecDeque<Vec<Change>>,
     change: Change,
 ) -> Result<(), NoMemory>
-    ensures ok { OnOk result ((current.new.items ≡ current.old.items) × IsNoted change (map changes_in marks.old.items) (map changes_in marks.new.items)) }
-    ensures err { OnErr result ((current.new.items ≡ restored change current.old.items) × (map changes_in marks.new.items ≡ map changes_in marks.old.items)) }
+    ensures ok { OnOk result ((current.new.items ≡ current.old.items)
+        × IsNoted change (map changes_in marks.old.items) (map changes_in marks.new.items)) }
+    ensures err { OnErr result ((current.new.items ≡ restored change current.old.items)
+        × (map changes_in marks.new.items ≡ map changes_in marks.old.items)) }
 {
     match note_new(marks, change) {
         Ok(()) => Ok(()),
@@ -331,8 +335,10 @@ fn keep_new(
 
 #[inline(always)]
 fn note_new(marks: &mut VecDeque<Vec<Change>>, change: Change) -> Result<(), Change>
-    ensures ok { OnOk result (IsNoted change (map changes_in marks.old.items) (map changes_in marks.new.items)) }
-    ensures err { IfErr result (λ back. (back ≡ change) × (map changes_in marks.new.items ≡ map changes_in marks.old.items)) }
+    ensures ok { OnOk result
+        (IsNoted change (map changes_in marks.old.items) (map changes_in marks.new.items)) }
+    ensures err { IfErr result (λ back. (back ≡ change)
+        × (map changes_in marks.new.items ≡ map changes_in marks.old.items)) }
 {
     match marks.front_mut() {
         None => {
@@ -399,7 +405,8 @@ fn cut(marks: &mut VecDeque<Vec<Change>>, left: usize)
     marks.truncate(left);
 }
 
-// Drops changes, and keeps their room for the next mark. Scalars own no memory, and so aren't dropped one by one.
+// Drops changes, and keeps their room for the next mark. Scalars own no memory, and so aren't
+// dropped one by one.
 #[inline(always)]
 fn keep_room(spare: &mut Vec<Change>, mut changes: Vec<Change>)
     ensures { spare.new.items ≡ [] }

@@ -44,7 +44,8 @@ fn lists(alloc: Global, wanted: usize) -> Result<Vec<Vec<u16>>, NoMemory>
 
 // Whether a list that rises still does with a number at its end.
 fn is_above(list: &[u16], j: u16) -> bool
-    ensures { result ≡ true → IsStrictlyIncreasing list.now → IsStrictlyIncreasing (list.now ++ j ∷ []) }
+    ensures { result ≡ true → IsStrictlyIncreasing list.now
+        → IsStrictlyIncreasing (list.now ++ j ∷ []) }
 {
     let count = list.len();
     if count == 0 {
@@ -158,7 +159,9 @@ fn note_mask(
     name: u16,
     params: &[Param],
 ) -> Result<(), NoMemory>
-    ensures kept { OnOk result ((n : ℕ) (mask : List Truth) → Contains (masks_in masks.old.items n) mask → Contains (masks_in masks.new.items n) mask) }
+    ensures kept { OnOk result ((n : ℕ) (mask : List Truth)
+        → Contains (masks_in masks.old.items n) mask
+        → Contains (masks_in masks.new.items n) mask) }
     ensures noted { OnOk result (Contains (masks_in masks.new.items name) (mask_of params.now)) }
 {
     let mask = mask_of(alloc, params)?;
@@ -179,8 +182,11 @@ fn note_number(
     requires some { 0 < length numbers.old.items }
     ensures many { length numbers.new.items ≡ length numbers.old.items }
     ensures rising { AreRising numbers.old.items → AreRising numbers.new.items }
-    ensures kept { OnOk result ((name i : ℕ) (values : List Fixed) → IsListed numbers.old.items name values i → IsListed numbers.new.items name values i) }
-    ensures noted { OnOk result (IsListed numbers.new.items entry.now.name (values_of formals.now entry.now.params.items) j) }
+    ensures kept { OnOk result ((name i : ℕ) (values : List Fixed)
+        → IsListed numbers.old.items name values i
+        → IsListed numbers.new.items name values i) }
+    ensures noted { OnOk result (IsListed numbers.new.items entry.now.name
+        (values_of formals.now entry.now.params.items) j) }
 {
     let number = number_of(entry.name, formals, entry.params.as_slice());
     let place = number & (numbers.len() - 1);
