@@ -132,6 +132,23 @@ fn outcome_of_alike<C: Cells>(
     if !holding {
         return Ok(None);
     }
+    one_of_all(alloc, entry, formals, choice, cells)
+}
+
+// The outcome where all tuples are enabled. It stays a call, so that idle turns need no room for what it makes.
+#[inline(never)]
+fn one_of_all<C: Cells>(
+    alloc: Global,
+    entry: &Entry,
+    formals: &[Scalar],
+    choice: u32,
+    cells: &C,
+) -> Result<Option<Action>, NoMemory>
+    requires { many entry.now.params.items ≡ length
+        (enabled_by formals.now (C.values cells.now) (Some (transition_of entry.now))) }
+    ensures { IfOk result (λ found. let enabled = enabled_by formals.now (C.values cells.now)
+        (Some (transition_of entry.now)) in found ≡ slice_get enabled (choice % length enabled)) }
+{
     let count = count_all(entry.params.as_slice())?;
     if count == 0 {
         return Ok(None);
