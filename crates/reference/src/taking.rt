@@ -135,7 +135,7 @@ pub(crate) fn take_found<T: Turns>(
     let plan = setup.plan();
     let mut takers = plan.receivers(alloc, action, i)?;
     takers.push(i)?;
-    take_action(alloc, plan, action, &takers, states)
+    take_action(alloc, plan, action, takers.as_slice(), states)
 }
 
 /// A turn with this key, and what was found for it.

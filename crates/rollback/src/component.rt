@@ -232,7 +232,7 @@ impl<T: Turns> Component<T> {
     {
         let turned = self.next_turned(alloc)?;
         let receivers = receivers_of_turn(alloc, &self.setup, self.number, &turned.outcome)?;
-        self.do_turned(alloc, turned, &receivers, out)
+        self.do_turned(alloc, turned, receivers.as_slice(), out)
     }
 
     // The own turn that comes next, with what comes of it.

@@ -86,9 +86,9 @@ impl<T: Turns> Component<T> {
         let turned = self.next_turned(alloc)?;
         fits(turned.key);
         let receivers = receivers_of_turn(alloc, &self.setup, self.number, &turned.outcome)?;
-        let of_sender = messages_to(alloc, &turned, Sign::Plus, &receivers)?;
-        let of_receiver = messages_to(alloc, &turned, Sign::Plus, &receivers)?;
-        let key = self.do_turned(alloc, turned, &receivers, out)?;
+        let of_sender = messages_to(alloc, &turned, Sign::Plus, receivers.as_slice())?;
+        let of_receiver = messages_to(alloc, &turned, Sign::Plus, receivers.as_slice())?;
+        let key = self.do_turned(alloc, turned, receivers.as_slice(), out)?;
         post_all(&mut copies.of_sender, of_sender);
         post_all(&mut copies.of_receiver, of_receiver);
         Ok(key)

@@ -25,6 +25,7 @@ use message_balance::Done;
 use plans::Plan;
 use plans::laws::receivers_law;
 use raw_events::{EventCell, EventList};
+use smallvec::SmallVec;
 use std::alloc::Global;
 use task_seed::{Setup, Turn, Turns};
 use terms::{Action, NoMemory};
@@ -130,11 +131,11 @@ pub(crate) fn receivers_of_turn<T: Turns>(
     setup: &Setup<T>,
     i: u16,
     outcome: &Outcome,
-) -> Result<Vec<u16>, NoMemory>
+) -> Result<SmallVec<u16, 8>, NoMemory>
     ensures { IfOk result (λ receivers. receivers.items ≡ turn_receivers (system T.turn_of setup.now) i outcome.now) }
 {
     match outcome {
-        Outcome::Idle => Ok(Vec::new(alloc)),
+        Outcome::Idle => Ok(SmallVec::new(alloc)),
         Outcome::Did(action) => Ok(setup.plan().receivers(alloc, action, i)?),
     }
 }

@@ -6,6 +6,7 @@ ghost use Rattle.plans.specs.Signatures.{is_member, fits_one, fits, has, kind_of
 
 use crate::automaton::{Entry, Kind, Param};
 use crate::plan::Plan;
+use smallvec::SmallVec;
 use std::alloc::Global;
 use terms::{Action, Listed, NoMemory, Scalar};
 
@@ -32,13 +33,13 @@ impl Plan {
     }
 
     /// The components that take an action of `sender` as an input, each once and in order. There is
-    /// room for one more.
+    /// room for one more, and up to seven take no memory.
     pub fn receivers(
         &self,
         alloc: Global,
         action: &Action,
         sender: u16,
-    ) -> Result<Vec<u16>, NoMemory>
+    ) -> Result<SmallVec<u16, 8>, NoMemory>
         ensures { IfOk result (λ receivers. receivers.items ≡ receivers_of (composition self.now) action.now sender) }
     {
         match self.lent(action) {
@@ -52,7 +53,7 @@ impl Plan {
         alloc: Global,
         action: &Action,
         sender: u16,
-    ) -> Result<Vec<u16>, NoMemory>
+    ) -> Result<SmallVec<u16, 8>, NoMemory>
         ensures { IfOk result (λ receivers. receivers.items ≡ receivers_of (composition self.now) action.now sender) }
     {
         let candidates = self.candidates(alloc, action)?;
@@ -68,11 +69,11 @@ impl Plan {
         numbers: &[u16],
         action: &Action,
         sender: u16,
-    ) -> Result<Vec<u16>, NoMemory>
+    ) -> Result<SmallVec<u16, 8>, NoMemory>
         ensures { IfOk result (λ receivers. receivers.items ≡ filter
             (receives (composition self.now) sender action.now) numbers.now) }
     {
-        let mut receivers = Vec::with_capacity(alloc, numbers.len() + 1)?;
+        let mut receivers = SmallVec::with_capacity(alloc, numbers.len() + 1)?;
         for j in numbers {
             let takes = *j != sender && takes_input(self.kind(*j, action));
             push_if(&mut receivers, takes, *j)?;
@@ -98,7 +99,7 @@ impl Plan {
     }
 
     /// The components that have an action, each once and in order.
-    pub fn takers(&self, alloc: Global, action: &Action) -> Result<Vec<u16>, NoMemory>
+    pub fn takers(&self, alloc: Global, action: &Action) -> Result<SmallVec<u16, 8>, NoMemory>
         ensures { IfOk result (λ takers. takers.items ≡ takers_of
             (composition self.now) action.now) }
     {
@@ -123,11 +124,11 @@ impl Plan {
         alloc: Global,
         numbers: &[u16],
         action: &Action,
-    ) -> Result<Vec<u16>, NoMemory>
+    ) -> Result<SmallVec<u16, 8>, NoMemory>
         ensures { IfOk result (λ takers. takers.items ≡ filter
             (λ j. is_some (kind_of (composition self.now) j action.now)) numbers.now) }
     {
-        let mut takers = Vec::with_capacity(alloc, numbers.len())?;
+        let mut takers = SmallVec::with_capacity(alloc, numbers.len())?;
         for j in numbers {
             let has = self.kind(*j, action).is_some();
             push_if(&mut takers, has, *j)?;
@@ -155,7 +156,7 @@ fn first_with<'a>(entries: &'a [Entry], formals: &[Scalar], action: &Action) -> 
     entries.iter().find(|entry| has(formals, action, entry))
 }
 
-fn push_if(numbers: &mut Vec<u16>, test: bool, number: u16) -> Result<(), NoMemory>
+fn push_if(numbers: &mut SmallVec<u16, 8>, test: bool, number: u16) -> Result<(), NoMemory>
     ensures { OnOk result (numbers.new.items ≡ numbers.old.items ++ cond test (number ∷ []) []) }
 {
     if test {

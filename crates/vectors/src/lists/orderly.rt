@@ -47,7 +47,8 @@ fn push_deliveries(
     action: &Action,
     steps: &mut Vec<Step>,
 ) -> Result<()> {
-    for to in &setup.plan().receivers(alloc, action, key.component)? {
+    let receivers = setup.plan().receivers(alloc, action, key.component)?;
+    for to in receivers.as_slice() {
         push_delivery(key, action, *to, steps)?;
     }
     Ok(())

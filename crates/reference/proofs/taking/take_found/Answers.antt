@@ -10,13 +10,13 @@ use Rattle.reference.proofs.taking.take_found.Goals as goal
 
 pub take_action-requires-clause-once : goal.take_action-requires-clause-once
 take_action-requires-clause-once g c =
-    distinct_takers (system g.T.Turns.turn_of c.args.setup.now) (composition c.plan-plan.result.now) (ap composition c.plan-plan.ensures) c.args.i c.in-Some.action c.deref.result.now
-    (c.deref.ensures.value ∙ c.in_ok-push.ensures.items ∙ ap (λ (l : List ℕ). l ++ c.args.i ∷ []) c.in_ok-takers.ensures)
+    distinct_takers (system g.T.Turns.turn_of c.args.setup.now) (composition c.plan-plan.result.now) (ap composition c.plan-plan.ensures) c.args.i c.in-Some.action c.as_slice.result.now
+    (c.as_slice.ensures ∙ c.in_ok-push.ensures.ok ∙ ap (λ (l : List ℕ). l ++ c.args.i ∷ []) c.in_ok-takers.ensures)
 
 pub take_action-requires-clause-within : goal.take_action-requires-clause-within
 take_action-requires-clause-within g c =
-    takers_within (system g.T.Turns.turn_of c.args.setup.now) (composition c.plan-plan.result.now) (ap composition c.plan-plan.ensures) c.args.i c.in-Some.action c.deref.result.now
-    (c.deref.ensures.value ∙ c.in_ok-push.ensures.items ∙ ap (λ (l : List ℕ). l ++ c.args.i ∷ []) c.in_ok-takers.ensures) c.machine_is_lawful.ensures.counted c.requires.within _ c.requires.many
+    takers_within (system g.T.Turns.turn_of c.args.setup.now) (composition c.plan-plan.result.now) (ap composition c.plan-plan.ensures) c.args.i c.in-Some.action c.as_slice.result.now
+    (c.as_slice.ensures ∙ c.in_ok-push.ensures.ok ∙ ap (λ (l : List ℕ). l ++ c.args.i ∷ []) c.in_ok-takers.ensures) c.machine_is_lawful.ensures.counted c.requires.within _ c.requires.many
 
 pub returns-clause-ok : goal.returns-clause-ok
 returns-clause-ok g c =
@@ -24,9 +24,9 @@ returns-clause-ok g c =
     let p = composition c.plan-plan.result.now in
     let i = c.args.i in
     let a = c.in-Some.action in
-    let takers = c.deref.result.now in
+    let takers = c.as_slice.result.now in
     let old = c.args.states.now in
     let new = c.take_action.new.states in
     subst (λ (o : Option Named). OnOk c.take_action.result ((j : ℕ) → slice_get new j ≡ option_map (joining (machine s) i o j) (slice_get old j))) (sym c.in-Some.is)
     (then_ok ((j : ℕ) → slice_get new j ≡ option_map (taking p a takers j) (slice_get old j)) ((j : ℕ) → slice_get new j ≡ option_map (joining (machine s) i (Some a) j) (slice_get old j)) c.take_action.result c.take_action.ensures.ok
-    (joined s p (ap composition c.plan-plan.ensures) i a takers (c.deref.ensures.value ∙ c.in_ok-push.ensures.items ∙ ap (λ (l : List ℕ). l ++ i ∷ []) c.in_ok-takers.ensures) old new c.requires.plain))
+    (joined s p (ap composition c.plan-plan.ensures) i a takers (c.as_slice.ensures ∙ c.in_ok-push.ensures.ok ∙ ap (λ (l : List ℕ). l ++ i ∷ []) c.in_ok-takers.ensures) old new c.requires.plain))

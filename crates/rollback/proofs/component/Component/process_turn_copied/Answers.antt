@@ -13,8 +13,8 @@ returns-clause-of_sender g c =
     let own = c.args.self.now in
     let turned = c.in_ok-turned.turned in
     let cells = c.in_ok-of_sender.of_sender in
-    let receivers : c.deref-2.result.now ≡ turn_receivers (system t own.setup) own.number turned.outcome
-    = c.deref-2.ensures.value ∙ subst (λ (h : ComponentView _). c.in_ok-receivers.receivers.items ≡ turn_receivers (system t h.setup) h.number turned.outcome) c.self.view_is
+    let receivers : c.as_slice.result.now ≡ turn_receivers (system t own.setup) own.number turned.outcome
+    = c.as_slice.ensures ∙ subst (λ (h : ComponentView _). c.in_ok-receivers.receivers.items ≡ turn_receivers (system t h.setup) h.number turned.outcome) c.self.view_is
     (subst (λ u. c.in_ok-receivers.receivers.items ≡ turn_receivers (system t u) c.self.inside.number turned.outcome) c.deref.ensures c.in_ok-receivers.ensures) in
     let old = c.args.copies.now.of_sender in
     let ready : cells ≡ record { before = signed_of (system t own.setup) Plus own.number turned.key turned.outcome; after = [] }
@@ -28,8 +28,8 @@ returns-clause-of_receiver g c =
     let own = c.args.self.now in
     let turned = c.in_ok-turned.turned in
     let cells = c.in_ok-of_receiver.of_receiver in
-    let receivers : c.deref-3.result.now ≡ turn_receivers (system t own.setup) own.number turned.outcome
-    = c.deref-3.ensures.value ∙ subst (λ (h : ComponentView _). c.in_ok-receivers.receivers.items ≡ turn_receivers (system t h.setup) h.number turned.outcome) c.self.view_is
+    let receivers : c.as_slice-2.result.now ≡ turn_receivers (system t own.setup) own.number turned.outcome
+    = c.as_slice-2.ensures ∙ subst (λ (h : ComponentView _). c.in_ok-receivers.receivers.items ≡ turn_receivers (system t h.setup) h.number turned.outcome) c.self.view_is
     (subst (λ u. c.in_ok-receivers.receivers.items ≡ turn_receivers (system t u) c.self.inside.number turned.outcome) c.deref.ensures c.in_ok-receivers.ensures) in
     let old = c.args.copies.now.of_receiver in
     let ready : cells ≡ record { before = signed_of (system t own.setup) Plus own.number turned.key turned.outcome; after = [] }
