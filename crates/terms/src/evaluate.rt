@@ -27,12 +27,7 @@ pub fn eval<C: Cells>(alloc: Global, term: &Term, env: &Env, cells: &C) -> Resul
 }
 
 // The same for a term that isn't read off as a number.
-fn eval_other<C: Cells>(
-    alloc: Global,
-    term: &Term,
-    env: &Env,
-    cells: &C,
-) -> Result<Value, NoMemory>
+fn eval_other<C: Cells>(alloc: Global, term: &Term, env: &Env, cells: &C) -> Result<Value, NoMemory>
     ensures { IfOk result (λ v. v ≡ value (term_tree term.now) (scope env.now) (C.values cells.now)) }
 {
     match scalar_of(term, env, cells) {

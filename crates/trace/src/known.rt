@@ -104,7 +104,9 @@ pub(crate) fn action_of(plan: &Plan, name: &str, args: Vec<Scalar>) -> Result<Ac
         return Err(LineFault::Unknown);
     };
     match plan.action_name(number) {
-        Some(declared) if are_of(declared.parameters.as_slice(), args.as_slice()) => Ok(Action::new(number, args)),
+        Some(declared) if are_of(declared.parameters.as_slice(), args.as_slice()) => Ok(Action::new(
+            number, args,
+        )),
         _ => Err(LineFault::Unknown),
     }
 }
