@@ -6,7 +6,7 @@ ghost use Rattle.plans.specs.Signatures.{fits_one, is_member};
 ghost use Rattle.compatibility.specs.Spans.{is_in};
 
 use plans::Param;
-use terms::evaluate::slot_of;
+use terms::cells::slot_of;
 use terms::{Listed, Scalar};
 
 /// A set of neighbouring scalars of one sort.

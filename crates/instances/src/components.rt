@@ -5,9 +5,10 @@ ghost use Rattle.ioa_typing.specs.TermViews.{core_tree};
 ghost use Rattle.instances.specs.Instances.{argument};
 ghost use Rattle.instances.specs.Tables.{meant_parts, parts_in};
 
+use evaluation::eval;
 use ioa_check::Component;
 use std::alloc::Global;
-use terms::{Env, NoMemory, Scalar, State, Term, eval};
+use terms::{Env, NoMemory, Scalar, State, Term};
 
 // The value of an argument, which speaks of nothing but members and numbers.
 fn value_of(alloc: Global, term: &Term) -> Result<Scalar, NoMemory>

@@ -1,11 +1,6 @@
 -- Whether terms and effects of the code are the same, by their parts.
 use Rattle.std.proofs.Common.{◌≡◌, Bool as Truth, true, false, ◌&&◌, List, [], ◌∷◌, suc, map, length, refl, ap, sym, ◌∙◌}
-use Rattle.std.proofs.Common.{Result, Ok, Err, IfOk}
-use Rattle.terms.specs.Datum.{Datum}
-use Rattle.terms.specs.Linked.{opened, effect_opened, value_linked, values_on}
-use Rattle.terms.specs.Meaning.{Scope, value}
-use Rattle.terms.specs.Seen.{seen}
-use Rattle.terms.specs.declared.seen.Seen.{Seen}
+use Rattle.terms.specs.Linked.{opened, effect_opened}
 use Rattle.terms.specs.SameTrees.{same_term, same_links, spine, same_effect, same_parts, tail}
 use Rattle.terms.specs.SameTreeLaws.{linked_same, links_long, ended_same, parts_long, not_true}
 use Rattle.terms.specs.TermTree.{term_tree, operand_tree, link_tree}
@@ -72,11 +67,3 @@ ends_apart a b last e h k f =
     f ∙ sym (and_false (same_parts (map part_tree a.parts.items) (map part_tree b.parts.items)))
     ∙ ap (λ x. same_parts (map part_tree a.parts.items) (map part_tree b.parts.items) && x) (sym f ∙ e)
     ∙ sym (by_ends a b h k)
-
--- the value that links make of the first one is that of the term
-pub value_by : {E : Type 0} (term : Term) (links : List Link) (scope : Scope) (cells : List Datum) (first : Datum) (found : Result Seen E) → links ≡ term.links.items → first ≡ value (operand_tree term.first) scope cells → IfOk found (λ v. seen v ≡ values_on (map link_tree links) scope cells first) → IfOk found (λ v. seen v ≡ value (term_tree term) scope cells)
-value_by term links scope cells first (Err e) p h k = k
-value_by term links scope cells first (Ok v) p h k =
-    k ∙ (λ i. values_on (map link_tree (p i)) scope cells (h i))
-    ∙ sym (value_linked (operand_tree term.first) (map link_tree term.links.items) scope cells)
-    ∙ sym (ap (λ t. value t scope cells) (opened term))

@@ -9,7 +9,7 @@ pub mod NodesFall
 pub mod Same
 pub mod ShapeTree
 pub mod Shapes
-pub mod Seen
+pub mod Scopes
 pub mod TermTree
 pub mod Turns
 pub mod Named

@@ -1,6 +1,7 @@
 //! What terms are evaluated in: a state, and the values of formals, parameters and loop variables.
 ghost use Rattle.std.specs.Prelude.{◌≡◌, OnOk, OnErr, List, slice_get, slice_set, option_copied};
 ghost use Rattle.terms.specs.Datum.{Datum, Just};
+ghost use Rattle.terms.specs.Meaning.{slot};
 ghost use Rattle.terms.specs.Shapes.{set_item};
 
 use crate::refusal::NoMemory;
@@ -48,4 +49,15 @@ pub struct Env<'a> {
     pub parameters: &'a [Scalar],
     /// The loop variables, the outermost first; `for` stands at most 3 deep.
     pub loops: [Scalar; 3],
+}
+
+/// The scalar in a slot, counted from 0; the whole number 0 where there is no such slot.
+#[inline(always)]
+pub fn slot_of(slots: &[Scalar], n: usize) -> Scalar
+    ensures { result ≡ slot slots.now n }
+{
+    match slots.get(n) {
+        Some(scalar) => *scalar,
+        None => Scalar::Int(0),
+    }
 }

@@ -6,9 +6,9 @@ ghost use Rattle.terms.specs.Datum.{Just, pack, items_of, scalar_of};
 ghost use Rattle.terms.specs.Same.{same, same_laws};
 ghost use Rattle.terms.specs.Shapes.{with_item};
 
+use crate::reading::{as_number, as_truth};
 use crate::refusal::NoMemory;
 use crate::scalar::Scalar;
-use crate::seen::{as_number, as_truth};
 use std::alloc::Global;
 use std::marker::Model;
 use std::mem;
@@ -103,7 +103,7 @@ impl Value {
 
     /// The whole number that it is; `None` where it is none.
     #[inline(always)]
-    pub(crate) fn as_number(&self) -> Option<i64>
+    pub fn as_number(&self) -> Option<i64>
         ensures { IfSome result (λ n. self.now ≡ Just (Scalar.Int n)) }
     {
         match &self.node {
@@ -114,7 +114,7 @@ impl Value {
 
     /// The truth value that it is; `None` where it is none.
     #[inline(always)]
-    pub(crate) fn as_truth(&self) -> Option<bool>
+    pub fn as_truth(&self) -> Option<bool>
         ensures { IfSome result (λ t. self.now ≡ Just (Scalar.Bool t)) }
     {
         match &self.node {

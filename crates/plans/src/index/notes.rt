@@ -11,7 +11,7 @@ ghost use Rattle.plans.specs.Patterns.{fixes, mask_of, asked, values_of, pattern
 use crate::automaton::{Automaton, Component, Entry, Kind, Param};
 use crate::index::{Fixed, Index, fixed_as, masks_at, mixed};
 use std::alloc::Global;
-use terms::evaluate::slot_of;
+use terms::cells::slot_of;
 use terms::{NoMemory, Scalar};
 
 // The most lists of numbers that are made.

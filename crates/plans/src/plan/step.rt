@@ -2,14 +2,15 @@
 ghost use Rattle.std.specs.Prelude.{◌≡◌, IfOk, OnOk, OnErr, map, take};
 ghost use Rattle.plans.specs.Automata.{transition_of};
 ghost use Rattle.plans.specs.Steps.{scope_in, start_value, start_of, is_enabled, applied, IsPartApplied, holds};
-ghost use Rattle.terms.specs.Seen.{scope};
+ghost use Rattle.terms.specs.Scopes.{scope};
 ghost use Rattle.terms.specs.TermTree.{term_tree};
 
 use crate::automaton::Entry;
 use crate::plan::Plan;
+use evaluation::evaluate::is_true;
+use evaluation::{eval, run};
 use std::alloc::Global;
-use terms::evaluate::is_true;
-use terms::{Action, Cells, Env, NoMemory, Scalar, State, Term, Value, eval, run};
+use terms::{Action, Cells, Env, NoMemory, Scalar, State, Term, Value};
 
 impl Plan {
     ghost use Rattle.plans.specs.Automata.{component_at};

@@ -3,8 +3,9 @@ ghost use Rattle.std.specs.Prelude.{◌≡◌, ◌+◌, ◌<◌, ◌++◌, ◌*�
 ghost use Rattle.plans.specs.Tuples.{many, choices, tuple_at};
 
 use crate::automaton::Param;
-use terms::evaluate::slot_of;
-use terms::{NoMemory, Scalar, parts};
+use evaluation::parts;
+use terms::cells::slot_of;
+use terms::{NoMemory, Scalar};
 
 /// How many tuples there are; an accepted source has at most 4,096.
 ///
