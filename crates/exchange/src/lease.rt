@@ -12,7 +12,8 @@ ghost use Rattle.exchange.specs.Seen.{HasDelivered, IsSoundLease, MovesBy};
 ghost use Rattle.rollback.specs.Stepped.{HasNextKey, IsNextSent, next_entry};
 
 use antimessage::Bag;
-use event_keys::{Bound, Key};
+use event_keys::{Bound, Key, Turned};
+use raw_events::EventList;
 use rollback::laws::run_law;
 use rollback::{Component, Copies, ProcessRefused};
 use std::alloc::Global;
@@ -113,6 +114,13 @@ impl<T: Turns> Lease<T> {
         ensures holding { IsSoundLease T.turn_of self.now }
     {
         let _ = &self.component;
+    }
+
+    /// Swaps the component's spare cells for others, which then serve for its next turns.
+    pub fn swap_spare(&mut self, spare: &mut EventList<Turned>)
+        ensures { self.new ≡ self.old }
+    {
+        self.component.swap_spare(spare);
     }
 
     /// Processes entries, at most `budget` of them, and answers how many. It stops short where nothing is pending and no turn is

@@ -13,7 +13,7 @@ ghost use Rattle.reference.specs.Tournaments.{IsTournament, node};
 ghost use Rattle.reference.specs.Views.{IsNextTurn, IsComplete};
 
 use crate::readers::Readers;
-use crate::taking::{found_at, take_found, turned_of};
+use crate::taking::take_turn;
 use crate::tournament::put;
 use event_keys::{Key, Turned};
 use plans::Plan;
@@ -172,10 +172,9 @@ impl Frontier {
             return Ok(None);
         };
         let turn = self.readers.turn(setup, key);
-        let found = found_at(alloc, setup, key, turn, &self.states)?;
-        take_found(alloc, setup, key.component, &found, &mut self.states)?;
+        let outcome = take_turn(alloc, setup, key, turn, &mut self.states)?;
         let next = self.readers.read_on(setup, key);
         move_on(&mut self.places, &mut self.numbers, key, next);
-        Ok(Some(turned_of(key, found)))
+        Ok(Some(Turned { key, outcome }))
     }
 }

@@ -10,7 +10,7 @@ ghost use Rattle.task_seed.specs.Turning.{turn_in};
 ghost use Rattle.task_seed.specs.Machines.{machine, turn_outcome};
 ghost use Rattle.reference.specs.Taking.{Distinct, IsPassed, AreMarked, taking, joining};
 
-use event_keys::{Key, Outcome, Turned};
+use event_keys::{Key, Outcome};
 use plans::Plan;
 use std::alloc::Global;
 use task_seed::laws::machine_is_lawful;
@@ -87,71 +87,88 @@ fn take_action(
     Ok(())
 }
 
-/// The action of the turn of a key, which is this one, if its component has one enabled in its state.
-#[inline]
-pub(crate) fn found_at<T: Turns>(
+/// The turn of a key, which is this one, is taken: its component's action, if it has one enabled in its state, by it and by
+/// each receiver. A refusal leaves the states as they were.
+#[inline(always)]
+pub(crate) fn take_turn<T: Turns>(
     alloc: Global,
     setup: &Setup<T>,
     key: Key,
     turn: Option<Turn>,
-    states: &[Store],
-) -> Result<Option<Action>, NoMemory>
+    states: &mut [Store],
+) -> Result<Outcome, NoMemory>
     requires turn { turn ≡ turn_in (system T.turn_of setup.now) key.component key.number }
-    requires within { key.component < length states.now }
-    ensures { IfOk result (λ found. IfSome (slice_get states.now key.component) (λ state.
-        found ≡ turn_outcome (system T.turn_of setup.now) key.component key.number state.current)) }
+    requires within { key.component < length (composition (plan_of setup.now)) }
+    requires many { length states.old ≡ length (composition (plan_of setup.now)) }
+    requires plain { (j : ℕ) (state : States) → slice_get states.old j ≡ Some state → state.below ≡ [] }
+    ensures found { IfOk result (λ outcome. IfSome (slice_get states.old key.component) (λ state.
+        action_of outcome ≡ turn_outcome (system T.turn_of setup.now) key.component key.number state.current)) }
+    ensures states { IfOk result (λ outcome. (j : ℕ) → slice_get states.new j ≡ option_map
+        (joining (machine (system T.turn_of setup.now)) key.component (action_of outcome) j) (slice_get states.old j)) }
+    ensures many { length states.new ≡ length states.old }
+    ensures err { OnErr result (states.new ≡ states.old) }
 {
     let Some(turn) = turn else {
-        return Ok(None);
+        return Ok(Outcome::Idle);
     };
     let i = key.component;
     let state = &states[usize::from(i)];
-    setup
+    let found = setup
         .plan()
-        .outcome(alloc, i, turn.task, turn.choice, state)
+        .outcome(alloc, i, turn.task, turn.choice, state)?;
+    match found {
+        None => Ok(Outcome::Idle),
+        Some(action) => act(alloc, setup, i, action, states),
+    }
 }
 
-/// What was found for component `i`'s turn is taken by it and by each receiver. A refusal leaves the states as they
-/// were.
-#[inline]
-pub(crate) fn take_found<T: Turns>(
+// Component `i`'s action is taken by it and by each receiver.
+#[inline(always)]
+fn act<T: Turns>(
     alloc: Global,
     setup: &Setup<T>,
     i: u16,
-    found: &Option<Action>,
+    action: Action,
+    states: &mut [Store],
+) -> Result<Outcome, NoMemory>
+    requires within { i < length (composition (plan_of setup.now)) }
+    requires many { length states.old ≡ length (composition (plan_of setup.now)) }
+    requires plain { (j : ℕ) (state : States) → slice_get states.old j ≡ Some state → state.below ≡ [] }
+    ensures found { IfOk result (λ outcome. action_of outcome ≡ Some action) }
+    ensures states { OnOk result ((j : ℕ) → slice_get states.new j ≡ option_map
+        (joining (machine (system T.turn_of setup.now)) i (Some action) j) (slice_get states.old j)) }
+    ensures many { length states.new ≡ length states.old }
+    ensures err { OnErr result (states.new ≡ states.old) }
+{
+    match take_by_all(alloc, setup, i, &action, states) {
+        Ok(()) => Ok(Outcome::Did(action)),
+        Err(refused) => {
+            drop(action);
+            Err(refused)
+        }
+    }
+}
+
+// An action of component `i` is taken by it and by each receiver. It stays a call, so that idle turns need no room for it.
+#[inline(never)]
+fn take_by_all<T: Turns>(
+    alloc: Global,
+    setup: &Setup<T>,
+    i: u16,
+    action: &Action,
     states: &mut [Store],
 ) -> Result<(), NoMemory>
     requires within { i < length (composition (plan_of setup.now)) }
     requires many { length states.old ≡ length (composition (plan_of setup.now)) }
     requires plain { (j : ℕ) (state : States) → slice_get states.old j ≡ Some state → state.below ≡ [] }
-    ensures ok { OnOk result ((j : ℕ) → slice_get states.new j ≡ option_map (joining (machine (system T.turn_of setup.now)) i found.now j) (slice_get states.old j)) }
+    ensures ok { OnOk result ((j : ℕ) → slice_get states.new j ≡ option_map
+        (joining (machine (system T.turn_of setup.now)) i (Some action.now) j) (slice_get states.old j)) }
     ensures many { length states.new ≡ length states.old }
     ensures err { OnErr result (states.new ≡ states.old) }
 {
     machine_is_lawful(setup);
-    let Some(action) = found else {
-        return Ok(());
-    };
     let plan = setup.plan();
     let mut takers = plan.receivers(alloc, action, i)?;
     takers.push(i)?;
     take_action(alloc, plan, action, takers.as_slice(), states)
-}
-
-/// A turn with this key, and what was found for it.
-#[inline(always)]
-pub(crate) fn turned_of(key: Key, found: Option<Action>) -> Turned
-    ensures key { result.key ≡ key }
-    ensures found { action_of result.outcome ≡ found }
-{
-    match found {
-        None => Turned {
-            key,
-            outcome: Outcome::Idle,
-        },
-        Some(action) => Turned {
-            key,
-            outcome: Outcome::Did(action),
-        },
-    }
 }

@@ -1,7 +1,9 @@
 //! One component: what it has done, what waits, and its state.
-ghost use Rattle.std.specs.Prelude.{◌≡◌, ◌<◌, ◌+◌, ◌∷◌, ◌↔◌, [], None, Some, IfSome, true, length, IfOk, OnOk, OnErr, IsErrOf, IsTrue, is_some, not, option_map};
+ghost use Rattle.std.specs.Prelude.{List, ◌≡◌, ◌<◌, ◌+◌, ◌∷◌, ◌↔◌, [], None, Some, IfSome, true, length, IfOk, OnOk, OnErr, IsErrOf, IsTrue, is_some, not, option_map};
 ghost use Rattle.std.specs.Arc.{arc_value};
 ghost use Rattle.event_keys.specs.Entries.{action_of};
+ghost use Rattle.event_keys.specs.declared.message.Signed.{Signed as SignedValue};
+ghost use Rattle.event_keys.specs.declared.outcome.Outcome.TheVariants.{Idle};
 ghost use Rattle.event_keys.specs.Ranks.{rank, rank_of_bound};
 ghost use Rattle.raw_events.specs.Around.{is_nonempty};
 ghost use Rattle.plans.specs.Plans.{composition};
@@ -15,7 +17,7 @@ ghost use Rattle.rollback.specs.ComponentView.{machine_of, processed, next_key, 
 ghost use Rattle.rollback.specs.ComponentInvariant.{entry_of, turn_receivers};
 ghost use Rattle.rollback.specs.Stepped.{HasNextKey, IsNextSent, IsNextTurn, IsUnsent, machine_at, next_entry, stepped};
 
-use crate::growth::{outcome_at, post_all, receivers_of_turn, take_input, take_turn};
+use crate::growth::{outcome_at, post_all, receivers_of_turn, take_idle, take_input, take_turn};
 use crate::keys::{fits, is_below, key_of};
 use crate::refused::ProcessRefused;
 use antimessage::Bag;
@@ -25,6 +27,7 @@ use plans::laws::receivers_law;
 use raw_events::EventList;
 use std::alloc::Global;
 use std::marker::Model;
+use std::mem::swap;
 use std::sync::Arc;
 use task_seed::{Setup, TurnReader, Turns};
 use terms::NoMemory;
@@ -50,6 +53,8 @@ pub struct Component<T: Turns> {
     pub(crate) coming: Option<Key>,
     // What was read of the turns from the next one on.
     pub(crate) ahead: TurnReader,
+    // Cells that serve again; what they hold is of no use any more.
+    pub(crate) spare: EventList<Turned>,
 }
 
 impl<T: Turns> Model for Component<T> {
@@ -99,6 +104,7 @@ impl<T: Turns> Component<T> {
             owed: EventList::new(),
             coming,
             ahead: TurnReader::new(),
+            spare: EventList::new(),
         })
     }
 
@@ -122,6 +128,14 @@ impl<T: Turns> Component<T> {
         ensures { result ≡ self.now.base }
     {
         self.base
+    }
+
+    /// Swaps the component's spare cells for others. The cells of turns that are of no use any more serve for its next turns,
+    /// which then take no memory for it.
+    pub fn swap_spare(&mut self, spare: &mut EventList<Turned>)
+        ensures { self.new ≡ self.old }
+    {
+        swap(&mut self.spare, spare);
     }
 
     /// The pending inputs and the owed antimessages are in order. The call does nothing.
@@ -231,8 +245,45 @@ impl<T: Turns> Component<T> {
         ensures out_kept { OnErr result (out.new ≡ out.old) }
     {
         let turned = self.next_turned(alloc)?;
+        match &turned.outcome {
+            Outcome::Idle => self.do_idle(alloc, turned.key),
+            Outcome::Did(_) => self.do_sending(alloc, turned, out),
+        }
+    }
+
+    // Does the own turn that comes next, which may send. It stays a call, so that idle turns, which are most, don't pay for it.
+    #[inline(never)]
+    fn do_sending(&mut self, alloc: Global, turned: Turned, out: &mut Bag) -> Result<Key, NoMemory>
+        requires next { IsNextTurn T.turn_of self.old turned }
+        ensures key { IfOk result (HasNextKey T.turn_of self.old) }
+        ensures record { OnOk result (self.new ≡ stepped T.turn_of self.old) }
+        ensures sent { OnOk result (IsNextSent T.turn_of self.old out.old out.new) }
+        ensures kept { OnErr result (self.new ≡ self.old) }
+        ensures out_kept { OnErr result (out.new ≡ out.old) }
+    {
         let receivers = receivers_of_turn(alloc, &self.setup, self.number, &turned.outcome)?;
         self.do_turned(alloc, turned, receivers.as_slice(), out)
+    }
+
+    // Does the own turn that comes next, by which nothing is done and so nothing is sent.
+    pub(crate) fn do_idle(&mut self, alloc: Global, key: Key) -> Result<Key, NoMemory>
+        requires next { IsNextTurn T.turn_of self.old (record { key = key; outcome = Idle }) }
+        ensures key { IfOk result (HasNextKey T.turn_of self.old) }
+        ensures record { OnOk result (self.new ≡ stepped T.turn_of self.old) }
+        ensures silent { (bag : List SignedValue) → IsNextSent T.turn_of self.old bag bag }
+        ensures kept { OnErr result (self.new ≡ self.old) }
+    {
+        take_idle(
+            alloc,
+            &self.setup,
+            self.number,
+            key,
+            &mut self.store,
+            &mut self.done,
+            &mut self.spare,
+        )?;
+        self.coming = self.ahead.read_on(&self.setup, self.number, key);
+        Ok(key)
     }
 
     // The own turn that comes next, with what comes of it.
@@ -280,6 +331,7 @@ impl<T: Turns> Component<T> {
             receivers,
             &mut self.store,
             &mut self.done,
+            &mut self.spare,
             out,
         )?;
         self.coming = self.ahead.read_on(&self.setup, self.number, key);
@@ -303,6 +355,7 @@ impl<T: Turns> Component<T> {
                 let key = turned.value().key;
                 fits(key);
                 self.coming = Some(key);
+                self.spare.push_last(turned);
                 post_all(out, antimessages);
             }
             Done::Input(cell) => self.pending.insert_sorted(cell),

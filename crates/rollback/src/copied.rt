@@ -2,14 +2,14 @@
 ghost use Rattle.std.specs.Prelude.{◌≡◌, ◌↔◌, [], None, IfOk, OnOk, OnErr, IsErrOf, IsTrue};
 ghost use Rattle.event_keys.specs.declared.message.Sign.TheVariants.{Plus};
 ghost use Rattle.rollback.specs.ComponentView.{is_turning};
-ghost use Rattle.rollback.specs.Stepped.{HasNextKey, IsNextSent, next_entry, stepped};
+ghost use Rattle.rollback.specs.Stepped.{HasNextKey, IsNextSent, IsNextTurn, next_entry, stepped};
 
 use crate::component::Component;
 use crate::growth::{messages_to, post_all, receivers_of_turn};
 use crate::keys::fits;
 use crate::refused::ProcessRefused;
 use antimessage::Bag;
-use event_keys::{Key, Sign};
+use event_keys::{Key, Outcome, Sign, Turned};
 use plans::laws::receivers_law;
 use std::alloc::Global;
 use task_seed::Turns;
@@ -82,8 +82,33 @@ impl<T: Turns> Component<T> {
         ensures out_kept { OnErr result (out.new ≡ out.old) }
         ensures copies_kept { OnErr result (copies.new ≡ copies.old) }
     {
-        receivers_law();
         let turned = self.next_turned(alloc)?;
+        match &turned.outcome {
+            Outcome::Idle => self.do_idle(alloc, turned.key),
+            Outcome::Did(_) => self.do_copied(alloc, turned, out, copies),
+        }
+    }
+
+    // Does the own turn that comes next, which may send. It stays a call, so that idle turns, which are most, don't pay for it.
+    #[inline(never)]
+    fn do_copied(
+        &mut self,
+        alloc: Global,
+        turned: Turned,
+        out: &mut Bag,
+        copies: &mut Copies,
+    ) -> Result<Key, NoMemory>
+        requires next { IsNextTurn T.turn_of self.old turned }
+        ensures key { IfOk result (HasNextKey T.turn_of self.old) }
+        ensures record { OnOk result (self.new ≡ stepped T.turn_of self.old) }
+        ensures sent { OnOk result (IsNextSent T.turn_of self.old out.old out.new) }
+        ensures of_sender { OnOk result (IsNextSent T.turn_of self.old copies.old.of_sender copies.new.of_sender) }
+        ensures of_receiver { OnOk result (IsNextSent T.turn_of self.old copies.old.of_receiver copies.new.of_receiver) }
+        ensures kept { OnErr result (self.new ≡ self.old) }
+        ensures out_kept { OnErr result (out.new ≡ out.old) }
+        ensures copies_kept { OnErr result (copies.new ≡ copies.old) }
+    {
+        receivers_law();
         fits(turned.key);
         let receivers = receivers_of_turn(alloc, &self.setup, self.number, &turned.outcome)?;
         let of_sender = messages_to(alloc, &turned, Sign::Plus, receivers.as_slice())?;

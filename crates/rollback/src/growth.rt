@@ -2,6 +2,7 @@
 ghost use Rattle.std.specs.Prelude.{◌≡◌, ◌∷◌, ◌<◌, [], map, length, OnOk, OnErr, IfOk, IfSome, IsTrue};
 ghost use Rattle.raw_events.specs.Around.{head, tail, is_nonempty};
 ghost use Rattle.event_keys.specs.declared.message.Sign.TheVariants.{Plus, Minus};
+ghost use Rattle.event_keys.specs.declared.outcome.Outcome.TheVariants.{Idle};
 ghost use Rattle.event_keys.specs.Entries.{action_of};
 ghost use Rattle.event_keys.specs.Ranks.{rank};
 ghost use Rattle.antimessage.specs.Order.{IsInOrder};
@@ -37,6 +38,24 @@ fn cell_of<T: Drop>(alloc: Global, value: T) -> Result<EventCell<T>, NoMemory>
     match EventCell::new(alloc, value) {
         Ok(cell) => Ok(cell),
         Err(_) => Err(NoMemory),
+    }
+}
+
+// The same, in a spare cell if there is one, whose old value is dropped.
+#[inline(always)]
+fn turned_cell(
+    alloc: Global,
+    spare: &mut EventList<Turned>,
+    turned: Turned,
+) -> Result<EventCell<Turned>, NoMemory>
+    ensures { IfOk result (λ cell. cell ≡ turned) }
+{
+    match spare.take_first() {
+        Some(mut cell) => {
+            *cell.value_mut() = turned;
+            Ok(cell)
+        }
+        None => cell_of(alloc, turned),
     }
 }
 
@@ -215,7 +234,38 @@ pub(crate) fn take_input(
     }
 }
 
-/// Does a turn with what came of it, and posts a message for each receiver of that.
+/// Does a turn by which nothing is done. A spare cell serves again.
+#[inline(always)]
+pub(crate) fn take_idle<T: Turns>(
+    alloc: Global,
+    setup: &Setup<T>,
+    i: u16,
+    key: Key,
+    store: &mut Store,
+    done: &mut EventList<Done>,
+    spare: &mut EventList<Turned>,
+) -> Result<(), NoMemory>
+    ensures state { OnOk result (store.new ≡ after_turn (machine_of T.turn_of setup.now) i
+        (record { key = key; outcome = Idle }) store.old) }
+    ensures done { OnOk result (done.new ≡ with_done
+        (done_turn (system T.turn_of setup.now) i (record { key = key; outcome = Idle })) done.old) }
+    ensures store_kept { OnErr result (store.new ≡ store.old) }
+    ensures done_kept { OnErr result (done.new ≡ done.old) }
+{
+    let _ = setup;
+    let _ = i;
+    let turned = Turned {
+        key,
+        outcome: Outcome::Idle,
+    };
+    let turned = turned_cell(alloc, spare, turned)?;
+    let cell = cell_of(alloc, Done::Turn(turned, EventList::new()))?;
+    store.mark(alloc)?;
+    done.push_last(cell);
+    Ok(())
+}
+
+/// Does a turn with what came of it, and posts a message for each receiver of that. A spare cell serves again.
 pub(crate) fn take_turn<T: Turns>(
     alloc: Global,
     setup: &Setup<T>,
@@ -224,6 +274,7 @@ pub(crate) fn take_turn<T: Turns>(
     receivers: &[u16],
     store: &mut Store,
     done: &mut EventList<Done>,
+    spare: &mut EventList<Turned>,
     out: &mut Bag,
 ) -> Result<(), NoMemory>
     requires there { i < length (composition (plan_of setup.now)) }
@@ -239,7 +290,7 @@ pub(crate) fn take_turn<T: Turns>(
     fits(turned.key);
     let messages = messages_to(alloc, &turned, Sign::Plus, receivers)?;
     let antimessages = messages_to(alloc, &turned, Sign::Minus, receivers)?;
-    let turned = cell_of(alloc, turned)?;
+    let turned = turned_cell(alloc, spare, turned)?;
     advance_turn(alloc, setup, i, &turned.value().outcome, store)?;
     match EventCell::new(alloc, Done::Turn(turned, antimessages)) {
         Ok(cell) => done.push_last(cell),

@@ -19,6 +19,7 @@ use core::mem::replace_with;
 use exchange::{Exchange, Lease};
 use gvt::{Published, Seat};
 use pools::{Pass, Pool};
+use raw_events::EventList;
 use reference::laws::turns_are_schedule;
 use std::alloc::Global;
 use std::io::Write;
@@ -139,7 +140,10 @@ fn lend_out<T: Turns>(alloc: Global, exchange: Exchange<T>) -> Result<Lent<T>, N
     ensures { IfOk result (λ lent. lent.exchange.value ≡ exchange) }
 {
     let exchange = Box::new(alloc, exchange)?;
-    Ok(Lent { exchange })
+    Ok(Lent {
+        exchange,
+        spare: EventList::new(),
+    })
 }
 
 // The exchange of a setup at its start, with its leases, of which no two have one number.
@@ -184,6 +188,7 @@ fn gather<T: Turns>(
             pass,
             lock,
             seat,
+            spare: EventList::new(),
         })?;
         number = number.wrapping_add(1);
     }

@@ -62,7 +62,10 @@ pub(crate) fn work<T: Turns, G: Gate<T>, R: Wait>(
             patience.wait(rt);
             continue;
         };
-        if advance(alloc, gate, &mut paced, holds_up, budget).is_err() {
+        paced.lease.swap_spare(&mut worker.spare);
+        let advanced = advance(alloc, gate, &mut paced, holds_up, budget);
+        paced.lease.swap_spare(&mut worker.spare);
+        if advanced.is_err() {
             note(rt, shared, WorkFault::NoMemory);
             break;
         }
@@ -89,6 +92,7 @@ fn change<T: Turns, R: Wait>(
     let mut looks = 0;
     let mut lent = hold(rt, shared, &mut worker.lock, &mut looks);
     let rests = patience.note(looks);
+    worker.spare.append_all(&mut lent.spare);
     let visit = go_round(rt, shared, &mut *lent.exchange, worker, rounds, done, rests);
     shared.exchange.give_back(rt, &mut worker.lock, lent);
     visit

@@ -55,13 +55,15 @@ pub(crate) fn take_portion<T: Turns>(exchange: &mut Exchange<T>) -> Portion
     }
 }
 
-// The next portion, where the published count tells that there may be one, or a worker has ended. The lock isn't taken else.
+// The next portion, where the published count tells that there may be one, or a worker has ended. The lock isn't taken else. The cells of what
+// was written go back to the workers.
 fn next_portion<T: Turns, R: Wait>(
     rt: &R,
     shared: &Shared<T>,
     own: &Setup<T>,
     caller: &mut Caller<T>,
     written: u64,
+    spare: &mut EventList<Turned>,
 ) -> Result<Option<Portion>, WorkFault>
     requires { IsCallerOf shared.now own.now caller.old }
     ensures caller { IsCallerOf shared.now own.now caller.new }
@@ -78,6 +80,7 @@ fn next_portion<T: Turns, R: Wait>(
     let mut looks = 0;
     let mut lent = hold(rt, shared, &mut caller.lock, &mut looks);
     let portion = take_portion(&mut *lent.exchange);
+    lent.spare.append_all(spare);
     shared.exchange.give_back(rt, &mut caller.lock, lent);
     Ok(Some(portion))
 }
@@ -130,8 +133,9 @@ pub(crate) fn write_all<T: Turns, W: Write, R: Wait>(
     let mut written = 0;
     let mut bytes = 0;
     let mut pause = LEAST_PAUSE;
+    let mut spare = EventList::new();
     for _ in rt.forever() {
-        let portion = match next_portion(rt, shared, own, caller, written) {
+        let mut portion = match next_portion(rt, shared, own, caller, written, &mut spare) {
             Ok(Some(portion)) => portion,
             Ok(None) => {
                 rest(rt, shared, pause);
@@ -146,6 +150,7 @@ pub(crate) fn write_all<T: Turns, W: Write, R: Wait>(
             Ok(after) => bytes = after,
             Err(fault) => return Err(RunFault::Write(fault)),
         }
+        spare.append_all(&mut portion.turns);
         let turns = portion.given.saturating_sub(written);
         written = portion.given;
         if portion.is_last {

@@ -55,20 +55,8 @@ returns-in_default-clause-whole g c =
     let states = c.args.self.now.states.items in
     whole_here s law counted exists one places numbers states c.requires.stands
 
-pub returns-in_err-found-clause-whole : goal.returns-in_err-found-clause-whole
-returns-in_err-found-clause-whole g c =
-    let s = system g.T.Turns.turn_of c.args.setup.now in
-    let law = c.machine_is_lawful.ensures.lawful in
-    let counted = c.machine_is_lawful.ensures.counted in
-    let exists = λ (b : ℕ) (h : b ≤ end_rank). c.reference_is_complete.ensures.exists (machine s) b law h in
-    let one = c.reference_is_one.ensures.same (machine s) in
-    let places = c.args.self.now.places.items in
-    let numbers = c.args.self.now.numbers.items in
-    let states = c.args.self.now.states.items in
-    whole_here s law counted exists one places numbers states c.requires.stands
-
-pub returns-in_err-take_found-clause-whole : goal.returns-in_err-take_found-clause-whole
-returns-in_err-take_found-clause-whole g c =
+pub returns-in_err-outcome-clause-whole : goal.returns-in_err-outcome-clause-whole
+returns-in_err-outcome-clause-whole g c =
     let s = system g.T.Turns.turn_of c.args.setup.now in
     let law = c.machine_is_lawful.ensures.lawful in
     let counted = c.machine_is_lawful.ensures.counted in
@@ -107,8 +95,8 @@ turn-turn-requires-clause-within g c κs inside =
     let first = c.in-Some.ensures ∙ ap (λ l. least_key l c.deref-2.result.now) c.deref.ensures.value ∙ ap (least_key places) c.deref-2.ensures.value in
     within s law counted exists one places numbers states c.requires.stands key first
 
-pub take_found-requires-clause-within : goal.take_found-requires-clause-within
-take_found-requires-clause-within g c κs inside =
+pub take_turn-requires-clause-within : goal.take_turn-requires-clause-within
+take_turn-requires-clause-within g c κs inside =
     let s = system g.T.Turns.turn_of c.args.setup.now in
     let law = c.machine_is_lawful.ensures.lawful in
     let counted = c.machine_is_lawful.ensures.counted in
@@ -163,20 +151,6 @@ read_on-next-requires-clause-within g c κs inside =
     let first = c.in-Some.ensures ∙ ap (λ l. least_key l c.deref-2.result.now) c.deref.ensures.value ∙ ap (least_key places) c.deref-2.ensures.value in
     within s law counted exists one places numbers states c.requires.stands key first
 
-pub found_at-requires-clause-within : goal.found_at-requires-clause-within
-found_at-requires-clause-within g c κs inside =
-    let s = system g.T.Turns.turn_of c.args.setup.now in
-    let law = c.machine_is_lawful.ensures.lawful in
-    let counted = c.machine_is_lawful.ensures.counted in
-    let exists = λ (b : ℕ) (h : b ≤ end_rank). c.reference_is_complete.ensures.exists (machine s) b law h in
-    let one = c.reference_is_one.ensures.same (machine s) in
-    let places = c.args.self.now.places.items in
-    let numbers = c.args.self.now.numbers.items in
-    let states = c.args.self.now.states.items in
-    let key = c.in-Some.key in
-    let first = c.in-Some.ensures ∙ ap (λ l. least_key l c.deref-2.result.now) c.deref.ensures.value ∙ ap (least_key places) c.deref-2.ensures.value in
-    subst (λ l. key.component < length l) (sym c.deref-3.ensures.value) (states_within s law counted exists one places numbers states c.requires.stands key first)
-
 pub move_on-requires-clause-within : goal.move_on-requires-clause-within
 move_on-requires-clause-within g c =
     let s = system g.T.Turns.turn_of c.args.setup.now in
@@ -219,9 +193,9 @@ returns-clause-stands g c =
     let first = c.in-Some.ensures ∙ ap (λ l. least_key l c.deref-2.result.now) c.deref.ensures.value ∙ ap (least_key places) c.deref-2.ensures.value in
     let i = key.component in
     let here = c.deref_mut.result.now in
-    let found = c.in_ok-found.found in
+    let found = (action_of c.in_ok-outcome.outcome) in
     let stands = subst (λ l. IsAt s (point (machine s) (least_rank places numbers)) places numbers l) (sym c.deref_mut.ensures.value) c.requires.stands in
-    let came = subst (λ (l : List States). IfSome (slice_get l i) (λ (state : States). found ≡ turn_outcome s i key.number state.current)) (c.deref-3.ensures.value ∙ sym c.deref_mut.ensures.value) c.in_ok-found.ensures in
+    let came = c.in_ok-outcome.ensures.found in
     let next = c.read_on-next.result in
     let small = small_key s c.args.setup.now.in_range i (key.number + 1) (fits s law counted exists one places numbers here stands key first) next c.read_on-next.ensures.key c.read_on-next.ensures.small in
     let new = c.move_on.new.places in
@@ -232,15 +206,15 @@ returns-clause-stands g c =
     (subst (λ (l : List ℕ). (k : ℕ) → k < length c.deref_mut-3.result.now → (k ≡ i → ⊥) → node new (length c.deref_mut-3.result.now + k) ≡ node l (length c.deref_mut-3.result.now + k)) c.deref_mut-2.ensures.value moved.others) in
     let new_numbers = c.move_on.new.numbers in
     let counted_on = moved.numbers ∙ ap (λ l. slice_set l i (key.number + 1)) c.deref_mut-3.ensures.value in
-    let news = c.take_found.new.states in
+    let news = c.take_turn.new.states in
     let places_are : (with_items c.args.self.now.places new).items ≡ new = with_items_is c.args.self.now.places new (moved.many ∙ c.deref_mut-2.ensures.len) in
     let numbers_are : (with_items c.args.self.now.numbers new_numbers).items ≡ new_numbers
     = with_items_is c.args.self.now.numbers new_numbers (ap length moved.numbers ∙ slice_set-length c.deref_mut-3.result.now i (key.number + 1) ∙ c.deref_mut-3.ensures.len) in
-    let states_are : (with_items c.args.self.now.states news).items ≡ news = with_items_is c.args.self.now.states news (c.in_ok-take_found.ensures.many ∙ c.deref_mut.ensures.len) in
+    let states_are : (with_items c.args.self.now.states news).items ≡ news = with_items_is c.args.self.now.states news (c.in_ok-outcome.ensures.many ∙ c.deref_mut.ensures.len) in
     subst (λ (l : List States). IsAt s (point (machine s) (least_rank (with_items c.args.self.now.places new).items (with_items c.args.self.now.numbers new_numbers).items)) (with_items c.args.self.now.places new).items (with_items c.args.self.now.numbers new_numbers).items l) (sym states_are)
     (subst (λ (l : List ℕ). IsAt s (point (machine s) (least_rank l (with_items c.args.self.now.numbers new_numbers).items)) l (with_items c.args.self.now.numbers new_numbers).items news) (sym places_are)
     (subst (λ (l : List ℕ). IsAt s (point (machine s) (least_rank new l)) new l news) (sym numbers_are)
-    (stepped s law counted exists one places numbers here stands key first found came next c.read_on-next.ensures.key small new tournament own others new_numbers counted_on news c.in_ok-take_found.ensures.many c.in_ok-take_found.ensures.ok).stands))
+    (stepped s law counted exists one places numbers here stands key first found came next c.read_on-next.ensures.key small new tournament own others new_numbers counted_on news c.in_ok-outcome.ensures.many c.in_ok-outcome.ensures.states).stands))
 
 pub returns-clause-whole : goal.returns-clause-whole
 returns-clause-whole g c =
@@ -256,9 +230,9 @@ returns-clause-whole g c =
     let first = c.in-Some.ensures ∙ ap (λ l. least_key l c.deref-2.result.now) c.deref.ensures.value ∙ ap (least_key places) c.deref-2.ensures.value in
     let i = key.component in
     let here = c.deref_mut.result.now in
-    let found = c.in_ok-found.found in
+    let found = (action_of c.in_ok-outcome.outcome) in
     let stands = subst (λ l. IsAt s (point (machine s) (least_rank places numbers)) places numbers l) (sym c.deref_mut.ensures.value) c.requires.stands in
-    let came = subst (λ (l : List States). IfSome (slice_get l i) (λ (state : States). found ≡ turn_outcome s i key.number state.current)) (c.deref-3.ensures.value ∙ sym c.deref_mut.ensures.value) c.in_ok-found.ensures in
+    let came = c.in_ok-outcome.ensures.found in
     let next = c.read_on-next.result in
     let small = small_key s c.args.setup.now.in_range i (key.number + 1) (fits s law counted exists one places numbers here stands key first) next c.read_on-next.ensures.key c.read_on-next.ensures.small in
     let new = c.move_on.new.places in
@@ -269,14 +243,14 @@ returns-clause-whole g c =
     (subst (λ (l : List ℕ). (k : ℕ) → k < length c.deref_mut-3.result.now → (k ≡ i → ⊥) → node new (length c.deref_mut-3.result.now + k) ≡ node l (length c.deref_mut-3.result.now + k)) c.deref_mut-2.ensures.value moved.others) in
     let new_numbers = c.move_on.new.numbers in
     let counted_on = moved.numbers ∙ ap (λ l. slice_set l i (key.number + 1)) c.deref_mut-3.ensures.value in
-    let news = c.take_found.new.states in
+    let news = c.take_turn.new.states in
     let places_are : (with_items c.args.self.now.places new).items ≡ new = with_items_is c.args.self.now.places new (moved.many ∙ c.deref_mut-2.ensures.len) in
     let numbers_are : (with_items c.args.self.now.numbers new_numbers).items ≡ new_numbers
     = with_items_is c.args.self.now.numbers new_numbers (ap length moved.numbers ∙ slice_set-length c.deref_mut-3.result.now i (key.number + 1) ∙ c.deref_mut-3.ensures.len) in
-    let states_are : (with_items c.args.self.now.states news).items ≡ news = with_items_is c.args.self.now.states news (c.in_ok-take_found.ensures.many ∙ c.deref_mut.ensures.len) in
+    let states_are : (with_items c.args.self.now.states news).items ≡ news = with_items_is c.args.self.now.states news (c.in_ok-outcome.ensures.many ∙ c.deref_mut.ensures.len) in
     subst (λ (l : List ℕ). IsComplete (machine s) (taken_at s l (with_items c.args.self.now.numbers new_numbers).items)) (sym places_are)
     (subst (λ (l : List ℕ). IsComplete (machine s) (taken_at s new l)) (sym numbers_are)
-    (whole_after s law counted exists one places numbers here stands key first found came next c.read_on-next.ensures.key small new tournament own others new_numbers counted_on news c.in_ok-take_found.ensures.many c.in_ok-take_found.ensures.ok))
+    (whole_after s law counted exists one places numbers here stands key first found came next c.read_on-next.ensures.key small new tournament own others new_numbers counted_on news c.in_ok-outcome.ensures.many c.in_ok-outcome.ensures.states))
 
 pub returns-clause-ok : goal.returns-clause-ok
 returns-clause-ok g c =
@@ -292,9 +266,9 @@ returns-clause-ok g c =
     let first = c.in-Some.ensures ∙ ap (λ l. least_key l c.deref-2.result.now) c.deref.ensures.value ∙ ap (least_key places) c.deref-2.ensures.value in
     let i = key.component in
     let here = c.deref_mut.result.now in
-    let found = c.in_ok-found.found in
+    let found = (action_of c.in_ok-outcome.outcome) in
     let stands = subst (λ l. IsAt s (point (machine s) (least_rank places numbers)) places numbers l) (sym c.deref_mut.ensures.value) c.requires.stands in
-    let came = subst (λ (l : List States). IfSome (slice_get l i) (λ (state : States). found ≡ turn_outcome s i key.number state.current)) (c.deref-3.ensures.value ∙ sym c.deref_mut.ensures.value) c.in_ok-found.ensures in
+    let came = c.in_ok-outcome.ensures.found in
     let next = c.read_on-next.result in
     let small = small_key s c.args.setup.now.in_range i (key.number + 1) (fits s law counted exists one places numbers here stands key first) next c.read_on-next.ensures.key c.read_on-next.ensures.small in
     let new = c.move_on.new.places in
@@ -305,17 +279,12 @@ returns-clause-ok g c =
     (subst (λ (l : List ℕ). (k : ℕ) → k < length c.deref_mut-3.result.now → (k ≡ i → ⊥) → node new (length c.deref_mut-3.result.now + k) ≡ node l (length c.deref_mut-3.result.now + k)) c.deref_mut-2.ensures.value moved.others) in
     let new_numbers = c.move_on.new.numbers in
     let counted_on = moved.numbers ∙ ap (λ l. slice_set l i (key.number + 1)) c.deref_mut-3.ensures.value in
-    let news = c.take_found.new.states in
+    let news = c.take_turn.new.states in
     let places_are : (with_items c.args.self.now.places new).items ≡ new = with_items_is c.args.self.now.places new (moved.many ∙ c.deref_mut-2.ensures.len) in
     let numbers_are : (with_items c.args.self.now.numbers new_numbers).items ≡ new_numbers
     = with_items_is c.args.self.now.numbers new_numbers (ap length moved.numbers ∙ slice_set-length c.deref_mut-3.result.now i (key.number + 1) ∙ c.deref_mut-3.ensures.len) in
-    let states_are : (with_items c.args.self.now.states news).items ≡ news = with_items_is c.args.self.now.states news (c.in_ok-take_found.ensures.many ∙ c.deref_mut.ensures.len) in
-    let t = c.turned_of.ensures in (
-      subst (λ k. IsNext (machine s) (point (machine s) (least_rank places numbers)) (record { key = rank k; outcome = action_of c.turned_of.result.outcome })) (sym t.key)
-          (subst (λ (o : Option Named). IsNext (machine s) (point (machine s) (least_rank places numbers)) (record { key = rank key; outcome = o })) (sym t.found)
-          (next_turn s law counted exists one places numbers here stands key first found came)),
+    let states_are : (with_items c.args.self.now.states news).items ≡ news = with_items_is c.args.self.now.states news (c.in_ok-outcome.ensures.many ∙ c.deref_mut.ensures.len) in (
+      next_turn s law counted exists one places numbers here stands key first found came,
       ap (λ l. taken_at s l (with_items c.args.self.now.numbers new_numbers).items) places_are ∙ ap (taken_at s new) numbers_are
-          ∙ (stepped s law counted exists one places numbers here stands key first found came next c.read_on-next.ensures.key small new tournament own others new_numbers counted_on news c.in_ok-take_found.ensures.many c.in_ok-take_found.ensures.ok).taken
-          ∙ ap (λ k. turn_at k found ∷ taken_at s places numbers) (sym t.key)
-          ∙ ap (λ o. turn_at c.turned_of.result.key o ∷ taken_at s places numbers) (sym t.found),
+          ∙ (stepped s law counted exists one places numbers here stands key first found came next c.read_on-next.ensures.key small new tournament own others new_numbers counted_on news c.in_ok-outcome.ensures.many c.in_ok-outcome.ensures.states).taken,
     )

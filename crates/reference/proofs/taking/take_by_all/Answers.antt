@@ -6,16 +6,16 @@ use Rattle.task_seed.specs.Machines.{machine}
 use Rattle.task_seed.specs.Setups.{system}
 use Rattle.reference.specs.Taking.{taking, joining}
 use Rattle.reference.proofs.Joining.{distinct_takers, takers_within, joined, then_ok}
-use Rattle.reference.proofs.taking.take_found.Goals as goal
+use Rattle.reference.proofs.taking.take_by_all.Goals as goal
 
 pub take_action-requires-clause-once : goal.take_action-requires-clause-once
 take_action-requires-clause-once g c =
-    distinct_takers (system g.T.Turns.turn_of c.args.setup.now) (composition c.plan-plan.result.now) (ap composition c.plan-plan.ensures) c.args.i c.in-Some.action c.as_slice.result.now
+    distinct_takers (system g.T.Turns.turn_of c.args.setup.now) (composition c.plan-plan.result.now) (ap composition c.plan-plan.ensures) c.args.i c.args.action.now c.as_slice.result.now
     (c.as_slice.ensures ∙ c.in_ok-push.ensures.ok ∙ ap (λ (l : List ℕ). l ++ c.args.i ∷ []) c.in_ok-takers.ensures)
 
 pub take_action-requires-clause-within : goal.take_action-requires-clause-within
 take_action-requires-clause-within g c =
-    takers_within (system g.T.Turns.turn_of c.args.setup.now) (composition c.plan-plan.result.now) (ap composition c.plan-plan.ensures) c.args.i c.in-Some.action c.as_slice.result.now
+    takers_within (system g.T.Turns.turn_of c.args.setup.now) (composition c.plan-plan.result.now) (ap composition c.plan-plan.ensures) c.args.i c.args.action.now c.as_slice.result.now
     (c.as_slice.ensures ∙ c.in_ok-push.ensures.ok ∙ ap (λ (l : List ℕ). l ++ c.args.i ∷ []) c.in_ok-takers.ensures) c.machine_is_lawful.ensures.counted c.requires.within _ c.requires.many
 
 pub returns-clause-ok : goal.returns-clause-ok
@@ -23,10 +23,9 @@ returns-clause-ok g c =
     let s = system g.T.Turns.turn_of c.args.setup.now in
     let p = composition c.plan-plan.result.now in
     let i = c.args.i in
-    let a = c.in-Some.action in
+    let a = c.args.action.now in
     let takers = c.as_slice.result.now in
     let old = c.args.states.now in
     let new = c.take_action.new.states in
-    subst (λ (o : Option Named). OnOk c.take_action.result ((j : ℕ) → slice_get new j ≡ option_map (joining (machine s) i o j) (slice_get old j))) (sym c.in-Some.is)
-    (then_ok ((j : ℕ) → slice_get new j ≡ option_map (taking p a takers j) (slice_get old j)) ((j : ℕ) → slice_get new j ≡ option_map (joining (machine s) i (Some a) j) (slice_get old j)) c.take_action.result c.take_action.ensures.ok
-    (joined s p (ap composition c.plan-plan.ensures) i a takers (c.as_slice.ensures ∙ c.in_ok-push.ensures.ok ∙ ap (λ (l : List ℕ). l ++ i ∷ []) c.in_ok-takers.ensures) old new c.requires.plain))
+    then_ok ((j : ℕ) → slice_get new j ≡ option_map (taking p a takers j) (slice_get old j)) ((j : ℕ) → slice_get new j ≡ option_map (joining (machine s) i (Some a) j) (slice_get old j)) c.take_action.result c.take_action.ensures.ok
+    (joined s p (ap composition c.plan-plan.ensures) i a takers (c.as_slice.ensures ∙ c.in_ok-push.ensures.ok ∙ ap (λ (l : List ℕ). l ++ i ∷ []) c.in_ok-takers.ensures) old new c.requires.plain)
