@@ -127,6 +127,9 @@ impl Bag {
         ensures all { self.new ≡ insert_all other.old self.old }
         ensures empty { other.new ≡ [] }
     {
+        if other.is_empty() {
+            return;
+        }
         merge::append(&mut self.events, &mut other.events);
     }
 
