@@ -10,6 +10,7 @@ mod look;
 mod number;
 pub mod parts;
 mod perform;
+mod plain;
 mod seen;
 mod typed;
 

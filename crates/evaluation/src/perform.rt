@@ -6,11 +6,10 @@ ghost use Rattle.terms.specs.Scopes.{scope};
 ghost use Rattle.terms.specs.EffectTree.{AssignItem, effect_tree, last_tree};
 ghost use Rattle.terms.specs.TermTree.{term_tree};
 
-use crate::evaluate::{eval, is_true};
-use crate::glance::scalar_of;
+use crate::evaluate::{eval, found, is_true};
 use crate::look::look;
 use crate::parts;
-use crate::typed::number_of;
+use crate::plain::scalar_at_once;
 use std::alloc::Global;
 use terms::{Cells, Effect, Env, Last, Listed, NoMemory, Part, Scalar, Term};
 
@@ -69,13 +68,13 @@ fn assign<C: Cells>(
     ensures err { OnErr result (C.values cells.new ≡ C.values cells.old) }
     ensures marked { C.marked cells.new ≡ C.marked cells.old }
 {
-    match number_of(term, env, cells) {
-        Some(number) => cells.set_scalar(cell, Scalar::Int(number)),
+    match scalar_at_once(term, env, cells) {
+        Some(scalar) => cells.set_scalar(cell, scalar),
         None => assign_other(alloc, cell, term, env, cells),
     }
 }
 
-// The same for a value that isn't read off as a number.
+// The same for a value that isn't read off at once.
 #[inline(never)]
 fn assign_other<C: Cells>(
     alloc: Global,
@@ -88,7 +87,7 @@ fn assign_other<C: Cells>(
     ensures err { OnErr result (C.values cells.new ≡ C.values cells.old) }
     ensures marked { C.marked cells.new ≡ C.marked cells.old }
 {
-    match scalar_of(term, env, cells) {
+    match found(term, env, cells) {
         Some(scalar) => cells.set_scalar(cell, scalar),
         None => assign_made(alloc, cell, term, env, cells),
     }
