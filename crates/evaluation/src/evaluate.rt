@@ -46,7 +46,7 @@ pub(crate) fn found<C: Cells>(term: &Term, env: &Env, cells: &C) -> Option<Scala
 }
 
 /// Whether a term is true in a scope and a state.
-#[inline]
+#[inline(always)]
 pub fn is_true<C: Cells>(alloc: Global, term: &Term, env: &Env, cells: &C) -> Result<bool, NoMemory>
     ensures { IfOk result (λ t. t ≡ truth (value (term_tree term.now) (scope env.now) (C.values cells.now))) }
 {

@@ -4,6 +4,7 @@
 //! Nothing here judges types: a term that isn't well typed has some value.
 #![tactic(auto)]
 
+mod assign;
 pub mod evaluate;
 mod glance;
 mod look;
@@ -12,6 +13,7 @@ pub mod parts;
 mod perform;
 mod plain;
 mod seen;
+mod turning;
 mod typed;
 
 pub use evaluate::eval;

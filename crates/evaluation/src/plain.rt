@@ -110,37 +110,61 @@ fn compared_at_once<C: Cells>(first: &Operand, link: &Link, env: &Env, cells: &C
 {
     match link {
         Link::Operator(operator, right) => {
-            let left = scalar_at(first, env, cells)?;
-            let right = alone(right, env, cells)?;
-            compared(*operator, left, right)
+            if right.links.is_empty() {
+                return match number_at(first, env, cells) {
+                    Some(left) => compared(*operator, left, number_alone(right, env, cells)?),
+                    None => compared_as_scalars(*operator, first, right, env, cells),
+                };
+            }
+            None
         }
         Link::Modulo(_) => None,
     }
 }
 
+/// Whether an operator that compares holds of two whole numbers; `None` where it compares none.
+#[inline(always)]
+pub(crate) fn compared(operator: Operator, left: i64, right: i64) -> Option<bool>
+    ensures { IfSome result (λ t. combined operator (Just (Scalar.Int left)) (Just (Scalar.Int right)) ≡ Scalar.Bool t) }
+{
+    match operator {
+        Operator::Same => Some(left == right),
+        Operator::Differs => Some(left != right),
+        Operator::Less => Some(left < right),
+        Operator::AtMost => Some(left <= right),
+        _ => None,
+    }
+}
+
+// The same for truth values and for members, in a frame of its own.
+#[inline(never)]
+fn compared_as_scalars<C: Cells>(
+    operator: Operator,
+    first: &Operand,
+    right: &Term,
+    env: &Env,
+    cells: &C,
+) -> Option<bool>
+    ensures { IfSome result (λ t. combined operator (value (operand_tree first.now) (scope env.now) (C.values cells.now)) (value (term_tree right.now) (scope env.now) (C.values cells.now)) ≡ Scalar.Bool t) }
+{
+    let left = scalar_at(first, env, cells)?;
+    let right = scalar_alone(right, env, cells)?;
+    match operator {
+        Operator::Same => Some(left == right),
+        Operator::Differs => Some(left != right),
+        _ => None,
+    }
+}
+
 // The scalar that a term of one operand is.
 #[inline(always)]
-fn alone<C: Cells>(term: &Term, env: &Env, cells: &C) -> Option<Scalar>
+fn scalar_alone<C: Cells>(term: &Term, env: &Env, cells: &C) -> Option<Scalar>
     ensures { IfSome result (λ s. value (term_tree term.now) (scope env.now) (C.values cells.now) ≡ Just s) }
 {
     if term.links.is_empty() {
         return scalar_at(&term.first, env, cells);
     }
     None
-}
-
-/// Whether an operator that compares holds of two scalars; `None` where it doesn't compare them.
-#[inline(always)]
-pub(crate) fn compared(operator: Operator, left: Scalar, right: Scalar) -> Option<bool>
-    ensures { IfSome result (λ t. combined operator (Just left) (Just right) ≡ Scalar.Bool t) }
-{
-    match operator {
-        Operator::Same => Some(left == right),
-        Operator::Differs => Some(left != right),
-        Operator::Less => Some(as_number(left)? < as_number(right)?),
-        Operator::AtMost => Some(as_number(left)? <= as_number(right)?),
-        _ => None,
-    }
 }
 
 /// The scalar that a term is where it is read off, or a whole number made of two that are.

@@ -186,7 +186,7 @@ fn linked_on<C: Cells>(left: i64, link: &Link, env: &Env, cells: &C) -> Option<(
 fn made_of(operator: Operator, left: i64, right: i64) -> Option<(i64, Option<bool>)>
     ensures { IfSome result (λ made. Just (combined operator (Just (Scalar.Int left)) (Just (Scalar.Int right))) ≡ so_far made.0 made.1) }
 {
-    match compared(operator, Scalar::Int(left), Scalar::Int(right)) {
+    match compared(operator, left, right) {
         Some(truth) => Some((left, Some(truth))),
         None => Some((calculated(operator, left, right)?, None)),
     }
