@@ -84,8 +84,8 @@ fn linked_truth<C: Cells>(first: &Operand, links: &[Link], env: &Env, cells: &C)
 {
     match links.split_first() {
         None => truth_in_cell(first, env, cells),
-        Some((link, others)) => {
-            if others.is_empty() {
+        Some((link, further)) => {
+            if further.is_empty() {
                 return compared_at_once(first, link, env, cells);
             }
             None

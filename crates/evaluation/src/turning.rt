@@ -36,6 +36,7 @@ pub(crate) fn assign_turns<C: Cells>(
     }
 }
 
+#[inline(never)]
 #[tactic(auto, using(terms::specs::Turns::turns))]
 fn assign_each<C: Cells>(
     alloc: Global,
@@ -89,6 +90,8 @@ fn own_number<C: Cells>(operand: &Operand, cell: usize, cells: &C) -> Option<i64
     None
 }
 
+// Its loop has a frame of its own, so that the registers are its own too.
+#[inline(never)]
 #[tactic(auto, using(terms::specs::Turns::turns))]
 fn number_carried<C: Cells>(
     slot: usize,
@@ -102,8 +105,8 @@ fn number_carried<C: Cells>(
 {
     let mut inner = *env;
     let mut number = first;
-    for k in 0..parts::count_of(listed) {
-        put_member(&mut inner.loops, slot, parts::member_at(listed, k));
+    for turn in 0..parts::count_of(listed) {
+        put_member(&mut inner.loops, slot, parts::member_at(listed, turn));
         number = numbers_on(number, links, &inner, cells)?;
     }
     Some(number)
