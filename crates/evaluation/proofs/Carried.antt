@@ -7,7 +7,7 @@ use Rattle.terms.specs.Datum.{Datum, Just}
 use Rattle.terms.specs.Linked.{opened, value_linked, value_on, values_on}
 use Rattle.terms.specs.Meaning.{Scope, value, cell, combined, each, turn, with_loop, AreParts, IsPartOfTurn}
 use Rattle.terms.specs.EffectTree.{Assign}
-use Rattle.terms.specs.TermTree.{TermTree, LinkTree, On, Remainder, Cell, link_step, operand_step, term_step, term_tree, operand_tree, link_tree}
+use Rattle.terms.specs.TermTree.{TermTree, LinkTree, On, Cell, link_step, operand_step, term_step, term_tree, operand_tree, link_tree}
 use Rattle.terms.specs.Turns.{set_twice}
 use Rattle.terms.specs.declared.scalar.Scalar.{Scalar}
 use Rattle.terms.specs.declared.scalar.Scalar.TheVariants.{Int}

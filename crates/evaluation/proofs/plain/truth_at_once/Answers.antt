@@ -1,4 +1,4 @@
-use Rattle.std.proofs.Common.{rules, refl}
+use Rattle.std.proofs.Common.{refl}
 use Rattle.terms.specs.Datum.{Just}
 use Rattle.terms.specs.Linked.{read_by}
 use Rattle.terms.specs.Meaning.{value}
