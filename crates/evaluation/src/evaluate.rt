@@ -1,12 +1,14 @@
 //! The value of a term.
-ghost use Rattle.std.specs.Prelude.{◌≡◌, IfOk};
+ghost use Rattle.std.specs.Prelude.{◌≡◌, IfOk, IfSome};
+ghost use Rattle.terms.specs.Datum.{Just};
 ghost use Rattle.terms.specs.Meaning.{value, truth};
 ghost use Rattle.terms.specs.Scopes.{scope};
 ghost use Rattle.terms.specs.TermTree.{term_tree};
 
 use crate::glance::scalar_of;
 use crate::look::look;
-use crate::typed::{number_of, truth_of};
+use crate::plain::{scalar_at_once, truth_at_once};
+use crate::typed::{number_of, truth_worked_out};
 use std::alloc::Global;
 use terms::reading::truth_in;
 use terms::{Cells, Env, NoMemory, Scalar, Term, Value};
@@ -16,36 +18,62 @@ use terms::{Cells, Env, NoMemory, Scalar, Term, Value};
 pub fn eval<C: Cells>(alloc: Global, term: &Term, env: &Env, cells: &C) -> Result<Value, NoMemory>
     ensures { IfOk result (λ v. v ≡ value (term_tree term.now) (scope env.now) (C.values cells.now)) }
 {
-    match number_of(term, env, cells) {
-        Some(number) => Ok(Value::of_scalar(Scalar::Int(number))),
+    match scalar_at_once(term, env, cells) {
+        Some(scalar) => Ok(Value::of_scalar(scalar)),
         None => eval_other(alloc, term, env, cells),
     }
 }
 
-// The same for a term that isn't read off as a number.
+// The same for a term that isn't read off at once.
+#[inline(never)]
 fn eval_other<C: Cells>(alloc: Global, term: &Term, env: &Env, cells: &C) -> Result<Value, NoMemory>
     ensures { IfOk result (λ v. v ≡ value (term_tree term.now) (scope env.now) (C.values cells.now)) }
 {
-    match scalar_of(term, env, cells) {
+    match found(term, env, cells) {
         Some(scalar) => Ok(Value::of_scalar(scalar)),
         None => look(alloc, term, env, cells)?.into_value(alloc),
     }
 }
 
+/// The scalar that a term is, first of all as a whole number; `None` where it is none, or where memory is needed to find it.
+pub(crate) fn found<C: Cells>(term: &Term, env: &Env, cells: &C) -> Option<Scalar>
+    ensures { IfSome result (λ s. value (term_tree term.now) (scope env.now) (C.values cells.now) ≡ Just s) }
+{
+    match number_of(term, env, cells) {
+        Some(number) => Some(Scalar::Int(number)),
+        None => scalar_of(term, env, cells),
+    }
+}
+
 /// Whether a term is true in a scope and a state.
-#[inline]
+#[inline(always)]
 pub fn is_true<C: Cells>(alloc: Global, term: &Term, env: &Env, cells: &C) -> Result<bool, NoMemory>
     ensures { IfOk result (λ t. t ≡ truth (value (term_tree term.now) (scope env.now) (C.values cells.now))) }
 {
-    match truth_of(term, env, cells) {
+    match truth_at_once(term, env, cells) {
         Some(truth) => Ok(truth),
         None => is_other_true(alloc, term, env, cells),
     }
 }
 
-// The same for a term that isn't read off as a truth value.
+// The same for a term that isn't read off at once.
 #[inline(never)]
 fn is_other_true<C: Cells>(
+    alloc: Global,
+    term: &Term,
+    env: &Env,
+    cells: &C,
+) -> Result<bool, NoMemory>
+    ensures { IfOk result (λ t. t ≡ truth (value (term_tree term.now) (scope env.now) (C.values cells.now))) }
+{
+    match truth_worked_out(term, env, cells) {
+        Some(truth) => Ok(truth),
+        None => is_scalar_true(alloc, term, env, cells),
+    }
+}
+
+// The same for a term that isn't worked out as a truth value.
+fn is_scalar_true<C: Cells>(
     alloc: Global,
     term: &Term,
     env: &Env,

@@ -4,13 +4,16 @@
 //! Nothing here judges types: a term that isn't well typed has some value.
 #![tactic(auto)]
 
+mod assign;
 pub mod evaluate;
 mod glance;
 mod look;
 mod number;
 pub mod parts;
 mod perform;
+mod plain;
 mod seen;
+mod turning;
 mod typed;
 
 pub use evaluate::eval;

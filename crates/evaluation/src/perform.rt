@@ -1,18 +1,16 @@
 //! What an effect does.
-ghost use Rattle.std.specs.Prelude.{◌≡◌, OnOk, OnErr, slice_set};
-ghost use Rattle.terms.specs.Meaning.{after, value, each, turn, IsPart, AreParts, IsPartOfTurn};
+ghost use Rattle.std.specs.Prelude.{◌≡◌, OnOk, OnErr};
+ghost use Rattle.terms.specs.Meaning.{after, each, turn, IsPart, AreParts, IsPartOfTurn};
 ghost use Rattle.terms.specs.Shapes.{members};
 ghost use Rattle.terms.specs.Scopes.{scope};
-ghost use Rattle.terms.specs.EffectTree.{AssignItem, effect_tree, last_tree};
-ghost use Rattle.terms.specs.TermTree.{term_tree};
+ghost use Rattle.terms.specs.EffectTree.{effect_tree, last_tree};
 
-use crate::evaluate::{eval, is_true};
-use crate::glance::scalar_of;
-use crate::look::look;
+use crate::assign::{assign, assign_item, assign_other};
+use crate::evaluate::is_true;
 use crate::parts;
-use crate::typed::number_of;
+use crate::turning::{assign_turns, put_member};
 use std::alloc::Global;
-use terms::{Cells, Effect, Env, Last, Listed, NoMemory, Part, Scalar, Term};
+use terms::{Cells, Effect, Env, Last, Listed, NoMemory, Part};
 
 /// Does an effect: the state becomes the one after it. `NoMemory` where a growth was refused; then some first part of the
 /// assignments is done, and the caller goes back to a state of its own.
@@ -40,6 +38,7 @@ pub fn run<C: Cells>(
     run_last(alloc, &effect.last, env, cells)
 }
 
+#[inline(always)]
 #[cycle(run)]
 fn run_last<C: Cells>(alloc: Global, last: &Last, env: &Env, cells: &mut C) -> Result<(), NoMemory>
     ensures ok { OnOk result (C.values cells.new ≡ after (last_tree last.now) (scope env.now) (C.values cells.old)) }
@@ -49,6 +48,21 @@ fn run_last<C: Cells>(alloc: Global, last: &Last, env: &Env, cells: &mut C) -> R
     match last {
         Last::Nothing => Ok(()),
         Last::Assign(cell, term) => assign(alloc, *cell, term, env, cells),
+        _ => run_other(alloc, last, env, cells),
+    }
+}
+
+// The same in a frame of its own, so that an assignment needs no room for what a loop needs.
+#[inline(never)]
+#[cycle(run)]
+fn run_other<C: Cells>(alloc: Global, last: &Last, env: &Env, cells: &mut C) -> Result<(), NoMemory>
+    ensures ok { OnOk result (C.values cells.new ≡ after (last_tree last.now) (scope env.now) (C.values cells.old)) }
+    ensures err { OnErr result (IsPart (last_tree last.now) (scope env.now) (C.values cells.old) (C.values cells.new)) }
+    ensures marked { C.marked cells.new ≡ C.marked cells.old }
+{
+    match last {
+        Last::Nothing => Ok(()),
+        Last::Assign(cell, term) => assign_other(alloc, *cell, term, env, cells),
         Last::AssignItem(cell, index, listed, term) => {
             assign_item(alloc, *cell, (index, *listed), term, env, cells)
         }
@@ -56,86 +70,31 @@ fn run_last<C: Cells>(alloc: Global, last: &Last, env: &Env, cells: &mut C) -> R
     }
 }
 
-// Puts the value of a term into a cell.
-#[inline(always)]
-fn assign<C: Cells>(
+// Turns of a loop: an assignment alone is done turn by turn, without a look at what else it may be.
+#[cycle(run)]
+fn turns<C: Cells>(
     alloc: Global,
-    cell: usize,
-    term: &Term,
+    slot: usize,
+    listed: Listed,
+    body: &Effect,
     env: &Env,
     cells: &mut C,
 ) -> Result<(), NoMemory>
-    ensures ok { OnOk result (C.values cells.new ≡ slice_set (C.values cells.old) cell (value (term_tree term.now) (scope env.now) (C.values cells.old))) }
-    ensures err { OnErr result (C.values cells.new ≡ C.values cells.old) }
+    ensures ok { OnOk result (C.values cells.new ≡ each (turn slot (effect_tree body.now) (scope env.now)) (members listed) (C.values cells.old)) }
+    ensures err { OnErr result (AreParts (turn slot (effect_tree body.now) (scope env.now)) (IsPartOfTurn slot (effect_tree body.now) (scope env.now)) (members listed) (C.values cells.old) (C.values cells.new)) }
     ensures marked { C.marked cells.new ≡ C.marked cells.old }
 {
-    match number_of(term, env, cells) {
-        Some(number) => cells.set_scalar(cell, Scalar::Int(number)),
-        None => assign_other(alloc, cell, term, env, cells),
+    if body.parts.is_empty() {
+        if let Last::Assign(cell, term) = &body.last {
+            return assign_turns(alloc, slot, listed, *cell, term, env, cells);
+        }
     }
-}
-
-// The same for a value that isn't read off as a number.
-#[inline(never)]
-fn assign_other<C: Cells>(
-    alloc: Global,
-    cell: usize,
-    term: &Term,
-    env: &Env,
-    cells: &mut C,
-) -> Result<(), NoMemory>
-    ensures ok { OnOk result (C.values cells.new ≡ slice_set (C.values cells.old) cell (value (term_tree term.now) (scope env.now) (C.values cells.old))) }
-    ensures err { OnErr result (C.values cells.new ≡ C.values cells.old) }
-    ensures marked { C.marked cells.new ≡ C.marked cells.old }
-{
-    match scalar_of(term, env, cells) {
-        Some(scalar) => cells.set_scalar(cell, scalar),
-        None => assign_made(alloc, cell, term, env, cells),
-    }
-}
-
-// The same for a value that is made, in a frame of its own.
-#[inline(never)]
-fn assign_made<C: Cells>(
-    alloc: Global,
-    cell: usize,
-    term: &Term,
-    env: &Env,
-    cells: &mut C,
-) -> Result<(), NoMemory>
-    ensures ok { OnOk result (C.values cells.new ≡ slice_set (C.values cells.old) cell (value (term_tree term.now) (scope env.now) (C.values cells.old))) }
-    ensures err { OnErr result (C.values cells.new ≡ C.values cells.old) }
-    ensures marked { C.marked cells.new ≡ C.marked cells.old }
-{
-    let value = look(alloc, term, env, cells)?.into_value(alloc)?;
-    cells.set(cell, value)
-}
-
-// Puts the value of a term in the place of an item.
-#[inline(never)]
-fn assign_item<C: Cells>(
-    alloc: Global,
-    cell: usize,
-    at: (&Term, Listed),
-    term: &Term,
-    env: &Env,
-    cells: &mut C,
-) -> Result<(), NoMemory>
-    ensures ok { OnOk result (C.values cells.new ≡ after (AssignItem cell (term_tree at.entry.0.now) at.entry.1 (term_tree term.now)) (scope env.now) (C.values cells.old)) }
-    ensures err { OnErr result (C.values cells.new ≡ C.values cells.old) }
-    ensures marked { C.marked cells.new ≡ C.marked cells.old }
-{
-    let (index, listed) = at;
-    let index = eval(alloc, index, env, cells)?;
-    let place = parts::place_in(listed, index.scalar());
-    drop(index);
-    let value = eval(alloc, term, env, cells)?;
-    cells.set_at(cell, place, value)
+    run_each(alloc, slot, listed, body, env, cells)
 }
 
 #[cycle(run)]
 #[tactic(auto, using(terms::specs::Turns::turns))]
-fn turns<C: Cells>(
+fn run_each<C: Cells>(
     alloc: Global,
     slot: usize,
     listed: Listed,
@@ -150,37 +109,7 @@ fn turns<C: Cells>(
     let mut inner = *env;
     for k in 0..parts::count_of(listed) {
         put_member(&mut inner.loops, slot, parts::member_at(listed, k));
-        run_turn(alloc, body, &inner, cells)?;
+        run(alloc, body, &inner, cells)?;
     }
     Ok(())
-}
-
-// One turn of a loop: an assignment alone is done at once.
-#[inline(always)]
-#[cycle(run)]
-fn run_turn<C: Cells>(
-    alloc: Global,
-    body: &Effect,
-    env: &Env,
-    cells: &mut C,
-) -> Result<(), NoMemory>
-    ensures ok { OnOk result (C.values cells.new ≡ after (effect_tree body.now) (scope env.now) (C.values cells.old)) }
-    ensures err { OnErr result (IsPart (effect_tree body.now) (scope env.now) (C.values cells.old) (C.values cells.new)) }
-    ensures marked { C.marked cells.new ≡ C.marked cells.old }
-{
-    if body.parts.is_empty() {
-        if let Last::Assign(cell, term) = &body.last {
-            return assign(alloc, *cell, term, env, cells);
-        }
-    }
-    run(alloc, body, env, cells)
-}
-
-#[inline(always)]
-fn put_member(loops: &mut [Scalar; 3], slot: usize, member: Scalar)
-    ensures { loops.new ≡ slice_set loops.old slot member }
-{
-    if slot < 3 {
-        loops[slot] = member;
-    }
 }

@@ -7,8 +7,8 @@ use Rattle.terms.specs.Scopes.{scope}
 use Rattle.terms.specs.EffectTree.{ended, effect_tree, last_tree, part_tree}
 use Rattle.evaluation.proofs.perform.+run.Given as goal
 
-abbrev pub invariant-turns-loop-k : goal.invariant-turns-loop-k
-invariant-turns-loop-k g l =
+abbrev pub invariant-run_each-loop-k : goal.invariant-run_each-loop-k
+invariant-run_each-loop-k g l =
     let values = g.C.Cells.values in
     let f = turn l.slot (effect_tree l.body) (scope l.env) in
     let left = members_from l.listed l.k (count l.listed - l.k) in

@@ -5,7 +5,7 @@ use Rattle.terms.specs.Scopes.{scope}
 use Rattle.terms.specs.declared.scalar.Scalar.TheVariants.{Int}
 use Rattle.evaluation.proofs.typed.+numbers.Goals as goal
 
-pub inner_number-returns : goal.inner_number-returns
-inner_number-returns g t c =
+pub number_of-returns : goal.number_of-returns
+number_of-returns g t c =
     read_by (λ n. Just (Int n)) c.args.term.now c.as_slice.result.now (scope c.args.env.now) (g.C.Cells.values c.args.cells.now) (Just (Int c.in_ok-first.first)) c.numbers_on.result
     c.as_slice.ensures.value (search rules) (search rules)
