@@ -1,5 +1,5 @@
 //! A line on its way out: its bytes are put together here, so that they go out at once.
-ghost use Rattle.std.specs.Prelude.{◌≡◌, ◌+◌, ◌≤◌, [], ◌++◌, drop, length, if◌then◌else◌};
+ghost use Rattle.std.specs.Prelude.{◌≡◌, ◌+◌, ◌≤◌, [], ◌∷◌, ◌++◌, codes, drop, length, if◌then◌else◌};
 ghost use Rattle.std.specs.Prelude.{IfOk, OnOk, IfErr};
 ghost use Rattle.trace.specs.Adds.{Adds, Breaks};
 ghost use Rattle.trace.specs.Lines.{key_text, number_text};
@@ -16,6 +16,9 @@ const SIZE: usize = 128;
 
 // A key ends here: its three numbers have up to 20 digits, and a space each.
 const KEY_END: usize = 63;
+
+// The line of an idle turn ends here.
+const IDLE_END: usize = KEY_END + 5;
 
 /// Bytes of a text that wait to go out.
 #[derive(Drop)]
@@ -47,6 +50,19 @@ fn write_number(number: u64, bytes: &mut [u8], end: usize) -> usize
     write_digits(number, bytes, end - 1)
 }
 
+// Writes a key so that it ends at its place, and answers where it starts. Digits are made from the last to the first, and so
+// is the key.
+#[inline(always)]
+fn write_key(key: Key, bytes: &mut [u8]) -> usize
+    requires { KEY_END ≤ length bytes.old }
+    ensures start { result + length (key_text key) ≡ KEY_END }
+    ensures written { drop result bytes.new ≡ key_text key ++ drop KEY_END bytes.old }
+{
+    let start = write_number(key.number, bytes, KEY_END);
+    let start = write_number(key.component as u64, bytes, start);
+    write_number(key.tick, bytes, start)
+}
+
 impl Line {
     /// An empty line.
     #[inline(always)]
@@ -60,15 +76,12 @@ impl Line {
         }
     }
 
-    /// Makes it a turn's key, from which its line goes on. Digits are made from the last to the
-    /// first, and so is the key.
+    /// Makes it a turn's key, from which its line goes on.
     #[inline(always)]
     pub(crate) fn begin(&mut self, key: Key)
         ensures { self.new ≡ key_text key }
     {
-        let start = write_number(key.number, &mut self.bytes, KEY_END);
-        let start = write_number(key.component as u64, &mut self.bytes, start);
-        self.start = write_number(key.tick, &mut self.bytes, start);
+        self.start = write_key(key, &mut self.bytes);
         self.end = KEY_END;
     }
 
@@ -114,6 +127,24 @@ fn put_bytes<W: Write>(out: &mut Counted<W>, bytes: &[u8], before: u64) -> Resul
         Ok(()) => Ok(before.saturating_add(bytes.len() as u64)),
         Err(part) => Err(WriteFault::WriteFailed(before.saturating_add(part as u64))),
     }
+}
+
+/// Writes the line of an idle turn.
+#[inline(always)]
+pub(crate) fn put_idle<W: Write>(
+    out: &mut Counted<W>,
+    key: Key,
+    before: u64,
+) -> Result<u64, WriteFault>
+    ensures ok { IfOk result (λ after. Puts W.contents out.old out.new
+        before after (key_text key ++ (codes "idle" ++ 10 ∷ []))) }
+    ensures err { IfErr result (λ fault. Stops W.contents out.old out.new
+        before (key_text key ++ (codes "idle" ++ 10 ∷ [])) fault) }
+{
+    let mut bytes = [0; IDLE_END];
+    bytes[KEY_END..].copy_from_slice(b"idle\n");
+    let start = write_key(key, &mut bytes);
+    put_bytes(out, &bytes[start..], before)
 }
 
 // A piece for which there was no room.

@@ -1,20 +1,21 @@
 //! Lines of turns.
-ghost use Rattle.std.specs.Prelude.{◌≡◌, List, IfOk, OnOk, IfErr, OnErr};
+ghost use Rattle.std.specs.Prelude.{◌≡◌, ◌∷◌, ◌++◌, [], List, IfOk, OnOk, IfErr, OnErr};
 ghost use Rattle.std.specs.Borrow.{Bor};
 ghost use Rattle.std.specs.Iterator.{IsFinite, Drains, Yields};
 ghost use Rattle.std.specs.Io.KnownBytes.{Appends};
 ghost use Rattle.event_keys.specs.declared.outcome.Turned.{Turned};
 ghost use Rattle.trace.specs.Counts.{writer_of, failures_of, one_more};
-ghost use Rattle.trace.specs.Lines.{did_external, is_shown, line_of, shown_text, text_of, turns_at};
+ghost use Rattle.trace.specs.Lines.{action_text, did_external, is_shown, key_text, line_of, shown_text, text_of, turns_at};
 ghost use Rattle.trace.specs.Puts.{Puts, Stops};
 
 use crate::counted::Counted;
 use crate::fault::WriteFault;
-use crate::line::{Line, put};
-use crate::words::put_outcome;
-use event_keys::{Outcome, Turned};
+use crate::line::{Line, put, put_idle};
+use crate::words::put_action;
+use event_keys::{Key, Outcome, Turned};
 use plans::Plan;
 use std::io::Write;
+use terms::Action;
 
 /// Which turns are written.
 #[derive(Clone, Copy, Debug, PartialEq, Eq)]
@@ -111,8 +112,8 @@ fn did_external(plan: &Plan, outcome: &Outcome) -> bool
     }
 }
 
+// Most turns are idle: their line takes a short way.
 #[inline(always)]
-#[tactic(auto, using(crate::proofs::Adding::lines))]
 fn put_line<W: Write>(
     out: &mut Counted<W>,
     plan: &Plan,
@@ -122,9 +123,30 @@ fn put_line<W: Write>(
     ensures ok { IfOk result (λ after. Puts W.contents out.old out.new before after (line_of plan.now turned.now)) }
     ensures err { IfErr result (λ fault. Stops W.contents out.old out.new before (line_of plan.now turned.now) fault) }
 {
+    match &turned.outcome {
+        Outcome::Idle => put_idle(out, turned.key, before),
+        Outcome::Did(action) => put_did(out, plan, turned.key, action, before),
+    }
+}
+
+// The line of a turn that took an action, in a frame of its own.
+#[inline(never)]
+#[tactic(auto, using(crate::proofs::Adding::lines))]
+fn put_did<W: Write>(
+    out: &mut Counted<W>,
+    plan: &Plan,
+    key: Key,
+    action: &Action,
+    before: u64,
+) -> Result<u64, WriteFault>
+    ensures ok { IfOk result (λ after. Puts W.contents out.old out.new
+        before after (key_text key ++ (action_text plan.now action.now ++ 10 ∷ []))) }
+    ensures err { IfErr result (λ fault. Stops W.contents out.old out.new
+        before (key_text key ++ (action_text plan.now action.now ++ 10 ∷ [])) fault) }
+{
     let mut line = Line::new();
-    line.begin(turned.key);
-    let written = put_outcome(&mut line, out, plan, &turned.outcome, before)?;
+    line.begin(key);
+    let written = put_action(&mut line, out, plan, action, before)?;
     let written = put(&mut line, out, "\n", written)?;
     line.send(out, written)
 }

@@ -2,18 +2,18 @@
 //! before, and answers how many went out by its end.
 ghost use Rattle.std.specs.Prelude.{◌≡◌, ◌++◌, IfOk, IfErr};
 ghost use Rattle.trace.specs.Adds.{Adds, Breaks};
-ghost use Rattle.trace.specs.Lines.{name_at, argument_text, other_text, others_text, bracketed_text, arguments_text, action_text, outcome_text};
+ghost use Rattle.trace.specs.Lines.{name_at, argument_text, other_text, others_text, bracketed_text, arguments_text, action_text};
 ghost use Rattle.plans.specs.Plans.{action_texts, member_texts};
 
 use crate::counted::Counted;
 use crate::fault::WriteFault;
 use crate::line::{Line, put};
-use event_keys::Outcome;
 use itoa::Buffer;
 use plans::Plan;
 use std::io::Write;
 use terms::{Action, Scalar};
 
+#[inline(always)]
 fn name_of<'a>(plan: &'a Plan, action: &Action) -> &'a str
     ensures { result.now ≡ name_at (action_texts plan.now) action.now.name }
 {
@@ -32,6 +32,7 @@ fn member_of(plan: &Plan, member: u16) -> &str
     }
 }
 
+#[inline(always)]
 fn put_argument<W: Write>(
     line: &mut Line,
     out: &mut Counted<W>,
@@ -83,6 +84,7 @@ fn put_others<W: Write>(
     Ok(written)
 }
 
+#[inline(always)]
 #[tactic(auto, using(crate::proofs::Adding::steps))]
 fn put_bracketed<W: Write>(
     line: &mut Line,
@@ -101,6 +103,7 @@ fn put_bracketed<W: Write>(
     put(line, out, ")", written)
 }
 
+#[inline(always)]
 #[tactic(auto, using(crate::proofs::Adding::items))]
 fn put_arguments<W: Write>(
     line: &mut Line,
@@ -118,8 +121,9 @@ fn put_arguments<W: Write>(
     }
 }
 
+#[inline(always)]
 #[tactic(auto, using(crate::proofs::Adding::steps))]
-fn put_action<W: Write>(
+pub(crate) fn put_action<W: Write>(
     line: &mut Line,
     out: &mut Counted<W>,
     plan: &Plan,
@@ -131,20 +135,4 @@ fn put_action<W: Write>(
 {
     let written = put(line, out, name_of(plan, action), before)?;
     put_arguments(line, out, plan, action.args.as_slice(), written)
-}
-
-pub(crate) fn put_outcome<W: Write>(
-    line: &mut Line,
-    out: &mut Counted<W>,
-    plan: &Plan,
-    outcome: &Outcome,
-    before: u64,
-) -> Result<u64, WriteFault>
-    ensures ok { IfOk result (λ after. Adds W.contents out.old out.new line.old line.new before after (outcome_text plan.now outcome.now)) }
-    ensures err { IfErr result (λ fault. Breaks W.contents out.old out.new line.old before (outcome_text plan.now outcome.now) fault) }
-{
-    match outcome {
-        Outcome::Idle => put(line, out, "idle", before),
-        Outcome::Did(action) => put_action(line, out, plan, action, before),
-    }
 }

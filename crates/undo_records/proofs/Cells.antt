@@ -1,19 +1,28 @@
 -- First states are compared cell by cell.
-use Rattle.std.proofs.Common.{◌≡◌, ◌≢◌, ℕ, ◌+◌, ◌<◌, ◌≤◌, true, false, not, List, length, get_or, drop, ap, sym, ◌∙◌, arith}
+use Rattle.std.proofs.Common.{◌≡◌, ◌≢◌, ℕ, ◌+◌, ◌<◌, ◌≤◌, Bool, true, false, not, List, ◌∷◌, length, get_or, drop, ap, sym, ◌∙◌, arith}
 use Rattle.terms.specs.Datum.{Datum}
 use Rattle.terms.specs.Same.{same}
 use Rattle.undo_records.specs.declared.change.Change.{Change}
 use Rattle.undo_records.specs.States.{States}
-use Rattle.undo_records.specs.First.{first_state, same_state}
+use Rattle.undo_records.specs.First.{oldest, first_state, same_state}
 use Rattle.undo_records.specs.Places.{earliest}
+use Rattle.undo_records.specs.Changes.{states_below}
+use Rattle.undo_records.specs.Marks.{marks_of, IsPlain}
 use Rattle.undo_records.specs.Written.{seen}
+use Rattle.undo_records.proofs.Marked.{first_of}
 use Rattle.undo_records.proofs.Earliest.{length-first, get_or-first}
 use Rattle.undo_records.proofs.Sameness.{other_length, items_equal, items_differ, items_end}
 
--- the states of two stores, which keep xs and ys as current states
+-- the first states of two stores, which keep xs and ys as current states
 pub record AreOf (xs ys : List Datum) (xs_marks ys_marks : List (List Change)) (a b : States) : Type 0 where
-  pub a_is : seen xs xs_marks ≡ a
-  pub b_is : seen ys ys_marks ≡ b
+  pub a_is : oldest xs (states_below xs_marks xs) ≡ first_state a
+  pub b_is : oldest ys (states_below ys_marks ys) ≡ first_state b
+
+pub firsts : (is_marked other_marked : Bool) (newest other_newest : List Change) (older other_older : List (List Change)) (xs ys : List Datum) (a b : States) → IsPlain is_marked newest older → IsPlain other_marked other_newest other_older → seen xs (marks_of is_marked newest older) ≡ a → seen ys (marks_of other_marked other_newest other_older) ≡ b → AreOf xs ys (newest ∷ older) (other_newest ∷ other_older) a b
+firsts is_marked other_marked newest other_newest older other_older xs ys a b plain other_plain a_is b_is = record {
+  a_is = first_of is_marked newest older xs a plain a_is;
+  b_is = first_of other_marked other_newest other_older ys b other_plain b_is;
+}
 
 -- the loop over the cells has come to a cell, whose current values are x and y
 pub record AreAt (xs ys : List Datum) (a b : States) (cell : ℕ) (x y : Datum) : Type 0 where

@@ -9,7 +9,6 @@ use Rattle.undo_records.specs.declared.change.Change.TheVariants.{Cell, Item}
 use Rattle.undo_records.specs.Changes.{restored, unwound, states_below}
 use Rattle.undo_records.specs.First.{oldest, first_state}
 use Rattle.undo_records.specs.States.{States}
-use Rattle.undo_records.specs.Written.{seen}
 use Rattle.undo_records.specs.Places.{before, earliest}
 
 length-set_item : (at place : ℕ) (new : Datum) (state : List Datum) → length (set_item at place new state) ≡ length state
@@ -66,10 +65,10 @@ get_or-oldest cell (changes ∷ marks) state d within =
     get_or-oldest cell marks (unwound changes state) d (omega (arith, within, length-unwound changes state)) ∙ ap (earliest cell marks) (get_or-unwound cell changes state d within)
 
 -- the first state of what a store keeps has as many cells as the current one
-pub length-first : (current : List Datum) (marks : List (List Change)) (states : States) → seen current marks ≡ states → length (first_state states) ≡ length current
-length-first current marks states view = ap (λ (s : States). length (first_state s)) (sym view) ∙ length-oldest marks current
+pub length-first : (current : List Datum) (marks : List (List Change)) (states : States) → oldest current (states_below marks current) ≡ first_state states → length (first_state states) ≡ length current
+length-first current marks states first = ap length (sym first) ∙ length-oldest marks current
 
 -- what it has in a cell
-pub get_or-first : (current : List Datum) (marks : List (List Change)) (states : States) (cell : ℕ) (value d : Datum) → seen current marks ≡ states → value ≡ get_or current cell d → cell < length current → earliest cell marks value ≡ get_or (first_state states) cell d
-get_or-first current marks states cell value d view value_is within =
-    ap (earliest cell marks) value_is ∙ sym (get_or-oldest cell marks current d within) ∙ ap (λ (s : States). get_or (first_state s) cell d) view
+pub get_or-first : (current : List Datum) (marks : List (List Change)) (states : States) (cell : ℕ) (value d : Datum) → oldest current (states_below marks current) ≡ first_state states → value ≡ get_or current cell d → cell < length current → earliest cell marks value ≡ get_or (first_state states) cell d
+get_or-first current marks states cell value d first value_is within =
+    ap (earliest cell marks) value_is ∙ sym (get_or-oldest cell marks current d within) ∙ ap (λ state. get_or state cell d) first

@@ -2,4 +2,5 @@ mod Cells
 mod Covering
 mod Earliest
 mod Likeness
+mod Marked
 mod Sameness

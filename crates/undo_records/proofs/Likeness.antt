@@ -1,5 +1,5 @@
 -- What the oldest changes tell of a cell is so in the first state.
-use Rattle.std.proofs.Common.{◌≡◌, ◌≢◌, ◌⊎◌, ℕ, zero, suc, ◌<◌, true, false, eqb, List, [], ◌∷◌, length, get_or, map, slice_set, refl, ap, subst, sym, ◌∙◌, inl, inr, arith}
+use Rattle.std.proofs.Common.{◌≡◌, ◌≢◌, ◌⊎◌, ℕ, zero, suc, ◌<◌, true, false, eqb, List, [], ◌∷◌, length, get_or, slice_set, refl, ap, subst, sym, ◌∙◌, inl, inr, arith}
 use Rattle.std.proofs.lemmas.Bool.Decides.{eqb_tells}
 use Rattle.std.proofs.lemmas.List.{get_or-set_same, get_or-set_other, get_or_default, length-set}
 use Rattle.terms.specs.Datum.{Datum, Just, End, Link, pack, items_of}
@@ -8,8 +8,7 @@ use Rattle.terms.specs.Turns.{item_pack}
 use Rattle.undo_records.specs.declared.change.Change.{Change}
 use Rattle.undo_records.specs.declared.change.Change.TheVariants.{Cell, Item}
 use Rattle.undo_records.specs.declared.first.Traced.{Traced}
-use Rattle.undo_records.specs.Changes.{changes_in}
-use Rattle.undo_records.specs.Traced.{first_value}
+use Rattle.undo_records.specs.Traced.{first_value, written_in}
 use Rattle.undo_records.specs.Places.{before, earliest, whole_before, whole_earliest, part, part_before, part_earliest, IsLike, IsPart}
 
 pub items_with_item : (place : ℕ) (new value : Datum) → items_of (with_item place new value) ≡ slice_set (items_of value) place new
@@ -46,9 +45,9 @@ like_marks cell [] whole value like = like
 like_marks cell (changes ∷ marks) whole value like = like_marks cell marks (whole_before cell changes whole) (before cell changes value) (like_before cell changes whole value like)
 
 -- a cell in the first state is like what the oldest change of it as a whole replaced
-pub like_first : (traced : Traced) (whole : Datum) → whole ≡ whole_earliest traced.cell (map changes_in traced.marks.now.items) traced.current.now → IsLike whole (first_value traced)
+pub like_first : (traced : Traced) (whole : Datum) → whole ≡ whole_earliest traced.cell (written_in traced) traced.current.now → IsLike whole (first_value traced)
 like_first traced whole is =
-    subst (λ (w : Datum). IsLike w (first_value traced)) (sym is) (like_marks traced.cell (map changes_in traced.marks.now.items) traced.current.now traced.current.now (like_itself traced.current.now))
+    subst (λ (w : Datum). IsLike w (first_value traced)) (sym is) (like_marks traced.cell (written_in traced) traced.current.now traced.current.now (like_itself traced.current.now))
 
 part_with_item : (index place : ℕ) (item old value : Datum) → (place ≢ index → IsPart index item value) → (place ≡ index → item ≡ old) → IsPart index item (with_item place old value)
 part_with_item index place item old value others here within = go (eqb_tells place index) where
@@ -83,6 +82,6 @@ part_in_marks cell index (changes ∷ marks) item value is_part =
     part_in_marks cell index marks (part_before cell index changes item) (before cell changes value) (part_in_before cell index changes item value is_part)
 
 -- an item of a cell in the first state is what the oldest change of it replaced
-pub is_part_first : (traced : Traced) (index : ℕ) (item : Datum) → item ≡ part_earliest traced.cell index (map changes_in traced.marks.now.items) (part index traced.current.now) → IsPart index item (first_value traced)
+pub is_part_first : (traced : Traced) (index : ℕ) (item : Datum) → item ≡ part_earliest traced.cell index (written_in traced) (part index traced.current.now) → IsPart index item (first_value traced)
 is_part_first traced index item is within =
-    is ∙ part_in_marks traced.cell index (map changes_in traced.marks.now.items) (part index traced.current.now) traced.current.now (λ there. refl) within
+    is ∙ part_in_marks traced.cell index (written_in traced) (part index traced.current.now) traced.current.now (λ there. refl) within

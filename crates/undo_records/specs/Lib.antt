@@ -1,5 +1,6 @@
 pub mod Changes
 pub mod First
+pub mod Marks
 pub mod Places
 pub mod States
 pub mod Traced

@@ -1,31 +1,14 @@
 -- The states below stay when a write is kept.
-use Rattle.std.specs.Prelude.{◌≡◌, ℕ, zero, suc, ◌-◌, ◌<◌, List, [], ◌∷◌, length, map, take, get_or, ◌++◌, slice_get, slice_set, None, Some, refl}
+use Rattle.std.specs.Prelude.{◌≡◌, ℕ, zero, suc, ◌-◌, ◌<◌, List, [], ◌∷◌, length, map, take, get_or, slice_get, slice_set, None, Some, refl}
 use Rattle.std.proofs.Common.{arith, ap, ◌∙◌, sym, subst}
 use Rattle.terms.specs.Datum.{Datum, Just, End, Link, items_of}
 use Rattle.terms.specs.Shapes.{with_item, set_item}
 use Rattle.undo_records.specs.declared.change.Change.{Change}
 use Rattle.undo_records.specs.States.{States}
-use Rattle.undo_records.specs.Changes.{restored, unwound, unwound-append, states_below, IsNoted}
+use Rattle.undo_records.specs.Changes.{restored, unwound, states_below, IsNoted}
 
 pub written : (change : Change) (marks new_marks : List (List Change)) (old new : List Datum) → IsNoted change marks new_marks → restored change new ≡ old → states_below new_marks new ≡ states_below marks old
 written change marks new_marks old new noted back = noted new ∙ ap (states_below marks) back
-
--- a change is noted where the newest mark keeps it as the last one
-pub noted_last : (change : Change) (changes new : List Change) (marks : List (List Change)) → new ≡ changes ++ change ∷ [] → IsNoted change (changes ∷ marks) (new ∷ marks)
-noted_last change changes new marks is state =
-    let same : unwound new state ≡ unwound changes (restored change state) = ap (λ cs. unwound cs state) is ∙ unwound-append changes change state in
-    λ i. same i ∷ states_below marks (same i)
-
--- the newest mark is the first of several
-pub noted_first : {A : Type 0} (f : A → List Change) (change : Change) (items : List A) (old new : A) → old ≡ get_or items 0 old → f new ≡ f old ++ change ∷ [] → IsNoted change (map f items) (map f (slice_set items 0 new))
-noted_first f change [] old new is more = λ state. refl
-noted_first f change (first ∷ rest) old new is more = noted_last change (f first) (f new) (map f rest) (more ∙ ap (λ a. f a ++ change ∷ []) is)
-
--- and where what that mark keeps covers it
-pub noted_before : (change : Change) (changes : List Change) (marks : List (List Change)) → ((state : List Datum) → unwound changes (restored change state) ≡ unwound changes state) → IsNoted change (changes ∷ marks) (changes ∷ marks)
-noted_before change changes marks covered state =
-    let same : unwound changes state ≡ unwound changes (restored change state) = sym (covered state) in
-    λ i. same i ∷ states_below marks (same i)
 
 pub slice_set_back : {A : Type 0} (xs : List A) (k : ℕ) (x old d : A) → k < length xs → old ≡ get_or xs k d → slice_set (slice_set xs k x) k old ≡ xs
 slice_set_back [] k x old d h e = absurd (omega arith)

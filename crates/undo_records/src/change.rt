@@ -1,5 +1,5 @@
 //! What a write replaced.
-ghost use Rattle.std.specs.Prelude.{◌≡◌, true, List};
+ghost use Rattle.std.specs.Prelude.{◌≡◌, true, List, slice_set};
 ghost use Rattle.terms.specs.Datum.{Datum};
 ghost use Rattle.undo_records.specs.Changes.{covers, restored, unwound};
 
@@ -32,6 +32,17 @@ impl Change {
         }
     }
 
+    // Whether it replaced a cell as a whole.
+    #[inline(always)]
+    fn covers_cell(&self, cell: usize) -> bool
+        ensures { (old : Datum) → result ≡ covers self.now (Change.Cell cell old) }
+    {
+        match self {
+            Change::Cell(at, _) => *at == cell,
+            Change::Item(_, _, _) => false,
+        }
+    }
+
     /// Whether what it replaced is a sequence or an array.
     #[inline(always)]
     pub(crate) fn has_list(&self) -> bool {
@@ -54,4 +65,23 @@ impl Change {
         }
         false
     }
+}
+
+/// Whether one of the last few changes replaced a cell as a whole, so that going back needs nothing of what another write of it
+/// replaces.
+#[inline(always)]
+pub(crate) fn is_cell_covered(cell: usize, earlier: &[Change]) -> bool
+    ensures { result ≡ true → (old : Datum) (state : List Datum) →
+        unwound earlier.now (slice_set state cell old) ≡ unwound earlier.now state }
+{
+    let count = earlier.len();
+    if count == 0 {
+        return false;
+    }
+    for at in count.saturating_sub(RECENT)..count {
+        if earlier[at].covers_cell(cell) {
+            return true;
+        }
+    }
+    false
 }

@@ -1,10 +1,9 @@
 //! A cell of a store in the first of its states.
-ghost use Rattle.std.specs.Prelude.{◌≡◌, length, map};
+ghost use Rattle.std.specs.Prelude.{◌≡◌, length};
 ghost use lib.Pointwise.{pointwise};
 ghost use Rattle.terms.specs.Datum.{items_of};
 ghost use Rattle.terms.specs.Same.{same};
-ghost use Rattle.undo_records.specs.Changes.{changes_in};
-ghost use Rattle.undo_records.specs.Traced.{first_value};
+ghost use Rattle.undo_records.specs.Traced.{first_value, written_in};
 ghost use Rattle.undo_records.specs.Places.{whole_before, whole_earliest, part, part_before, part_earliest};
 
 use crate::change::Change;
@@ -16,8 +15,10 @@ use terms::Value;
 pub(crate) struct Traced<'a> {
     pub cell: usize,
     pub current: &'a Value,
-    // What was written since each mark, the newest mark first.
-    pub marks: &'a VecDeque<Vec<Change>>,
+    // What was written since the newest mark; nothing where there is no mark.
+    pub newest: &'a Vec<Change>,
+    // The same for the older marks, the newest first.
+    pub older: &'a VecDeque<Vec<Change>>,
 }
 
 /// Whether two cells have the same value in the first states of their stores.
@@ -46,10 +47,10 @@ fn have_same_parts(a: Traced, b: Traced, count: usize) -> bool
 
 // What the oldest change of a cell as a whole replaced.
 fn first_whole<'a>(traced: Traced<'a>) -> &'a Value
-    ensures { result.now ≡ whole_earliest traced.entry.cell (map changes_in traced.entry.marks.now.items) traced.entry.current.now }
+    ensures { result.now ≡ whole_earliest traced.entry.cell (written_in traced.entry) traced.entry.current.now }
 {
-    let mut value = traced.current;
-    for changes in traced.marks {
+    let mut value = whole_in(traced.newest.as_slice(), traced.cell, traced.current);
+    for changes in traced.older {
         value = whole_in(changes.as_slice(), traced.cell, value);
     }
     value
@@ -69,10 +70,11 @@ fn whole_in<'a>(changes: &'a [Change], cell: usize, later: &'a Value) -> &'a Val
 
 // What the oldest change of an item, or of its whole cell, replaced.
 fn first_part<'a>(traced: Traced<'a>, index: usize) -> &'a Value
-    ensures { result.now ≡ part_earliest traced.entry.cell index (map changes_in traced.entry.marks.now.items) (part index traced.entry.current.now) }
+    ensures { result.now ≡ part_earliest traced.entry.cell index (written_in traced.entry) (part index traced.entry.current.now) }
 {
-    let mut item = part_of(traced.current, index);
-    for changes in traced.marks {
+    let item = part_of(traced.current, index);
+    let mut item = part_in(traced.newest.as_slice(), traced.cell, index, item);
+    for changes in traced.older {
         item = part_in(changes.as_slice(), traced.cell, index, item);
     }
     item

@@ -1,6 +1,5 @@
-use Rattle.undo_records.specs.Changes.{changes_in}
-use Rattle.undo_records.specs.Written.{noted_first}
+use Rattle.undo_records.proofs.Marked.{put_last}
 use Rattle.undo_records.proofs.store.note.Goals as goal
 
 pub returns-in-Ok-clause-ok : goal.returns-in-Ok-clause-ok
-returns-in-Ok-clause-ok c = noted_first changes_in c.args.change c.args.marks.now.items c.in-Some.changes.now c.push.new.self c.in-Some.ensures.value c.in-Ok.ensures.items
+returns-in-Ok-clause-ok c = put_last c.args.change c.args.newest.now.items c.push.new.self.items c.in-Ok.ensures.items

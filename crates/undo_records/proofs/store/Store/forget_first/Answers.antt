@@ -1,18 +1,20 @@
-use Rattle.std.proofs.Common.{◌≡◌, ◌-◌, arith, ap, sym, ◌∙◌, length, map}
-use Rattle.undo_records.specs.States.{States, without_first}
-use Rattle.undo_records.specs.Changes.{changes_in, states_below}
-use Rattle.undo_records.specs.Written.{forgotten, marks_counted}
+use Rattle.std.proofs.Common.{◌≡◌, ◌-◌, ◌≤◌, arith, ap, sym, ◌∙◌, length, take}
+use Rattle.undo_records.specs.Changes.{changes_in}
+use Rattle.undo_records.proofs.Marked.{at_most, forgotten_all, forgotten_first}
 use Rattle.undo_records.proofs.store.Store.forget_first.Goals as goal
 
-pub overflow_sub-left : goal.overflow_sub-left
-overflow_sub-left c =
-    let count : length c.args.self.now.below ≡ length c.self.inside.marks.items = ap (λ (s : States). length s.below) (sym c.self.view_is) ∙ marks_counted changes_in c.self.inside.marks.items c.self.inside.current.items in
-    omega (arith, count, c.requires, c.len.ensures, c.self.inside.marks.ok.0)
+pub returns-then-older-count : goal.returns-then-older-count
+returns-then-older-count c =
+    let inside = c.self.inside in
+    let few = at_most changes_in inside.is_marked inside.newest.items inside.older.items inside.current.items c.args.self.now c.self.view_is in
+    let all : length c.args.self.now.below ≤ c.args.count = omega (arith, few, inside.older.ok.0, c.len-older.ensures, c.if-older-count.true) in
+    c.forget_all.ensures ∙ sym (forgotten_all c.args.self.now c.args.count all)
 
 pub returns : goal.returns
 returns c =
-    let marks = c.self.inside.marks.items in
-    let current = c.self.inside.current.items in
-    let how : c.len.result - c.args.count ≡ length (states_below (map changes_in marks) current) - c.args.count = ap (λ n. n - c.args.count) (c.len.ensures ∙ c.self.inside.marks.ok.0 ∙ sym (marks_counted changes_in marks current)) in
-    (λ i. record { current = current; below = forgotten changes_in marks c.keep_newest.new.marks.items current (c.len.result - c.args.count) c.args.count c.keep_newest.ensures how i })
-    ∙ ap (without_first c.args.count) c.self.view_is
+    let inside = c.self.inside in
+    let older = inside.older.items in
+    let counted : c.len-older.result ≡ length older = c.len-older.ensures ∙ inside.older.ok.0 in
+    forgotten_first changes_in inside.is_marked inside.newest.items older c.keep_newest.new.marks.items inside.current.items c.args.self.now c.args.count c.self.view_is
+    (omega (arith, counted, c.if-older-count.false))
+    (c.keep_newest.ensures ∙ ap (λ n. take (n - c.args.count) older) counted)

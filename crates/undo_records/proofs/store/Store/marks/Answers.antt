@@ -1,11 +1,10 @@
-use Rattle.std.proofs.Common.{◌∙◌, ap, sym, length}
+use Rattle.std.proofs.Common.{arith}
 use Rattle.undo_records.specs.Changes.{changes_in}
-use Rattle.undo_records.specs.Written.{marks_counted}
+use Rattle.undo_records.proofs.Marked.{counted}
 use Rattle.undo_records.proofs.store.Store.marks.Goals as goal
 
 pub returns : goal.returns
 returns c =
-    c.len.ensures
-    ∙ c.self.inside.marks.ok.0
-    ∙ sym (marks_counted changes_in c.self.inside.marks.items c.self.inside.current.items)
-    ∙ ap (λ v. length v.below) c.self.view_is
+    let inside = c.self.inside in
+    let all = counted changes_in inside.is_marked inside.newest.items inside.older.items inside.current.items c.args.self.now c.self.view_is c.if-not-self.false in
+    omega (arith, all, inside.older.ok.0, c.len.ensures)

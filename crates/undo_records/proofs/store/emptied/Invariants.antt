@@ -1,5 +1,5 @@
 use Rattle.std.proofs.Common.{length}
-use Rattle.undo_records.proofs.store.keep_room.Given as goal
+use Rattle.undo_records.proofs.store.emptied.Given as goal
 
 abbrev pub decreases-loop-scalar : goal.decreases-loop-scalar
 decreases-loop-scalar l = length l.changes.items
