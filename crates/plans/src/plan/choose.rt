@@ -1,7 +1,6 @@
 //! The enabled actions of a task, and the one that a turn takes.
 ghost use Rattle.std.specs.Prelude.{◌≡◌, ◌++◌, ◌<◌, ◌%◌, IfOk, OnOk, Some, option_copied, map, slice_get, length};
 ghost use Rattle.std.specs.Option.{option_map};
-ghost use Rattle.plans.specs.Alike.{alike, Tells};
 ghost use Rattle.plans.specs.Automata.{component_at, transition_of};
 ghost use Rattle.plans.specs.Outcomes.{task_of, enabled_of, enabled_by, outcome_of};
 ghost use Rattle.plans.specs.Tuples.{many};
@@ -83,19 +82,40 @@ impl Plan {
         let numbers = self.alike(i);
         let places = self.task(i, task);
         if places.len() == 1 {
-            let number = number_at(numbers, places[0]);
-            if number > 0 {
-                if let Some(entry) = entry_among(entries, places[0]) {
-                    let holding = holds(alloc, entry, formals, &[], cells)?;
-                    if !holding {
-                        return Ok(None);
-                    }
-                    return action_at(alloc, entry, formals, number, choice as usize % number);
+            if let Some(entry) = entry_among(entries, places[0]) {
+                let number = number_at(numbers, places[0]);
+                if number == 0 {
+                    return outcome_of_each(alloc, entry, formals, choice, cells);
                 }
+                let holding = holds(alloc, entry, formals, &[], cells)?;
+                if !holding {
+                    return Ok(None);
+                }
+                return action_at(alloc, entry, formals, number, choice as usize % number);
             }
         }
         outcome_of_several(alloc, entries, numbers, formals, places, choice, cells)
     }
+}
+
+// The outcome of one entry whose condition is asked for each tuple.
+#[inline(never)]
+fn outcome_of_each<C: Cells>(
+    alloc: Global,
+    entry: &Entry,
+    formals: &[Scalar],
+    choice: u32,
+    cells: &C,
+) -> Result<Option<Action>, NoMemory>
+    ensures { IfOk result (λ found. let enabled = enabled_by formals.now (C.values cells.now)
+        (Some (transition_of entry.now)) in found ≡ slice_get enabled (choice % length enabled)) }
+{
+    let enabled = count_each(alloc, entry, formals, cells)?;
+    if enabled == 0 {
+        return Ok(None);
+    }
+    let at = choice as usize % enabled;
+    action_asked(alloc, entry, formals, enabled, at, cells)
 }
 
 fn add_entry<C: Cells>(
