@@ -1,5 +1,5 @@
 -- A condition that mentions no parameter holds for all tuples of its entry, or for none.
-use Rattle.std.specs.Prelude.{◌≡◌, ℕ, zero, suc, Bool as Truth, true, false, cond, List, [], ◌∷◌, map, filter, length, slice_get, Option, None, Some, refl}
+use Rattle.std.specs.Prelude.{◌≡◌, ℕ, zero, suc, ◌<◌, Bool as Truth, true, false, ◌||◌, cond, List, [], ◌∷◌, map, filter, length, slice_get, Option, None, Some, refl}
 use Rattle.std.specs.declared.vec.Vec.{Vec}
 use Rattle.std.specs.Global.{Global}
 use Rattle.std.proofs.Common.{arith, ap, sym, ◌∙◌, subst}
@@ -10,14 +10,16 @@ use Rattle.terms.specs.Mentions.{same_for_all}
 use Rattle.terms.specs.declared.scalar.Scalar.{Scalar}
 use Rattle.plans.specs.declared.automaton.Automaton.{Automaton}
 use Rattle.plans.specs.declared.automaton.Component.{Component}
-use Rattle.plans.specs.Asked.{asks, asks_in, Tells, flag_or_true, flags_or_none}
-use Rattle.plans.specs.Automata.{Transition, composed, component_at, placed}
+use Rattle.plans.specs.declared.automaton.Kind.TheVariants.{Input}
+use Rattle.plans.specs.Alike.{asks, alike, alike_in, Tells, number_or_none, numbers_or_none}
+use Rattle.plans.specs.Automata.{Transition, composed, component_at, placed, items_in}
 use Rattle.plans.specs.Outcomes.{enabled_by, named, tuples}
-use Rattle.plans.specs.Patterns.{flags_of}
 use Rattle.plans.specs.Plans.{component_found, instance_in}
 use Rattle.plans.specs.Steps.{holds, scope_in}
-use Rattle.plans.specs.Tuples.{many}
-use Rattle.plans.proofs.Placed.{tuples_length}
+use Rattle.plans.specs.Signatures.{same_kind}
+use Rattle.plans.specs.Tuples.{many, tuple_at}
+use Rattle.plans.proofs.Placed.{tuples_length, tuple_there}
+use Rattle.plans.proofs.Among.{all_there}
 
 -- it holds for these arguments where it holds for none
 holds_alike : (entry : Transition) (formals : List Scalar) (state : List Datum) (args : List Scalar) → asks entry ≡ false → holds entry formals state args ≡ holds entry formals state []
@@ -47,51 +49,86 @@ all_or_none entry formals state holding count unasked is count_is = go holding i
       ∙ sym (ap (λ ts. length (map (named entry.name) ts)) (kept true is))
   go false is count_is = count_is ∙ sym (ap (λ ts. length (map (named entry.name) ts)) (kept false is))
 
--- a flag beside the entries tells of the entry at its place
-pub tells_there : (ts : List Transition) (flags : List Truth) (place : ℕ) (flag : Truth) (entry : Option Transition) → flags ≡ map asks ts → flag ≡ flag_or_true (slice_get flags place) → entry ≡ slice_get ts place → Tells flag entry
-tells_there ts flags place flag entry all is at = subst (Tells flag) (sym at) (go ts place flag (is ∙ ap (λ fs. flag_or_true (slice_get fs place)) all)) where
-  go : (ts : List Transition) (place : ℕ) (flag : Truth) → flag ≡ flag_or_true (slice_get (map asks ts) place) → Tells flag (slice_get ts place)
-  go [] place flag is = refl
-  go (t ∷ ts) zero flag is = is
-  go (t ∷ ts) (suc place) flag is = go ts place flag is
+-- where an action is at a place among the enabled ones of such an entry, it is that of the tuple there
+pub alike_found : (entry : Transition) (formals : List Scalar) (state : List Datum) (enabled at : ℕ) → asks entry ≡ false → enabled ≡ length (enabled_by formals state (Some entry)) → at < enabled → (at < many entry.params) × (Some (named entry.name (tuple_at formals entry.params at)) ≡ slice_get (enabled_by formals state (Some entry)) at)
+alike_found entry formals state enabled at unasked is below = go (holds entry formals state []) refl where
+  test : List Scalar → Truth
+  test = holds entry formals state
 
-abbrev asked_of : Option Automaton → List Truth
-asked_of None = []
-asked_of (Some automaton) = asks_in automaton
+  go : (b : Truth) → b ≡ holds entry formals state [] → (at < many entry.params) × (Some (named entry.name (tuple_at formals entry.params at)) ≡ slice_get (enabled_by formals state (Some entry)) at)
+  go true holding =
+      let all = all_or_none entry formals state true (many entry.params) unasked holding refl in
+      let few : at < many entry.params = omega (arith, all, is, below) in
+      let long = tuples_length formals entry.params in
+      let within : at < length (tuples formals entry.params) = omega (arith, few, long) in
+      let every : length (map (named entry.name) (filter test (tuples formals entry.params))) ≡ length (tuples formals entry.params) = sym all ∙ sym long in
+      let there = tuple_there formals entry.params at (tuple_at formals entry.params at) few in
+      (few, all_there entry.name test (tuples formals entry.params) at (tuple_at formals entry.params at) within there every)
+  go false holding =
+      let none = all_or_none entry formals state false 0 unasked holding refl in
+      absurd (omega (arith, none, is, below))
 
--- the flags of an automaton, from where they stand beside it
-beside : (automata : List Automaton) (flags : List (Vec Truth Global)) (k : ℕ) → map flags_of flags ≡ map asks_in automata → flags_or_none (slice_get flags k) ≡ asked_of (slice_get automata k)
-beside automata flags k all = left flags k ∙ ap (λ lists. or_nothing (slice_get lists k)) all ∙ sym (right automata k) where
-  or_nothing : Option (List Truth) → List Truth
+-- a number beside the entries tells of the entry at its place
+pub tells_there : (ts : List Transition) (numbers : List ℕ) (place : ℕ) (number : ℕ) (entry : Option Transition) → numbers ≡ map alike ts → number ≡ number_or_none (slice_get numbers place) → entry ≡ slice_get ts place → Tells number entry
+tells_there ts numbers place number entry all is at = subst (Tells number) (sym at) (go ts place number (is ∙ ap (λ ns. number_or_none (slice_get ns place)) all)) where
+  go : (ts : List Transition) (place : ℕ) (number : ℕ) → number ≡ number_or_none (slice_get (map alike ts) place) → Tells number (slice_get ts place)
+  go [] place number is = refl
+  go (t ∷ ts) zero number is = is
+  go (t ∷ ts) (suc place) number is = go ts place number is
+
+-- where a number is there, the condition mentions no parameter
+pub unasked : (entry : Transition) (number : ℕ) → number ≡ alike entry → 0 < number → asks entry ≡ false
+unasked entry number is some = go (same_kind Input entry.kind) (asks entry) (subst (λ (n : ℕ). 0 < n) is some) where
+  go : (a b : Truth) → 0 < cond (a || b) 0 (many entry.params) → b ≡ false
+  go true b h = absurd (omega (arith, h))
+  go false true h = absurd (omega (arith, h))
+  go false false h = refl
+
+-- and is that of the tuples
+pub counted : (entry : Transition) (number : ℕ) → number ≡ alike entry → 0 < number → number ≡ many entry.params
+counted entry number is some = is ∙ go (same_kind Input entry.kind) (asks entry) (subst (λ (n : ℕ). 0 < n) is some) where
+  go : (a b : Truth) → 0 < cond (a || b) 0 (many entry.params) → cond (a || b) 0 (many entry.params) ≡ many entry.params
+  go true b h = absurd (omega (arith, h))
+  go false true h = absurd (omega (arith, h))
+  go false false h = refl
+
+abbrev told_of : Option Automaton → List ℕ
+told_of None = []
+told_of (Some automaton) = alike_in automaton
+
+-- the numbers of an automaton, from where they stand beside it
+beside : (automata : List Automaton) (numbers : List (Vec ℕ Global)) (k : ℕ) → map items_in numbers ≡ map alike_in automata → numbers_or_none (slice_get numbers k) ≡ told_of (slice_get automata k)
+beside automata numbers k all = left numbers k ∙ ap (λ lists. or_nothing (slice_get lists k)) all ∙ sym (right automata k) where
+  or_nothing : Option (List ℕ) → List ℕ
   or_nothing None = []
   or_nothing (Some list) = list
 
-  left : (flags : List (Vec Truth Global)) (k : ℕ) → flags_or_none (slice_get flags k) ≡ or_nothing (slice_get (map flags_of flags) k)
+  left : (numbers : List (Vec ℕ Global)) (k : ℕ) → numbers_or_none (slice_get numbers k) ≡ or_nothing (slice_get (map items_in numbers) k)
   left [] k = refl
-  left (f ∷ flags) zero = refl
-  left (f ∷ flags) (suc k) = left flags k
+  left (n ∷ numbers) zero = refl
+  left (n ∷ numbers) (suc k) = left numbers k
 
-  right : (automata : List Automaton) (k : ℕ) → asked_of (slice_get automata k) ≡ or_nothing (slice_get (map asks_in automata) k)
+  right : (automata : List Automaton) (k : ℕ) → told_of (slice_get automata k) ≡ or_nothing (slice_get (map alike_in automata) k)
   right [] k = refl
   right (a ∷ automata) zero = refl
   right (a ∷ automata) (suc k) = right automata k
 
--- the flags of a component are those of its automaton
-pub asked_there : (automata : List Automaton) (components : List Component) (flags : List (Vec Truth Global)) (i : ℕ) (component : Component) (found : List Truth) → map flags_of flags ≡ map asks_in automata → Some component ≡ slice_get components i → found ≡ flags_or_none (slice_get flags component.automaton) → found ≡ map asks (component_at (composed automata components) i).entries
-asked_there automata components flags i component found all here is =
+-- the numbers of a component are those of its automaton
+pub alike_there : (automata : List Automaton) (components : List Component) (numbers : List (Vec ℕ Global)) (i : ℕ) (component : Component) (found : List ℕ) → map items_in numbers ≡ map alike_in automata → Some component ≡ slice_get components i → found ≡ numbers_or_none (slice_get numbers component.automaton) → found ≡ map alike (component_at (composed automata components) i).entries
+alike_there automata components numbers i component found all here is =
     is
-    ∙ beside automata flags component.automaton all
-    ∙ asked component (slice_get automata component.automaton) refl
-    ∙ sym (ap (λ x. map asks x.entries) (component_found automata components i ∙ ap (instance_in automata) (sym here))) where
-      asked : (component : Component) (found : Option Automaton) → slice_get automata component.automaton ≡ found → asked_of (slice_get automata component.automaton) ≡ map asks (instance_in automata (Some component)).entries
-      asked component found at = go found at where
-        go : (found : Option Automaton) → slice_get automata component.automaton ≡ found → asked_of (slice_get automata component.automaton) ≡ map asks (instance_in automata (Some component)).entries
-        go None at = ap asked_of at ∙ sym (ap (λ a. map asks (placed component.formals.items a).entries) at)
-        go (Some automaton) at = ap asked_of at ∙ sym (ap (λ a. map asks (placed component.formals.items a).entries) at)
+    ∙ beside automata numbers component.automaton all
+    ∙ told component (slice_get automata component.automaton) refl
+    ∙ sym (ap (λ x. map alike x.entries) (component_found automata components i ∙ ap (instance_in automata) (sym here))) where
+      told : (component : Component) (found : Option Automaton) → slice_get automata component.automaton ≡ found → told_of (slice_get automata component.automaton) ≡ map alike (instance_in automata (Some component)).entries
+      told component found at = go found at where
+        go : (found : Option Automaton) → slice_get automata component.automaton ≡ found → told_of (slice_get automata component.automaton) ≡ map alike (instance_in automata (Some component)).entries
+        go None at = ap told_of at ∙ sym (ap (λ a. map alike (placed component.formals.items a).entries) at)
+        go (Some automaton) at = ap told_of at ∙ sym (ap (λ a. map alike (placed component.formals.items a).entries) at)
 
 -- what is no component has no entries
-pub none_asked : (automata : List Automaton) (components : List Component) (i : ℕ) → None ≡ slice_get components i → [] ≡ map asks (component_at (composed automata components) i).entries
-none_asked automata components i here = sym (ap (λ x. map asks x.entries) (component_found automata components i ∙ ap (instance_in automata) (sym here)))
+pub none_alike : (automata : List Automaton) (components : List Component) (i : ℕ) → None ≡ slice_get components i → [] ≡ map alike (component_at (composed automata components) i).entries
+none_alike automata components i here = sym (ap (λ x. map alike x.entries) (component_found automata components i ∙ ap (instance_in automata) (sym here)))
 
 -- where there are none, none is found
 pub none_of : {X : Type 0} (xs : List X) (count k : ℕ) → count ≡ length xs → count ≡ 0 → None ≡ slice_get xs k

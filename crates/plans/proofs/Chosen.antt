@@ -1,8 +1,8 @@
 -- The entry in which an action stands, by how many each entry has.
-use Rattle.std.specs.Prelude.{◌≡◌, ℕ, zero, suc, ◌+◌, ◌-◌, ◌<◌, ◌≤◌, List, [], ◌∷◌, ◌++◌, map, sum, length, drop, get_or, slice_get, refl}
+use Rattle.std.specs.Prelude.{◌≡◌, ℕ, zero, suc, ◌+◌, ◌-◌, ◌<◌, ◌≤◌, List, [], ◌∷◌, ◌++◌, map, sum, length, take, drop, get_or, slice_get, refl}
 use Rattle.std.specs.List.{flat_map, fold}
-use Rattle.std.proofs.Common.{arith, ap, sym, ◌∙◌, zero-add}
-use Rattle.std.proofs.lemmas.List.{length-append, drop_more, get_or-map}
+use Rattle.std.proofs.Common.{arith, ap, sym, ◌∙◌, zero-add, set}
+use Rattle.std.proofs.lemmas.List.{length-append, drop_more, get_or-map, take_more_set, map_more}
 
 module _ {X : Type 0} where
   pub get_within : (xs ys : List X) (k : ℕ) → k < length xs → slice_get (xs ++ ys) k ≡ slice_get xs k
@@ -55,3 +55,18 @@ module _ {X : Type 0} (f : ℕ → List X) where
   stands_later xs k d left count below is past =
       ap (λ (n : ℕ). slice_get (flat_map f (drop (k + 1) xs)) (left - n)) is
       ∙ sym (ap (λ ys. slice_get ys left) (split xs k d below) ∙ get_past (f (get_or xs k d)) (flat_map f (drop (k + 1) xs)) left (omega (arith, is, past)))
+
+  -- one entry more is counted
+  pub counted_next : (xs : List ℕ) (k d total next count : ℕ) → k < length xs → count ≡ length (f (get_or xs k d)) → next ≡ total + count → total + length (flat_map f (drop k xs)) ≡ length (flat_map f xs) → next + length (flat_map f (drop (k + 1) xs)) ≡ length (flat_map f xs)
+  counted_next xs k d total next count below is after before =
+      let here = ap length (split xs k d below) ∙ length-append (f (get_or xs k d)) (flat_map f (drop (k + 1) xs)) in
+      omega (arith, here, is, after, before)
+
+  -- and noted
+  pub noted_next : (xs counts new : List ℕ) (k d count : ℕ) → k < length xs → length counts ≡ length xs → count ≡ length (f (get_or xs k d)) → new ≡ set counts k count → take k counts ≡ map (λ x. length (f x)) (take k xs) → take (k + 1) new ≡ map (λ x. length (f x)) (take (k + 1) xs)
+  noted_next xs counts new k d count below long is new_is before =
+      let within : k < length counts = omega (arith, below, long) in
+      ap (take (k + 1)) new_is
+      ∙ take_more_set counts k count within
+      ∙ (λ i. before i ++ is i ∷ [])
+      ∙ sym (map_more (λ x. length (f x)) xs k d below)

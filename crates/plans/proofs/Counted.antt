@@ -7,7 +7,7 @@ use Rattle.plans.specs.declared.automaton.Param.{Param}
 use Rattle.plans.specs.declared.automaton.Param.TheVariants.{Const, Member, Between, Whole}
 use Rattle.plans.specs.Tuples.{many, choices}
 
-many_first : (param : Param) (params : List Param) → many (param ∷ params) ≡ choices param * many params
+pub many_first : (param : Param) (params : List Param) → many (param ∷ params) ≡ choices param * many params
 many_first (Const n) params = sym (one-mul (many params))
 many_first (Member listed) params = refl
 many_first (Between low high) params = sym (zero-mul (many params))

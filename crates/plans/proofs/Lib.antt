@@ -7,4 +7,5 @@ mod Fitting
 mod Noted
 mod OneEntry
 mod Pairs
+mod Picked
 mod Placed

@@ -44,7 +44,7 @@ tuples_length formals (Member listed ∷ params) =
 tuples_length formals (Between low high ∷ params) = refl
 tuples_length formals (Whole ∷ params) = refl
 
-positive : (n a k : ℕ) → k < a * n → 0 < n
+pub positive : (n a k : ℕ) → k < a * n → 0 < n
 positive zero a k below = let none = mul-zero a in absurd (omega (arith, below, none))
 positive (suc n) a k below = omega arith
 

@@ -1,4 +1,4 @@
-pub mod Asked
+pub mod Alike
 pub mod Automata
 pub mod Compatible
 pub mod Each

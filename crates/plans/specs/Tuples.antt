@@ -1,10 +1,11 @@
 -- The tuples of arguments that an entry stands for, by their places.
-use Rattle.std.specs.Prelude.{ℕ, ◌*◌, ◌/◌, ◌%◌, List, [], ◌∷◌, length, map, slice_get}
+use Rattle.std.specs.Prelude.{ℕ, pos, ◌*◌, ◌/◌, ◌%◌, List, [], ◌∷◌, length, map, slice_get}
 use Rattle.terms.specs.Datum.{Datum}
 use Rattle.terms.specs.Named.{Named}
 use Rattle.terms.specs.Meaning.{slot}
 use Rattle.terms.specs.Shapes.{count, member}
 use Rattle.terms.specs.declared.scalar.Scalar.{Scalar}
+use Rattle.terms.specs.declared.scalar.Scalar.TheVariants.{Int}
 use Rattle.plans.specs.declared.automaton.Param.{Param}
 use Rattle.plans.specs.declared.automaton.Param.TheVariants.{Const, Member, Between, Whole}
 use Rattle.plans.specs.declared.automaton.Entry.{Entry}
@@ -25,6 +26,13 @@ choices (Const n) = 1
 choices (Member listed) = count listed
 choices (Between low high) = 0
 choices Whole = 0
+
+-- the value of a parameter at a place, or the whole number 0 where its values are not listed
+abbrev pub picked : List Scalar → Param → ℕ → Scalar
+picked formals (Const n) at = slot formals n
+picked formals (Member listed) at = member listed at
+picked formals (Between low high) at = Int (pos 0)
+picked formals Whole at = Int (pos 0)
 
 -- the tuple at a place: what follows a listed parameter changes faster
 abbrev pub tuple_at : List Scalar → List Param → ℕ → List Scalar

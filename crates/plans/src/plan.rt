@@ -1,12 +1,12 @@
 //! A compatible composition.
 ghost use Rattle.std.specs.Prelude.{◌≡◌, ◌<◌, ◌^◌, true, false, map, vec_len};
-ghost use Rattle.plans.specs.Asked.{asks_in};
-ghost use Rattle.plans.specs.Automata.{composed};
+ghost use Rattle.plans.specs.Alike.{alike_in};
+ghost use Rattle.plans.specs.Automata.{composed, items_in};
 ghost use Rattle.plans.specs.Compatible.{IsCompatible};
-ghost use Rattle.plans.specs.Patterns.{IsIndexed, flags_of};
+ghost use Rattle.plans.specs.Patterns.{IsIndexed};
 ghost use Rattle.plans.specs.WellFormed.{IsWellFormed};
 
-mod asked;
+mod alike;
 mod choose;
 mod equal;
 mod find;
@@ -29,11 +29,11 @@ pub struct Plan {
     members: Vec<String>,
     index: Box<Index>,
     entries: Box<Index>,
-    asks: Vec<Vec<bool>>,
+    alike: Vec<Vec<usize>>,
     ghost few: { vec_len components < 2 ^ 16 },
     ghost compatible: { IsCompatible (composed automata.items components.items) },
     ghost formed: { IsWellFormed (composed automata.items components.items) },
     ghost indexed: { ∥ IsIndexed false index.value (composed automata.items components.items) ∥₁ },
-    ghost asked: { map flags_of asks.items ≡ map asks_in automata.items },
+    ghost told: { map items_in alike.items ≡ map alike_in automata.items },
     ghost entered: { ∥ IsIndexed true entries.value (composed automata.items components.items) ∥₁ },
 }

@@ -1,11 +1,11 @@
 //! The parts of a component.
 ghost use Rattle.std.specs.Prelude.{◌≡◌, map, length};
-ghost use Rattle.plans.specs.Asked.{asks};
+ghost use Rattle.plans.specs.Alike.{alike};
 ghost use Rattle.plans.specs.Automata.{component_at, transition_of, items_in};
 
 use crate::automaton::{Automaton, Entry};
 use crate::plan::Plan;
-use crate::plan::asked::flags_at;
+use crate::plan::alike::numbers_at;
 use terms::{Scalar, Term};
 
 #[tactic(auto, using(crate::specs::Plans::component_found))]
@@ -43,13 +43,13 @@ impl Plan {
         }
     }
 
-    /// Of each entry whether its condition mentions a parameter of the action.
-    pub(super) fn asks(&self, i: u16) -> &[bool]
-        ensures { result.now ≡ map asks (component_at (composition self.now) i).entries }
+    /// Of each entry how many tuples it has, where its condition mentions no parameter of the action.
+    pub(super) fn alike(&self, i: u16) -> &[usize]
+        ensures { result.now ≡ map alike (component_at (composition self.now) i).entries }
     {
-        let flags = self.asks.as_slice();
+        let numbers = self.alike.as_slice();
         match self.components.get(i as usize) {
-            Some(component) => flags_at(flags, component.automaton),
+            Some(component) => numbers_at(numbers, component.automaton),
             None => &[],
         }
     }

@@ -9,7 +9,7 @@ ghost use Rattle.plans.specs.WellFormed.{IsWellFormed};
 use crate::automaton::{ActionName, Automaton, Component};
 use crate::index::Index;
 use crate::plan::Plan;
-use crate::plan::asked::asks_of;
+use crate::plan::alike::alike_of;
 use std::alloc::Global;
 use terms::NoMemory;
 
@@ -33,7 +33,7 @@ impl Plan {
     {
         let index = index_of(alloc, automata.as_slice(), components.as_slice(), false)?;
         let entries = index_of(alloc, automata.as_slice(), components.as_slice(), true)?;
-        let asks = asks_of(alloc, automata.as_slice())?;
+        let alike = alike_of(alloc, automata.as_slice())?;
         Ok(Plan {
             automata,
             components,
@@ -41,7 +41,7 @@ impl Plan {
             members,
             index,
             entries,
-            asks,
+            alike,
         })
     }
 }

@@ -16,10 +16,13 @@ impl Plan {
     ghost use Rattle.plans.specs.Steps.{entry_in};
     ghost use Rattle.plans.specs.Plans.{composition};
 
+    #[inline(always)]
     pub(super) fn entry(&self, i: u16, action: &Action) -> Option<&Entry>
         ensures { option_map transition_of (option_copied result) ≡ entry_in (component_at (composition self.now) i) action.now }
     {
-        first_with(self.entries(i), self.formals(i), action)
+        let name = name_of(action);
+        let args = args_of(action);
+        first_with(self.entries(i), self.formals(i), name, args)
     }
 
     /// The kind under which component `i` has an action in its own signature, or none where it doesn't have it.
@@ -48,6 +51,8 @@ impl Plan {
         }
     }
 
+    #[cold]
+    #[inline(never)]
     fn receivers_merged(
         &self,
         alloc: Global,
@@ -62,6 +67,7 @@ impl Plan {
         receivers
     }
 
+    #[inline(always)]
     #[tactic(auto, using(crate::specs::Rows::filter_next))]
     fn receivers_among(
         &self,
@@ -150,10 +156,31 @@ impl Plan {
     }
 }
 
-fn first_with<'a>(entries: &'a [Entry], formals: &[Scalar], action: &Action) -> Option<&'a Entry>
-    ensures { option_copied result ≡ find (λ entry. has formals.now action.now (transition_of entry)) entries.now }
+#[inline(always)]
+fn name_of(action: &Action) -> u16
+    ensures { result ≡ action.now.name }
 {
-    entries.iter().find(|entry| has(formals, action, entry))
+    action.name
+}
+
+#[inline(always)]
+fn args_of(action: &Action) -> &[Scalar]
+    ensures { result.now ≡ action.now.args }
+{
+    action.args.as_slice()
+}
+
+#[inline(always)]
+fn first_with<'a>(
+    entries: &'a [Entry],
+    formals: &[Scalar],
+    name: u16,
+    args: &[Scalar],
+) -> Option<&'a Entry>
+    ensures { option_copied result ≡ find (λ entry. has formals.now
+        (record { name = name; args = args.now }) (transition_of entry)) entries.now }
+{
+    entries.iter().find(|entry| has(formals, name, args, entry))
 }
 
 fn push_if(numbers: &mut SmallVec<u16, 8>, test: bool, number: u16) -> Result<(), NoMemory>
@@ -234,8 +261,19 @@ fn is_slot(formals: &[Scalar], n: usize, value: &Scalar) -> bool
     }
 }
 
+// Most parameters stand for a formal.
 #[inline(always)]
 fn fits_one(formals: &[Scalar], param: &Param, value: &Scalar) -> bool
+    ensures { result ≡ fits_one formals.now param.now value.now }
+{
+    if let Param::Const(n) = param {
+        return is_slot(formals, *n, value);
+    }
+    fits_other(formals, param, value)
+}
+
+#[inline(always)]
+fn fits_other(formals: &[Scalar], param: &Param, value: &Scalar) -> bool
     ensures { result ≡ fits_one formals.now param.now value.now }
 {
     match param {
@@ -269,8 +307,10 @@ fn fits(formals: &[Scalar], params: &[Param], args: &[Scalar]) -> bool
     true
 }
 
-fn has(formals: &[Scalar], action: &Action, entry: &Entry) -> bool
-    ensures { result ≡ has formals.now action.now (transition_of entry.now) }
+#[inline(always)]
+fn has(formals: &[Scalar], name: u16, args: &[Scalar], entry: &Entry) -> bool
+    ensures { result ≡ has formals.now (record { name = name; args = args.now })
+        (transition_of entry.now) }
 {
-    entry.name == action.name && fits(formals, entry.params.as_slice(), action.args.as_slice())
+    entry.name == name && fits(formals, entry.params.as_slice(), args)
 }

@@ -24,7 +24,7 @@ pub(super) fn count_all(params: &[Param]) -> Result<usize, NoMemory>
 
 // How many values a parameter ranges over; none where they aren't listed.
 #[inline(always)]
-fn choices(param: &Param) -> u16
+pub(super) fn choices(param: &Param) -> u16
     ensures { result ≡ choices param.now }
 {
     match param {

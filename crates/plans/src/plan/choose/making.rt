@@ -1,0 +1,114 @@
+//! The action of a tuple, made once and where it stays.
+ghost use Rattle.std.specs.Prelude.{◌≡◌, ◌<◌, ◌∷◌, [], IfOk, Some};
+ghost use Rattle.plans.specs.Tuples.{many, tuple_at, picked};
+
+use crate::automaton::{Entry, Param};
+use crate::plan::tuples::{choices, put_tuple};
+use smallvec::SmallVec;
+use std::alloc::Global;
+use terms::evaluate::slot_of;
+use terms::{Action, NoMemory, Scalar, parts};
+
+/// The action of the tuple at a place among the `count` ones of an entry. It stays a call, so that idle turns need no room for
+/// what it makes.
+#[inline(never)]
+pub(super) fn action_at(
+    alloc: Global,
+    entry: &Entry,
+    formals: &[Scalar],
+    count: usize,
+    at: usize,
+) -> Result<Option<Action>, NoMemory>
+    requires count { count ≡ many entry.now.params.items }
+    requires below { at < count }
+    ensures { IfOk result (λ found. found ≡ Some (record {
+      name = entry.now.name;
+      args = tuple_at formals.now entry.now.params.items at;
+    })) }
+{
+    let name = entry.name;
+    match entry.params.as_slice() {
+        [only] => Ok(Some(Action {
+            name,
+            args: one_at(alloc, formals, only, at),
+        })),
+        [first, second] => Ok(Some(Action {
+            name,
+            args: two_at(alloc, formals, first, second, at),
+        })),
+        params => Ok(Some(Action {
+            name,
+            args: many_at(alloc, formals, params, count, at)?,
+        })),
+    }
+}
+
+#[inline(always)]
+fn one_at(alloc: Global, formals: &[Scalar], only: &Param, at: usize) -> SmallVec<Scalar, 2>
+    requires below { at < many (only.now ∷ []) }
+    ensures { result.items ≡ tuple_at formals.now (only.now ∷ []) at }
+{
+    let mut args = SmallVec::new(alloc);
+    args.push_reserved(picked(formals, only, at));
+    args
+}
+
+#[inline(always)]
+fn two_at(
+    alloc: Global,
+    formals: &[Scalar],
+    first: &Param,
+    second: &Param,
+    at: usize,
+) -> SmallVec<Scalar, 2>
+    requires below { at < many (first.now ∷ second.now ∷ []) }
+    ensures { result.items ≡ tuple_at formals.now (first.now ∷ second.now ∷ []) at }
+{
+    if let Param::Const(n) = first {
+        return SmallVec::from_buf(alloc, [slot_of(formals, *n), picked(formals, second, at)]);
+    }
+    let rest = usize::from(choices(second));
+    SmallVec::from_buf(
+        alloc,
+        [
+            picked(formals, first, at / rest),
+            picked(formals, second, at % rest),
+        ],
+    )
+}
+
+// The value of a parameter at a place.
+#[inline(always)]
+fn picked(formals: &[Scalar], param: &Param, at: usize) -> Scalar
+    requires { at < many (param.now ∷ []) }
+    ensures { result ≡ picked formals.now param.now at }
+{
+    match param {
+        Param::Const(n) => slot_of(formals, *n),
+        Param::Member(listed) => {
+            let _many = parts::count_of(*listed);
+            parts::member_at(*listed, at as u16)
+        }
+        Param::Between(_, _) => Scalar::Int(0),
+        Param::Whole => Scalar::Int(0),
+    }
+}
+
+// Any number of arguments.
+#[cold]
+#[inline(never)]
+fn many_at(
+    alloc: Global,
+    formals: &[Scalar],
+    params: &[Param],
+    count: usize,
+    at: usize,
+) -> Result<SmallVec<Scalar, 2>, NoMemory>
+    requires count { count ≡ many params.now }
+    requires below { at < count }
+    ensures { IfOk result (λ args. args.items ≡ tuple_at formals.now params.now at) }
+{
+    let mut args = vec![in alloc; Scalar::Int(0); params.len()]?;
+    put_tuple(formals, params, count, at, args.as_mut_slice(), 0);
+    Ok(SmallVec::from_vec(args))
+}
