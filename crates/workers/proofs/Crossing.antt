@@ -56,7 +56,7 @@ module _ (T : RattleType) where
 
 module _ (T : RattleType) (g : turns.Ghosts T.Denot) (e : equal.Ghosts T.Denot) where
   pub Component-send : IsSend T → IsSync T → IsSend (Component.the_row T g e)
-  Component-send s y = search (Setup-send, Setup-sync, crossing.Arc-send, option.the_field_send, bound.the_field_send, key.the_send, signed.the_send, event_list.the_send, done.the_send, arc.the_send, vec.the_send, vec_deque.the_send, scalar.the_send, crossing.crosses, value.crosses, effect.crosses, shape.crosses, term.crosses, sendable) depth 60 fits 20000
+  Component-send s y = search (Setup-send, Setup-sync, crossing.Arc-send, option.the_field_send, bound.the_field_send, key.the_send, signed.the_send, turned.the_send, event_list.the_send, done.the_send, arc.the_send, vec.the_send, vec_deque.the_send, scalar.the_send, crossing.crosses, value.crosses, effect.crosses, shape.crosses, term.crosses, sendable) depth 60 fits 20000
 
   pub Lease-send : IsSend T → IsSync T → IsSend (Lease.the_row T g e)
   Lease-send s y = search (Component-send, bag.the_send, bound.the_field_send, copies.the_field_send, crossing.crosses, value.crosses, effect.crosses, shape.crosses, term.crosses, sendable) depth 60 fits 20000
@@ -68,10 +68,10 @@ module _ (T : RattleType) (g : turns.Ghosts T.Denot) (e : equal.Ghosts T.Denot) 
   Paced-send s y = search (Lease-send, pace.the_field_send, pace.the_send, crossing.crosses, value.crosses, effect.crosses, shape.crosses, term.crosses, sendable) depth 60 fits 20000
 
   pub Lent-send : IsSend T → IsSync T → IsSend (Lent.the_row T g e)
-  Lent-send s y = search (Exchange-send, crossing.crosses, effect.crosses, shape.crosses, term.crosses, sendable) depth 60 fits 20000
+  Lent-send s y = search (Exchange-send, turned.the_send, event_list.the_send, crossing.crosses, effect.crosses, shape.crosses, term.crosses, sendable) depth 60 fits 20000
 
   pub Worker-send : IsSend T → IsSync T → IsSend (Worker.the_row T g e)
-  Worker-send s y = search (Setup-send, Paced-send, Lent-send, seat.the_field_send, pass.the_field_send, crossing.crosses, value.crosses, effect.crosses, shape.crosses, term.crosses, sendable) depth 60 fits 20000
+  Worker-send s y = search (Setup-send, Paced-send, Lent-send, turned.the_send, event_list.the_send, seat.the_field_send, pass.the_field_send, crossing.crosses, value.crosses, effect.crosses, shape.crosses, term.crosses, sendable) depth 60 fits 20000
 
   pub Shared-sync : (q : whole_equal.Ghosts T.Denot) → IsSend T → IsSync T → IsSync (Shared.the_row T g q e)
   Shared-sync q s y = search (Setup-send, Paced-send, Lent-send, atomic_bool.the_field_sync, option.the_field_send, option.the_send, mutex.the_sync, meet_refused.the_field_send, published.the_field_sync, pool.the_field_sync, crossing.crosses, value.crosses, effect.crosses, shape.crosses, term.crosses, sendable) depth 60 fits 20000
