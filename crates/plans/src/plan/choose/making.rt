@@ -4,10 +4,11 @@ ghost use Rattle.plans.specs.Tuples.{many, tuple_at, picked};
 
 use crate::automaton::{Entry, Param};
 use crate::plan::tuples::{choices, put_tuple};
+use evaluation::parts;
 use smallvec::SmallVec;
 use std::alloc::Global;
-use terms::evaluate::slot_of;
-use terms::{Action, NoMemory, Scalar, parts};
+use terms::cells::slot_of;
+use terms::{Action, NoMemory, Scalar};
 
 /// The action of the tuple at a place among the `count` ones of an entry. It stays a call, so that idle turns need no room for
 /// what it makes.

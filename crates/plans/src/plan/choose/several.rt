@@ -7,15 +7,15 @@ ghost use Rattle.plans.specs.Automata.{transition_of};
 ghost use Rattle.plans.specs.Outcomes.{enabled_by};
 ghost use Rattle.plans.specs.Steps.{scope_in};
 ghost use Rattle.plans.specs.Tuples.{enabled_in, enabled_count};
-ghost use Rattle.terms.specs.Seen.{scope};
+ghost use Rattle.terms.specs.Scopes.{scope};
 
 use crate::automaton::Entry;
 use crate::plan::alike::number_at;
 use crate::plan::choose::making::action_at;
 use crate::plan::choose::{action_asked, count_each, entry_among};
 use crate::plan::step::env_of;
+use evaluation::evaluate::is_true;
 use std::alloc::Global;
-use terms::evaluate::is_true;
 use terms::{Action, Cells, Env, NoMemory, Scalar};
 
 /// Of so many entries of a task the numbers of their actions stand on the stack.
