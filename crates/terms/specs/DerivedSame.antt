@@ -1,6 +1,5 @@
 -- The derived comparison of types compares their trees.
 use Rattle.std.specs.Prelude.{◌≡◌, ◌&&◌, nat_eq, refl}
-use Rattle.std.specs.Ordering.{int_eq}
 use Rattle.std.specs.Bool.{Decides}
 use Rattle.std.proofs.Common.{◌∙◌}
 use Rattle.std.proofs.lemmas.Bool.Decides.{Decides-at}

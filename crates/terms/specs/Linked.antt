@@ -1,7 +1,7 @@
 -- Values of terms with links, and states after effects with parts.
 use Rattle.std.specs.Prelude.{◌≡◌, ◌++◌, ℤ, Bool as Truth, drop, map, List, [], ◌∷◌, Option, None, Some, IfSome, refl}
-use Rattle.std.proofs.Common.{ap, sym, ◌∙◌, subst}
-use Rattle.terms.specs.Datum.{Datum, Just, pack, items_of, items_pack}
+use Rattle.std.proofs.Common.{ap, sym, ◌∙◌}
+use Rattle.terms.specs.Datum.{Datum, Just, items_of, items_pack}
 use Rattle.terms.specs.Shapes.{rest}
 use Rattle.terms.specs.Meaning.{Scope, combined, number, value}
 use Rattle.terms.specs.TermTree.{TermTree, LinkTree, On, Remainder, Binary, Modulo, link_on, linked, link_step, operand_step, term_step, term_tree, operand_tree, link_tree}
@@ -14,14 +14,12 @@ use Rattle.terms.specs.declared.term.Link.TheViews as made
 use Rattle.terms.specs.declared.term.Link.TheFolds.{fold-roll-Term, fold-roll-Operand}
 use Rattle.std.specs.declared.boxed.Box.{Box}
 use Rattle.std.specs.declared.alloc.Global.{Global}
-use Rattle.terms.specs.TermTree as term
 use Rattle.terms.specs.EffectTree.{EffectTree, PartTree, followed, ended, last_step, part_step, effect_step, effect_tree, last_tree, part_tree}
 use Rattle.terms.specs.declared.effect.Effect.{Effect}
 use Rattle.terms.specs.declared.effect.Part.{Part}
 use Rattle.terms.specs.declared.effect.Last.{Last}
 use Rattle.terms.specs.declared.effect.Last.TheOpen.{Effect-F}
 use Rattle.terms.specs.declared.effect.Last.TheFolds.{fold-roll-Effect}
-use Rattle.terms.specs.declared.scalar.Scalar.{Scalar}
 use Rattle.terms.specs.declared.scalar.Scalar.TheVariants.{Int, Bool}
 
 -- what a link makes of the value before it

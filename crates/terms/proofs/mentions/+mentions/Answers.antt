@@ -1,4 +1,4 @@
-use Rattle.std.proofs.Common.{◌≡◌, ◌∙◌, sym, ap, Bool as Truth, true, false, ◌||◌, refl}
+use Rattle.std.proofs.Common.{◌≡◌, ◌∙◌, sym, ap, Bool as Truth, true, false, ◌||◌}
 use Rattle.terms.specs.Mentions.{mentions_by}
 use Rattle.terms.proofs.mentions.+mentions.Goals as goal
 
