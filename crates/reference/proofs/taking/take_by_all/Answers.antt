@@ -1,6 +1,5 @@
-use Rattle.std.proofs.Common.{◌≡◌, ◌++◌, ◌∷◌, [], List, ℕ, Option, Some, ap, ◌∙◌, sym, subst}
-use Rattle.std.specs.Prelude.{OnOk, slice_get, option_map}
-use Rattle.terms.specs.Named.{Named}
+use Rattle.std.proofs.Common.{◌≡◌, ◌++◌, ◌∷◌, [], List, ℕ, Some, ap, ◌∙◌}
+use Rattle.std.specs.Prelude.{slice_get, option_map}
 use Rattle.plans.specs.Plans.{composition}
 use Rattle.task_seed.specs.Machines.{machine}
 use Rattle.task_seed.specs.Setups.{system}

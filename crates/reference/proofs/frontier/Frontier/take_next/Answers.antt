@@ -1,20 +1,18 @@
-use Rattle.std.proofs.Common.{◌≡◌, ℕ, ◌+◌, ◌<◌, ◌≤◌, Option, List, ◌∷◌, length, refl, ap, sym, subst, ◌∙◌}
-use Rattle.std.specs.Prelude.{IfSome, slice_get, slice_set}
+use Rattle.std.proofs.Common.{◌≡◌, ℕ, ◌+◌, ◌<◌, ◌≤◌, List, length, refl, ap, sym, subst, ◌∙◌}
+use Rattle.std.specs.Prelude.{slice_set}
 use Rattle.std.specs.Vec.{with_items}
 use Rattle.std.proofs.lemmas.List.{with_items_is}
-use Rattle.terms.specs.Named.{Named}
 use Rattle.undo_records.specs.States.{States}
 use Rattle.event_keys.specs.Entries.{action_of}
-use Rattle.event_keys.specs.Ranks.{rank}
-use Rattle.virtual_time.specs.Reference.{IsNext, point}
+use Rattle.virtual_time.specs.Reference.{point}
 use Rattle.task_seed.specs.Setups.{system}
-use Rattle.task_seed.specs.Machines.{machine, turn_outcome, end_rank}
+use Rattle.task_seed.specs.Machines.{machine, end_rank}
 use Rattle.reference.specs.Queues.{HasItsNumber, least_key, least_rank, place_of}
 use Rattle.reference.specs.Standing.{IsAt, taken_at}
 use Rattle.reference.specs.Tournaments.{IsTournament, node}
 use Rattle.reference.specs.Views.{IsComplete}
 use Rattle.reference.proofs.Takers.{slice_set-length}
-use Rattle.reference.proofs.Stepping.{ended, fits, key_is, key_small, next_turn, numbered, numbers_within, small_key, states_within, stepped, turn_at, whole_after, whole_here, within}
+use Rattle.reference.proofs.Stepping.{ended, fits, key_is, key_small, next_turn, numbered, numbers_within, small_key, stepped, whole_after, whole_here, within}
 use Rattle.reference.proofs.frontier.Frontier.take_next.Goals as goal
 
 pub least_key-requires : goal.least_key-requires

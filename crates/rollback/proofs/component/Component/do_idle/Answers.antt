@@ -4,16 +4,14 @@ use Rattle.event_keys.specs.declared.message.Sign.TheVariants.{Plus, Minus}
 use Rattle.event_keys.specs.Entries.{action_of}
 use Rattle.event_keys.specs.declared.outcome.Outcome.TheVariants.{Idle}
 use Rattle.event_keys.specs.declared.outcome.Turned.{Turned}
-use Rattle.event_keys.specs.Ranks.{rank}
 use Rattle.task_seed.specs.Machines.{machine}
 use Rattle.task_seed.specs.Setups.{system}
 use Rattle.task_seed.specs.Turning.{key_of}
 use Rattle.virtual_time.specs.Entries.{by_own}
-use Rattle.virtual_time.specs.Records.{next_of, sent}
+use Rattle.virtual_time.specs.Records.{next_of}
 use Rattle.message_balance.specs.declared.done.Done.TheVariants.{Turn}
 use Rattle.rollback.specs.ComponentView.{ComponentView, machine_of, processed}
 use Rattle.rollback.specs.ComponentInvariant.{record_of, signed_of}
-use Rattle.rollback.specs.Post.{IsPosted}
 use Rattle.task_seed.specs.Reading.{IsRead}
 use Rattle.rollback.specs.Stepped.{IsComingTurn, IsNextTurn, IsNextSent, stepped}
 use Rattle.rollback.proofs.Keeping.{kept_turn}
