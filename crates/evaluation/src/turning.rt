@@ -36,7 +36,6 @@ pub(crate) fn assign_turns<C: Cells>(
     }
 }
 
-#[inline(never)]
 #[tactic(auto, using(terms::specs::Turns::turns))]
 fn assign_each<C: Cells>(
     alloc: Global,
@@ -90,8 +89,6 @@ fn own_number<C: Cells>(operand: &Operand, cell: usize, cells: &C) -> Option<i64
     None
 }
 
-// Its loop has a frame of its own, so that the registers are its own too.
-#[inline(never)]
 #[tactic(auto, using(terms::specs::Turns::turns))]
 fn number_carried<C: Cells>(
     slot: usize,
