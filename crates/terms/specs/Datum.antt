@@ -28,6 +28,30 @@ scalar_of (Just scalar) = scalar
 scalar_of End = Int (pos 0)
 scalar_of (Link item others) = Int (pos 0)
 
+-- whether a value is a whole number
+abbrev pub is_number : Datum → Truth
+is_number (Just (Int whole_number)) = true
+is_number (Just (Bool is_true)) = false
+is_number (Just (Member at)) = false
+is_number End = false
+is_number (Link item others) = false
+
+-- whether it is a truth value
+abbrev pub is_truth : Datum → Truth
+is_truth (Just (Int whole_number)) = false
+is_truth (Just (Bool is_true)) = true
+is_truth (Just (Member at)) = false
+is_truth End = false
+is_truth (Link item others) = false
+
+pub no_number : (xs : List Datum) → is_number (pack xs) ≡ false
+no_number [] = refl
+no_number (x ∷ xs) = refl
+
+pub no_truth : (xs : List Datum) → is_truth (pack xs) ≡ false
+no_truth [] = refl
+no_truth (x ∷ xs) = refl
+
 pub items_pack : (xs : List Datum) → items_of (pack xs) ≡ xs
 items_pack [] = refl
 items_pack (x ∷ xs) = ap (λ ys. x ∷ ys) (items_pack xs)
@@ -89,4 +113,4 @@ pub scalar_pack : (xs : List Datum) → scalar_of (pack xs) ≡ Int (pos 0)
 scalar_pack [] = refl
 scalar_pack (x ∷ xs) = refl
 
-pub ruleset packs = (items_pack, scalar_pack)
+pub ruleset packs = (items_pack, scalar_pack, no_number, no_truth)

@@ -1,5 +1,6 @@
 //! What scalars are read as.
-ghost use Rattle.std.specs.Prelude.{◌≡◌, IfSome};
+ghost use Rattle.std.specs.Prelude.{◌≡◌, IfSome, IfNone, false};
+ghost use Rattle.terms.specs.Datum.{Just, is_number, is_truth};
 ghost use Rattle.terms.specs.Shapes.{number_of, truth_of};
 
 use crate::scalar::Scalar;
@@ -27,7 +28,8 @@ pub fn truth_in(scalar: Scalar) -> bool
 /// The whole number that a scalar is; `None` where it is none.
 #[inline(always)]
 pub fn as_number(scalar: Scalar) -> Option<i64>
-    ensures { IfSome result (λ n. scalar ≡ Scalar.Int n) }
+    ensures some { IfSome result (λ n. scalar ≡ Scalar.Int n) }
+    ensures none { IfNone result (is_number (Just scalar) ≡ false) }
 {
     match scalar {
         Scalar::Int(number) => Some(number),
@@ -38,7 +40,8 @@ pub fn as_number(scalar: Scalar) -> Option<i64>
 /// The truth value that a scalar is; `None` where it is none.
 #[inline(always)]
 pub fn as_truth(scalar: Scalar) -> Option<bool>
-    ensures { IfSome result (λ t. scalar ≡ Scalar.Bool t) }
+    ensures some { IfSome result (λ t. scalar ≡ Scalar.Bool t) }
+    ensures none { IfNone result (is_truth (Just scalar) ≡ false) }
 {
     match scalar {
         Scalar::Bool(truth) => Some(truth),

@@ -1,8 +1,8 @@
 //! Values.
-ghost use Rattle.std.specs.Prelude.{◌≡◌, if◌then◌else◌, IfOk, IfSome, IfNone, slice_get, slice_set};
+ghost use Rattle.std.specs.Prelude.{◌≡◌, false, if◌then◌else◌, IfOk, IfSome, IfNone, slice_get, slice_set};
 ghost use lib.Pointwise.{pointwise};
 ghost use Rattle.std.specs.Cmp.{partial_equiv_from_equiv};
-ghost use Rattle.terms.specs.Datum.{Just, pack, items_of, scalar_of};
+ghost use Rattle.terms.specs.Datum.{Just, pack, items_of, scalar_of, is_number, is_truth};
 ghost use Rattle.terms.specs.Same.{same, same_laws};
 ghost use Rattle.terms.specs.Shapes.{with_item};
 
@@ -104,7 +104,8 @@ impl Value {
     /// The whole number that it is; `None` where it is none.
     #[inline(always)]
     pub fn as_number(&self) -> Option<i64>
-        ensures { IfSome result (λ n. self.now ≡ Just (Scalar.Int n)) }
+        ensures some { IfSome result (λ n. self.now ≡ Just (Scalar.Int n)) }
+        ensures none { IfNone result (is_number self.now ≡ false) }
     {
         match &self.node {
             Node::Scalar(scalar) => as_number(*scalar),
@@ -115,7 +116,8 @@ impl Value {
     /// The truth value that it is; `None` where it is none.
     #[inline(always)]
     pub fn as_truth(&self) -> Option<bool>
-        ensures { IfSome result (λ t. self.now ≡ Just (Scalar.Bool t)) }
+        ensures some { IfSome result (λ t. self.now ≡ Just (Scalar.Bool t)) }
+        ensures none { IfNone result (is_truth self.now ≡ false) }
     {
         match &self.node {
             Node::Scalar(scalar) => as_truth(*scalar),
