@@ -1,2 +1,4 @@
 pub mod Carried
+pub mod Effects
+pub mod Turned
 pub mod Values

@@ -1,7 +1,8 @@
 -- Values of terms by their parts.
-use Rattle.std.proofs.Common.{◌≡◌, List, map, ap, sym, ◌∙◌, Result, Ok, Err, IfOk}
+use Rattle.std.proofs.Common.{◌≡◌, ℕ, ◌+◌, ◌<◌, suc, List, ◌∷◌, map, drop, length, get_or, ap, sym, ◌∙◌, arith, Result, Ok, Err, IfOk}
+use Rattle.std.proofs.Math.Seq.{drop-cons}
 use Rattle.terms.specs.Datum.{Datum}
-use Rattle.terms.specs.Linked.{opened, value_linked, values_on}
+use Rattle.terms.specs.Linked.{opened, value_linked, value_on, values_on}
 use Rattle.terms.specs.Meaning.{Scope, value}
 use Rattle.evaluation.specs.Seen.{seen}
 use Rattle.evaluation.specs.declared.seen.Seen.{Seen}
@@ -16,3 +17,13 @@ value_by term links scope cells first (Ok v) p h k =
     k ∙ (λ i. values_on (map link_tree (p i)) scope cells (h i))
     ∙ sym (value_linked (operand_tree term.first) (map link_tree term.links.items) scope cells)
     ∙ sym (ap (λ t. value t scope cells) (opened term))
+
+-- the links behind one make the same of what it made
+pub one_more : (links : List Link) (i : ℕ) (link : Link) (scope : Scope) (cells : List Datum) (before made all : Datum) → link ≡ get_or links i link → i < length links → made ≡ value_on (link_tree link) scope cells before → values_on (map link_tree (drop i links)) scope cells before ≡ all → values_on (map link_tree (drop (i + 1) links)) scope cells made ≡ all
+one_more links i link scope cells before made all is low h k =
+    let next : suc i ≡ i + 1 = omega arith in
+    let split : drop i links ≡ link ∷ drop (i + 1) links =
+    drop-cons links i link low ∙ ap (λ y. y ∷ drop (suc i) links) (sym is) ∙ ap (λ n. link ∷ drop n links) next in
+    ap (values_on (map link_tree (drop (i + 1) links)) scope cells) h
+    ∙ sym (ap (λ ls. values_on (map link_tree ls) scope cells before) split)
+    ∙ k

@@ -5,8 +5,7 @@ ghost use Rattle.terms.specs.Scopes.{scope};
 ghost use Rattle.terms.specs.EffectTree.{AssignItem};
 ghost use Rattle.terms.specs.TermTree.{term_tree};
 
-use crate::evaluate::{eval, found};
-use crate::look::look;
+use crate::evaluate::{eval, found, made};
 use crate::parts;
 use crate::plain::scalar_at_once;
 use std::alloc::Global;
@@ -63,7 +62,7 @@ fn assign_made<C: Cells>(
     ensures err { OnErr result (C.values cells.new ≡ C.values cells.old) }
     ensures marked { C.marked cells.new ≡ C.marked cells.old }
 {
-    let value = look(alloc, term, env, cells)?.into_value(alloc)?;
+    let value = made(alloc, term, env, cells)?;
     cells.set(cell, value)
 }
 

@@ -7,6 +7,7 @@ ghost use Rattle.terms.specs.TermTree.{term_tree};
 
 use crate::glance::scalar_of;
 use crate::look::look;
+use crate::parts;
 use crate::plain::{scalar_at_once, truth_at_once};
 use crate::typed::{number_of, truth_worked_out};
 use std::alloc::Global;
@@ -31,8 +32,20 @@ fn eval_other<C: Cells>(alloc: Global, term: &Term, env: &Env, cells: &C) -> Res
 {
     match found(term, env, cells) {
         Some(scalar) => Ok(Value::of_scalar(scalar)),
-        None => look(alloc, term, env, cells)?.into_value(alloc),
+        None => made(alloc, term, env, cells),
     }
+}
+
+/// The value of a term, made where it isn't there.
+pub(crate) fn made<C: Cells>(
+    alloc: Global,
+    term: &Term,
+    env: &Env,
+    cells: &C,
+) -> Result<Value, NoMemory>
+    ensures { IfOk result (λ v. v ≡ value (term_tree term.now) (scope env.now) (C.values cells.now)) }
+{
+    parts::owned(alloc, look(alloc, term, env, cells))
 }
 
 /// The scalar that a term is, first of all as a whole number; `None` where it is none, or where memory is needed to find it.

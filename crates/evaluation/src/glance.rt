@@ -6,7 +6,7 @@ ghost use Rattle.terms.specs.Meaning.{value, combined, cell};
 ghost use Rattle.terms.specs.Scopes.{scope};
 ghost use Rattle.terms.specs.TermTree.{term_tree, operand_tree, link_tree};
 
-use crate::{number, parts};
+use crate::{number, parts, unary};
 use terms::cells::slot_of;
 use terms::reading::{number_in, truth_in};
 use terms::{Cells, Env, Link, Operand, Operator, Scalar, Term, Value};
@@ -90,18 +90,16 @@ fn worked_out<C: Cells>(operand: &Operand, env: &Env, cells: &C) -> Option<Scala
     ensures { IfSome result (λ s. value (operand_tree operand.now) (scope env.now) (C.values cells.now) ≡ Just s) }
 {
     match operand {
-        Operand::Not(a) => Some(Scalar::Bool(!truth_in(scalar_of(a, env, cells)?))),
-        Operand::Negative(a) => {
-            let a = scalar_of(a, env, cells)?;
-            Some(Scalar::Int(number::negative(number_in(a))))
-        }
+        Operand::Not(a) => unary::inverse(scalar_of(a, env, cells)),
+        Operand::Negative(a) => unary::negative(scalar_of(a, env, cells)),
         Operand::Nearest(a, low, high) => {
             let a = scalar_of(a, env, cells)?;
             Some(Scalar::Int(number::clamped(number_in(a), *low, *high)))
         }
         Operand::Length(a) => Some(Scalar::Int(items_in(a, env, cells)?.len() as i64)),
-        Operand::Head(_, _) => place_of(operand, env, cells)?.as_scalar(),
-        Operand::Index(_, _, _) => place_of(operand, env, cells)?.as_scalar(),
+        Operand::Head(_, _) | Operand::Index(_, _, _) => {
+            unary::scalar_there(place_of(operand, env, cells))
+        }
         _ => None,
     }
 }
@@ -127,10 +125,10 @@ pub(crate) fn place_of<'a, C: Cells>(
 {
     match operand {
         Operand::Cell(n) => cells.get(*n),
-        Operand::Head(a, _) => items_in(a, env, cells)?.first(),
+        Operand::Head(a, _) => unary::item_at(items_in(a, env, cells), 0),
         Operand::Index(a, at, listed) => {
             let at = scalar_of(at, env, cells)?;
-            items_in(a, env, cells)?.get(parts::place_in(*listed, at))
+            unary::item_at(items_in(a, env, cells), parts::place_in(*listed, at))
         }
         _ => None,
     }
@@ -155,7 +153,7 @@ fn items_of<'a, C: Cells>(operand: &Operand, env: &Env, cells: &'a C) -> Option<
 {
     match operand {
         Operand::Tail(a) => Some(without_first(items_in(a, env, cells)?)),
-        _ => Some(place_of(operand, env, cells)?.items()),
+        _ => unary::items_there(place_of(operand, env, cells)),
     }
 }
 

@@ -15,6 +15,7 @@ mod plain;
 mod seen;
 mod turning;
 mod typed;
+mod unary;
 
 pub use evaluate::eval;
 pub use perform::run;

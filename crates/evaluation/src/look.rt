@@ -1,6 +1,7 @@
 //! The value of a term, made where it isn't there.
 ghost use Rattle.std.specs.Prelude.{◌≡◌, IfOk, map};
 ghost use Rattle.terms.specs.Linked.{value_on, values_on};
+ghost use Rattle.terms.specs.Datum.{Datum, Just};
 ghost use Rattle.terms.specs.Meaning.{value, combined, cell};
 ghost use Rattle.evaluation.specs.Seen.{seen};
 ghost use Rattle.terms.specs.Scopes.{scope};
@@ -25,22 +26,39 @@ fn cell_of<C: Cells>(cells: &C, n: usize) -> Seen
 fn combine(operator: Operator, a: &Value, b: &Value) -> Scalar
     ensures { result ≡ combined operator a.now b.now }
 {
+    let left = a.scalar();
+    let right = b.scalar();
     match operator {
-        Operator::Plus => Scalar::Int(number::sum(number_in(a.scalar()), number_in(b.scalar()))),
-        Operator::Minus => Scalar::Int(number::difference(
-            number_in(a.scalar()),
-            number_in(b.scalar()),
-        )),
-        Operator::Times => Scalar::Int(number::product(
-            number_in(a.scalar()),
-            number_in(b.scalar()),
-        )),
+        Operator::Plus => Scalar::Int(number::sum(number_in(left), number_in(right))),
+        Operator::Minus => Scalar::Int(number::difference(number_in(left), number_in(right))),
+        Operator::Times => Scalar::Int(number::product(number_in(left), number_in(right))),
         Operator::Same => Scalar::Bool(a == b),
         Operator::Differs => Scalar::Bool(a != b),
-        Operator::Less => Scalar::Bool(number_in(a.scalar()) < number_in(b.scalar())),
-        Operator::AtMost => Scalar::Bool(number_in(a.scalar()) <= number_in(b.scalar())),
-        Operator::Both => Scalar::Bool(truth_in(a.scalar()) && truth_in(b.scalar())),
-        Operator::Either => Scalar::Bool(truth_in(a.scalar()) || truth_in(b.scalar())),
+        Operator::Less => Scalar::Bool(number_in(left) < number_in(right)),
+        Operator::AtMost => Scalar::Bool(number_in(left) <= number_in(right)),
+        Operator::Both => Scalar::Bool(truth_in(left) && truth_in(right)),
+        Operator::Either => Scalar::Bool(truth_in(left) || truth_in(right)),
+    }
+}
+
+fn join<'a>(
+    operator: Operator,
+    left: Seen<'_>,
+    right: Result<Seen<'_>, NoMemory>,
+) -> Result<Seen<'a>, NoMemory>
+    ensures { (d : Datum) → IfOk right.entry (λ v. seen v ≡ d) → IfOk result (λ v. seen v ≡ Just (combined operator (seen left.entry) d)) }
+{
+    match right {
+        Ok(right) => {
+            let scalar = combine(operator, left.value(), right.value());
+            drop(left);
+            drop(right);
+            Ok(Seen::of_scalar(scalar))
+        }
+        Err(refused) => {
+            drop(left);
+            Err(refused)
+        }
     }
 }
 
@@ -87,22 +105,10 @@ fn look_at<'a, C: Cells>(
 ) -> Result<Seen<'a>, NoMemory>
     ensures { IfOk result (λ v. seen v ≡ value_on (link_tree link.now) (scope env.now) (C.values cells.now) (seen left.entry)) }
 {
-    let scalar = match link {
-        Link::Operator(operator, right) => match look(alloc, right, env, cells) {
-            Ok(right) => {
-                let scalar = combine(*operator, left.value(), right.value());
-                drop(right);
-                scalar
-            }
-            Err(refused) => {
-                drop(left);
-                return Err(refused);
-            }
-        },
-        Link::Modulo(k) => Scalar::Int(number::modulo(left.number(), *k)),
-    };
-    drop(left);
-    Ok(Seen::of_scalar(scalar))
+    match link {
+        Link::Operator(operator, right) => { join(*operator, left, look(alloc, right, env, cells)) }
+        Link::Modulo(k) => Ok(Seen::of_scalar(Scalar::Int(number::modulo(left.into_number(), *k)))),
+    }
 }
 
 #[cycle(look)]
@@ -120,67 +126,24 @@ fn look_first<'a, C: Cells>(
         Operand::Parameter(n) => Ok(Seen::of_scalar(slot_of(env.parameters, *n))),
         Operand::Loop(n) => Ok(Seen::of_scalar(slot_of(&env.loops, *n))),
         Operand::Cell(n) => Ok(cell_of(cells, *n)),
-        Operand::Not(a) => {
-            let a = look(alloc, a, env, cells)?;
-            let truth = a.truth();
-            drop(a);
-            Ok(Seen::of_scalar(Scalar::Bool(!truth)))
-        }
-        Operand::Negative(a) => {
-            let a = look(alloc, a, env, cells)?;
-            let number = a.number();
-            drop(a);
-            Ok(Seen::of_scalar(Scalar::Int(number::negative(number))))
-        }
+        Operand::Not(a) => parts::inverse(look(alloc, a, env, cells)),
+        Operand::Negative(a) => parts::negative(look(alloc, a, env, cells)),
         Operand::Nearest(a, low, high) => {
             let a = look(alloc, a, env, cells)?;
-            let number = a.number();
-            drop(a);
-            Ok(Seen::of_scalar(Scalar::Int(number::clamped(number, *low, *high))))
+            Ok(parts::clamped(a, *low, *high))
         }
-        Operand::Length(a) => {
-            let a = look(alloc, a, env, cells)?;
-            let length = a.length();
-            drop(a);
-            Ok(Seen::of_scalar(Scalar::Int(length)))
-        }
-        Operand::Head(a, shape) => {
-            let a = look(alloc, a, env, cells)?;
-            parts::head(alloc, a, shape)
-        }
-        Operand::Tail(a) => {
-            let a = look(alloc, a, env, cells)?;
-            Ok(Seen::Own(parts::tail(alloc, a)?))
-        }
+        Operand::Length(a) => parts::length(look(alloc, a, env, cells)),
+        Operand::Head(a, shape) => parts::head(alloc, look(alloc, a, env, cells), shape),
+        Operand::Tail(a) => parts::tail(alloc, look(alloc, a, env, cells)),
         Operand::Append(a, b, room) => {
             let a = look(alloc, a, env, cells)?.into_value(alloc)?;
-            match look(alloc, b, env, cells) {
-                Ok(b) => parts::append(alloc, a, b, *room),
-                Err(refused) => {
-                    drop(a);
-                    Err(refused)
-                }
-            }
+            parts::append(alloc, a, look(alloc, b, env, cells), *room)
         }
-        Operand::Index(a, b, listed) => {
-            let a = look(alloc, a, env, cells)?;
-            let b = match look(alloc, b, env, cells) {
-                Ok(b) => b,
-                Err(refused) => {
-                    drop(a);
-                    return Err(refused);
-                }
-            };
-            let place = parts::place_in(*listed, b.value().scalar());
-            drop(b);
-            Ok(parts::item(alloc, a, place))
+        Operand::Index(a, at, listed) => {
+            let at = parts::place_seen(*listed, look(alloc, at, env, cells))?;
+            parts::item(alloc, look(alloc, a, env, cells), at)
         }
-        Operand::Empty => Ok(Seen::Own(Value::of_items(Vec::new(alloc)))),
-        Operand::Fill(n, a) => {
-            let a = look(alloc, a, env, cells)?;
-            let items = parts::repeated(alloc, a.value(), *n);
-            drop(a);
-            Ok(Seen::Own(Value::of_items(items?)))
-        }
+        Operand::Empty => Ok(Seen::of_items(Vec::new(alloc))),
+        Operand::Fill(n, a) => parts::filled(alloc, look(alloc, a, env, cells), *n),
     }
 }

@@ -23,6 +23,12 @@ impl<'a> Seen<'a> {
         Seen::Own(Value::of_scalar(scalar))
     }
 
+    pub(crate) fn of_items(items: Vec<Value>) -> Seen<'a>
+        ensures { seen result ≡ pack items.items }
+    {
+        Seen::Own(Value::of_items(items))
+    }
+
     pub(crate) fn value(&self) -> &Value
         ensures { result.now ≡ seen self.now }
     {
@@ -30,12 +36,6 @@ impl<'a> Seen<'a> {
             Seen::Lent(value) => value,
             Seen::Own(value) => value,
         }
-    }
-
-    pub(crate) fn number(&self) -> i64
-        ensures { result ≡ number (seen self.now) }
-    {
-        number_in(self.value().scalar())
     }
 
     pub(crate) fn truth(&self) -> bool
@@ -49,6 +49,20 @@ impl<'a> Seen<'a> {
         ensures { result ≡ pos (length (items_of (seen self.now))) }
     {
         self.value().items().len() as i64
+    }
+
+    pub(crate) fn into_scalar(self) -> Scalar
+        ensures { result ≡ scalar_of (seen self.entry) }
+    {
+        let scalar = self.value().scalar();
+        drop(self);
+        scalar
+    }
+
+    pub(crate) fn into_number(self) -> i64
+        ensures { result ≡ number (seen self.entry) }
+    {
+        number_in(self.into_scalar())
     }
 
     pub(crate) fn into_value(self, alloc: Global) -> Result<Value, NoMemory>

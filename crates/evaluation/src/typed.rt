@@ -1,14 +1,14 @@
 //! Whole numbers and truth values that are read of a term without taking memory, each as itself and not as a scalar.
 ghost use Rattle.std.specs.Prelude.{◌≡◌, IfSome, map};
-ghost use Rattle.terms.specs.Datum.{Just};
+ghost use Rattle.terms.specs.Datum.{Datum, Just};
 ghost use Rattle.terms.specs.Linked.{value_on, values_on, so_far};
 ghost use Rattle.terms.specs.Meaning.{combined, value};
 ghost use Rattle.terms.specs.Scopes.{scope};
 ghost use Rattle.terms.specs.TermTree.{term_tree, operand_tree, link_tree};
 
 use crate::glance::{items_in, place_of};
-use crate::number;
 use crate::plain::{calculated, compared, number_alone, number_at, scalar_at, truth_at_once};
+use crate::{number, unary};
 use terms::reading::as_truth;
 use terms::{Cells, Env, Link, Operand, Operator, Scalar, Term};
 
@@ -40,14 +40,15 @@ fn number_made<C: Cells>(operand: &Operand, env: &Env, cells: &C) -> Option<i64>
     ensures { IfSome result (λ n. value (operand_tree operand.now) (scope env.now) (C.values cells.now) ≡ Just (Scalar.Int n)) }
 {
     match operand {
-        Operand::Negative(a) => Some(number::negative(number_of(a, env, cells)?)),
+        Operand::Negative(a) => unary::negative_number(number_of(a, env, cells)),
         Operand::Nearest(a, low, high) => {
             let a = number_of(a, env, cells)?;
             Some(number::clamped(a, *low, *high))
         }
-        Operand::Length(a) => Some(items_in(a, env, cells)?.len() as i64),
-        Operand::Head(_, _) => place_of(operand, env, cells)?.as_number(),
-        Operand::Index(_, _, _) => place_of(operand, env, cells)?.as_number(),
+        Operand::Length(a) => unary::length_of(items_in(a, env, cells)),
+        Operand::Head(_, _) | Operand::Index(_, _, _) => {
+            unary::number_there(place_of(operand, env, cells))
+        }
         _ => None,
     }
 }
@@ -135,9 +136,10 @@ fn truth_made<C: Cells>(operand: &Operand, env: &Env, cells: &C) -> Option<bool>
     ensures { IfSome result (λ t. value (operand_tree operand.now) (scope env.now) (C.values cells.now) ≡ Just (Scalar.Bool t)) }
 {
     match operand {
-        Operand::Not(a) => Some(!truth_of(a, env, cells)?),
-        Operand::Head(_, _) => place_of(operand, env, cells)?.as_truth(),
-        Operand::Index(_, _, _) => place_of(operand, env, cells)?.as_truth(),
+        Operand::Not(a) => unary::inverse_truth(truth_of(a, env, cells)),
+        Operand::Head(_, _) | Operand::Index(_, _, _) => {
+            unary::truth_there(place_of(operand, env, cells))
+        }
         _ => None,
     }
 }
@@ -192,6 +194,20 @@ fn made_of(operator: Operator, left: i64, right: i64) -> Option<(i64, Option<boo
     }
 }
 
+#[inline(always)]
+fn same_truth(left: bool, found: Option<bool>) -> Option<bool>
+    ensures { (d : Datum) → IfSome found (λ t. d ≡ Just (Scalar.Bool t)) → IfSome result (λ t. Just (combined Operator.Same (Just (Scalar.Bool left)) d) ≡ Just (Scalar.Bool t)) }
+{
+    Some(left == found?)
+}
+
+#[inline(always)]
+fn other_truth(left: bool, found: Option<bool>) -> Option<bool>
+    ensures { (d : Datum) → IfSome found (λ t. d ≡ Just (Scalar.Bool t)) → IfSome result (λ t. Just (combined Operator.Differs (Just (Scalar.Bool left)) d) ≡ Just (Scalar.Bool t)) }
+{
+    Some(left != found?)
+}
+
 #[cycle(truths)]
 fn truth_on<C: Cells>(left: bool, link: &Link, env: &Env, cells: &C) -> Option<bool>
     ensures { IfSome result (λ t. value_on (link_tree link.now) (scope env.now) (C.values cells.now) (Just (Scalar.Bool left)) ≡ Just (Scalar.Bool t)) }
@@ -212,8 +228,8 @@ fn truth_on<C: Cells>(left: bool, link: &Link, env: &Env, cells: &C) -> Option<b
                     truth_of(right, env, cells)
                 }
             }
-            Operator::Same => Some(left == truth_of(right, env, cells)?),
-            Operator::Differs => Some(left != truth_of(right, env, cells)?),
+            Operator::Same => same_truth(left, truth_of(right, env, cells)),
+            Operator::Differs => other_truth(left, truth_of(right, env, cells)),
             _ => None,
         },
         Link::Modulo(_) => None,
