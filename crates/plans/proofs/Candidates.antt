@@ -21,7 +21,7 @@ use Rattle.plans.specs.Signatures.{fits_one, fits, has, has_as, same_kind, any_a
 use Rattle.plans.specs.Receivers.{Rising, IsIn, receivers_rise, receivers_all, takers_rise, takers_all}
 use Rattle.plans.specs.Patterns.{Kept, fixed_as, fixes, mask_of, asked, values_of, shown, masked, masks_in, IsListed, IsNoted, is_for, IsIndexed}
 
-same_from : (m n : ℕ) → (m == n) ≡ true → m ≡ n
+pub same_from : (m n : ℕ) → (m == n) ≡ true → m ≡ n
 same_from m n h = grind (arith, nat_tests)
 
 same_number : (n : ℕ) → (n == n) ≡ true
@@ -84,7 +84,7 @@ actor_found index composition found action indexed all j h = go (inputs composit
   go false false true is_a is_b is_c g = by_kind Internal is_c
   go false false false is_a is_b is_c g = cc
 
-rising_from : (a : ℕ) (xs : List ℕ) → IsStrictlyIncreasing xs → ((y : ℕ) (ys : List ℕ) → xs ≡ y ∷ ys → a ≤ y) → Rising a xs
+pub rising_from : (a : ℕ) (xs : List ℕ) → IsStrictlyIncreasing xs → ((y : ℕ) (ys : List ℕ) → xs ≡ y ∷ ys → a ≤ y) → Rising a xs
 rising_from a [] rise least = tt
 rising_from a (x ∷ []) rise least = (least x [] refl, tt)
 rising_from a (x ∷ y ∷ ys) rise least = (least x (y ∷ ys) refl, rising_from (x + 1) (y ∷ ys) rest next) where
@@ -137,7 +137,7 @@ rising_same a (x ∷ xs) (y ∷ ys) left right alike = let rest = rising_same (x
         not_in_later j (x + 1) xs left.1 (omega (arith, same)) ∙ sym (not_in_later j (x + 1) ys right_rest (omega (arith, same)))
     by_head false h = sym (ap (λ b. b || IsIn j xs) h) ∙ alike j ∙ ap (λ b. b || IsIn j ys) (ap (λ (z : ℕ). j == z) (sym first) ∙ h)
 
-in_filter : (test : ℕ → Truth) (j : ℕ) (xs : List ℕ) → IsIn j (filter test xs) ≡ (test j && IsIn j xs)
+pub in_filter : (test : ℕ → Truth) (j : ℕ) (xs : List ℕ) → IsIn j (filter test xs) ≡ (test j && IsIn j xs)
 in_filter test j [] = none (test j) where
   none : (b : Truth) → false ≡ (b && false)
   none true = refl

@@ -1,5 +1,5 @@
 -- The entry in which an action stands, by how many each entry has.
-use Rattle.std.specs.Prelude.{◌≡◌, ℕ, zero, suc, ◌+◌, ◌-◌, ◌<◌, ◌≤◌, List, [], ◌∷◌, ◌++◌, map, sum, length, take, drop, get_or, slice_get, refl}
+use Rattle.std.specs.Prelude.{◌≡◌, ℕ, zero, suc, ◌+◌, ◌-◌, ◌<◌, ◌≤◌, List, [], ◌∷◌, ◌++◌, map, sum, length, take, drop, get_or, slice_get, None, refl}
 use Rattle.std.specs.List.{flat_map, fold}
 use Rattle.std.proofs.Common.{arith, ap, sym, ◌∙◌, zero-add, set}
 use Rattle.std.proofs.lemmas.List.{length-append, drop_more, get_or-map, take_more_set, map_more}
@@ -70,3 +70,10 @@ module _ {X : Type 0} (f : ℕ → List X) where
       ∙ take_more_set counts k count within
       ∙ (λ i. before i ++ is i ∷ [])
       ∙ sym (map_more (λ x. length (f x)) xs k d below)
+
+-- behind the last place stands nothing
+pub stands_nowhere : {X : Type 0} (f : ℕ → List X) (places : List ℕ) (at left : ℕ) → length places ≤ at → None ≡ slice_get (flat_map f (drop at places)) left
+stands_nowhere f [] zero left past = refl
+stands_nowhere f [] (suc at) left past = refl
+stands_nowhere f (place ∷ places) zero left past = absurd (omega (arith, past))
+stands_nowhere f (place ∷ places) (suc at) left past = stands_nowhere f places at left (omega (arith, past))

@@ -9,3 +9,5 @@ mod OneEntry
 mod Pairs
 mod Picked
 mod Placed
+mod Passing
+mod Firsts

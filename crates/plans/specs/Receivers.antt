@@ -85,7 +85,7 @@ past_absent [] j h = refl
 past_absent (x ∷ xs) zero h = absurd (omega arith)
 past_absent (x ∷ xs) (suc j) h = past_absent xs j (omega arith)
 
-none_past : (composition : List Instance) (a : Named) (i j : ℕ) → length composition ≤ j → receives composition i a j ≡ false
+pub none_past : (composition : List Instance) (a : Named) (i j : ℕ) → length composition ≤ j → receives composition i a j ≡ false
 none_past composition a i j h = rw (past_absent composition j h) (none (not (j == i))) where
   none : (b : Bool) → (b && false) ≡ false
   none true = refl
@@ -98,6 +98,12 @@ receivers_all composition a i j = go (nat_lt j (length composition)) refl where
   go false h =
       let past : length composition ≤ j = ltb-false j (length composition) h in
       not_above (receives composition i a) j 0 (length composition) (omega arith) ∙ sym (none_past composition a i j past)
+
+-- numbers of components, each once and in order, and among them all that receive an action of the sender
+pub record AreCandidates (composition : List Instance) (action : Named) (sender : ℕ) (found : List ℕ) : Type 0 where
+  pub rising : Rising 0 found
+  pub within : (j : ℕ) → IsIn j found ≡ true → j < length composition
+  pub all : (j : ℕ) → receives composition sender action j ≡ true → IsIn j found ≡ true
 
 -- what is kept passes the test
 pub kept_passes : (p : ℕ → Bool) (j : ℕ) (xs : List ℕ) → IsIn j (filter p xs) ≡ true → p j ≡ true

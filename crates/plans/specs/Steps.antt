@@ -28,7 +28,8 @@ entry_in component action = find (has component.formals action) component.entrie
 abbrev pub holds : Transition → List Scalar → List Datum → List Scalar → Truth
 holds entry formals state args = truth (value entry.precondition (scope_in formals args) state)
 
-abbrev permitted : Option Transition → List Scalar → List Scalar → List Datum → Truth
+-- and of the entry, if there is one
+abbrev pub permitted : Option Transition → List Scalar → List Scalar → List Datum → Truth
 permitted None formals args state = false
 permitted (Some entry) formals args state = holds entry formals state args
 

@@ -3,7 +3,7 @@ ghost use Rattle.std.specs.Prelude.{◌≡◌, ℕ, Bool as Truth, IfOk, IfSome,
 ghost use Rattle.std.specs.List.Sorted.{IsStrictlyIncreasing};
 ghost use Rattle.plans.specs.Patterns.{fixed_as, shown, masked, fixed_number, mixed, pattern_number, place_of, list_at, masks_in, IsListed, AreRising};
 
-mod notes;
+pub(crate) mod notes;
 
 use std::alloc::Global;
 use std::marker::Model;

@@ -1,6 +1,6 @@
 //! A compatible composition.
 ghost use Rattle.std.specs.Prelude.{◌≡◌, ◌<◌, ◌^◌, true, false, map, vec_len};
-ghost use Rattle.plans.specs.Alike.{alike_in};
+ghost use Rattle.plans.specs.Alike.{alike_in, AreAllFirsts};
 ghost use Rattle.plans.specs.Automata.{composed, items_in};
 ghost use Rattle.plans.specs.Compatible.{IsCompatible};
 ghost use Rattle.plans.specs.Patterns.{IsIndexed};
@@ -30,10 +30,12 @@ pub struct Plan {
     index: Box<Index>,
     entries: Box<Index>,
     alike: Vec<Vec<usize>>,
+    firsts: Vec<Vec<usize>>,
     ghost few: { vec_len components < 2 ^ 16 },
     ghost compatible: { IsCompatible (composed automata.items components.items) },
     ghost formed: { IsWellFormed (composed automata.items components.items) },
     ghost indexed: { ∥ IsIndexed false index.value (composed automata.items components.items) ∥₁ },
+    ghost repeated: { AreAllFirsts automata.items firsts.items },
     ghost told: { map items_in alike.items ≡ map alike_in automata.items },
     ghost entered: { ∥ IsIndexed true entries.value (composed automata.items components.items) ∥₁ },
 }

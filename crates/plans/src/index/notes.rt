@@ -42,8 +42,9 @@ fn lists(alloc: Global, wanted: usize) -> Result<Vec<Vec<u16>>, NoMemory>
     Ok(lists)
 }
 
-// Whether a list that rises still does with a number at its end.
-fn is_above(list: &[u16], j: u16) -> bool
+/// Whether a list that rises still does with a number at its end.
+#[inline(always)]
+pub(crate) fn is_above(list: &[u16], j: u16) -> bool
     ensures { result ≡ true → IsStrictlyIncreasing list.now
         → IsStrictlyIncreasing (list.now ++ j ∷ []) }
 {

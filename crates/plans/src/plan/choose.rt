@@ -1,5 +1,5 @@
 //! The enabled actions of a task, and the one that a turn takes.
-ghost use Rattle.std.specs.Prelude.{◌≡◌, ◌++◌, ◌<◌, ◌%◌, IfOk, OnOk, Some, option_copied, map, slice_get, length};
+ghost use Rattle.std.specs.Prelude.{◌≡◌, ◌++◌, ◌<◌, ◌%◌, IfOk, OnOk, OnErr, None, Some, option_copied, map, slice_get, length};
 ghost use Rattle.std.specs.Option.{option_map};
 ghost use Rattle.plans.specs.Automata.{component_at, transition_of};
 ghost use Rattle.plans.specs.Outcomes.{task_of, enabled_of, enabled_by, outcome_of};
@@ -12,8 +12,8 @@ mod several;
 use crate::automaton::Entry;
 use crate::plan::Plan;
 use crate::plan::alike::number_at;
-use crate::plan::choose::making::action_at;
-use crate::plan::choose::several::outcome_of_several;
+use crate::plan::choose::making::put_action_at;
+use crate::plan::choose::several::put_outcome_of_several;
 use crate::plan::step::holds;
 use crate::plan::tuples::count_all;
 use std::alloc::Global;
@@ -77,6 +77,27 @@ impl Plan {
     ) -> Result<Option<Action>, NoMemory>
         ensures { IfOk result (λ outcome. outcome ≡ outcome_of (composition self.now) i task choice (C.values cells.now)) }
     {
+        let mut found = None;
+        self.outcome_into(alloc, i, task, choice, cells, &mut found)?;
+        Ok(found)
+    }
+
+    /// The same, put in place of what was found before. A refusal leaves nothing there.
+    #[inline(always)]
+    pub fn outcome_into<C: Cells>(
+        &self,
+        alloc: Global,
+        i: u16,
+        task: u32,
+        choice: u32,
+        cells: &C,
+        found: &mut Option<Action>,
+    ) -> Result<(), NoMemory>
+        ensures ok { OnOk result (found.new ≡ outcome_of (composition self.now) i task choice
+            (C.values cells.now)) }
+        ensures err { OnErr result (found.new ≡ None) }
+    {
+        put_none(found);
         let entries = self.entries(i);
         let formals = self.formals(i);
         let numbers = self.alike(i);
@@ -85,21 +106,66 @@ impl Plan {
             if let Some(entry) = entry_among(entries, places[0]) {
                 let number = number_at(numbers, places[0]);
                 if number == 0 {
-                    return outcome_of_each(alloc, entry, formals, choice, cells);
+                    return put_outcome_of_each(alloc, entry, formals, choice, cells, found);
                 }
                 let holding = holds(alloc, entry, formals, &[], cells)?;
                 if !holding {
-                    return Ok(None);
+                    return Ok(());
                 }
-                return action_at(alloc, entry, formals, number, choice as usize % number);
+                return put_action_at(
+                    alloc,
+                    entry,
+                    formals,
+                    number,
+                    choice as usize % number,
+                    found,
+                );
             }
         }
-        outcome_of_several(alloc, entries, numbers, formals, places, choice, cells)
+        let firsts = self.firsts(i);
+        put_outcome_of_several(
+            alloc, entries, numbers, firsts, formals, places, choice, cells, found,
+        )
     }
+}
+
+// Nothing stands there any more. Most turns are idle, and then nothing stood there.
+#[inline(always)]
+fn put_none(found: &mut Option<Action>)
+    ensures { found.new ≡ None }
+{
+    if found.is_some() {
+        *found = None;
+    }
+}
+
+// What is put there takes the place of what was there.
+#[inline(always)]
+pub(super) fn put(found: &mut Option<Action>, action: Option<Action>)
+    ensures { found.new ≡ action }
+{
+    *found = action;
 }
 
 // The outcome of one entry whose condition is asked for each tuple.
 #[inline(never)]
+fn put_outcome_of_each<C: Cells>(
+    alloc: Global,
+    entry: &Entry,
+    formals: &[Scalar],
+    choice: u32,
+    cells: &C,
+    found: &mut Option<Action>,
+) -> Result<(), NoMemory>
+    ensures ok { OnOk result (let enabled = enabled_by formals.now (C.values cells.now)
+        (Some (transition_of entry.now)) in found.new ≡ slice_get enabled (choice % length enabled)) }
+    ensures err { OnErr result (found.new ≡ found.old) }
+{
+    let outcome = outcome_of_each(alloc, entry, formals, choice, cells)?;
+    put(found, outcome);
+    Ok(())
+}
+
 fn outcome_of_each<C: Cells>(
     alloc: Global,
     entry: &Entry,
@@ -171,7 +237,8 @@ fn count_each<C: Cells>(
     enabled
 }
 
-fn entry_among(entries: &[Entry], place: usize) -> Option<&Entry>
+#[inline(always)]
+pub(super) fn entry_among(entries: &[Entry], place: usize) -> Option<&Entry>
     ensures { option_map transition_of (option_copied result) ≡ slice_get
         (map transition_of entries.now) place }
 {

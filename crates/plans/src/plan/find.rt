@@ -1,6 +1,6 @@
 //! The parts of a component.
 ghost use Rattle.std.specs.Prelude.{◌≡◌, map, length};
-ghost use Rattle.plans.specs.Alike.{alike};
+ghost use Rattle.plans.specs.Alike.{alike, AreFirsts};
 ghost use Rattle.plans.specs.Automata.{component_at, transition_of, items_in};
 
 use crate::automaton::{Automaton, Entry};
@@ -50,6 +50,17 @@ impl Plan {
         let numbers = self.alike.as_slice();
         match self.components.get(i as usize) {
             Some(component) => numbers_at(numbers, component.automaton),
+            None => &[],
+        }
+    }
+
+    /// Of each entry the place of the first one with the same condition.
+    pub(super) fn firsts(&self, i: u16) -> &[usize]
+        ensures { AreFirsts (component_at (composition self.now) i).entries result.now }
+    {
+        let firsts = self.firsts.as_slice();
+        match self.components.get(i as usize) {
+            Some(component) => numbers_at(firsts, component.automaton),
             None => &[],
         }
     }

@@ -9,7 +9,7 @@ ghost use Rattle.plans.specs.WellFormed.{IsWellFormed};
 use crate::automaton::{ActionName, Automaton, Component};
 use crate::index::Index;
 use crate::plan::Plan;
-use crate::plan::alike::alike_of;
+use crate::plan::alike::{alike_of, firsts_of};
 use std::alloc::Global;
 use terms::NoMemory;
 
@@ -34,6 +34,7 @@ impl Plan {
         let index = index_of(alloc, automata.as_slice(), components.as_slice(), false)?;
         let entries = index_of(alloc, automata.as_slice(), components.as_slice(), true)?;
         let alike = alike_of(alloc, automata.as_slice())?;
+        let firsts = firsts_of(alloc, automata.as_slice())?;
         Ok(Plan {
             automata,
             components,
@@ -42,6 +43,7 @@ impl Plan {
             index,
             entries,
             alike,
+            firsts,
         })
     }
 }

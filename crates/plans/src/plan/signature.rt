@@ -2,9 +2,12 @@
 ghost use Rattle.std.specs.Prelude.{◌≡◌, ◌++◌, ◌∷◌, [], IfOk, IfSome, OnOk, cond, length, int_le, int_lt, pos, ◌+ℤ◌, ◌&&◌, option_copied, find, filter, is_some, ℕ};
 ghost use Rattle.plans.specs.Automata.{transition_of};
 ghost use Rattle.terms.specs.Meaning.{slot};
+ghost use Rattle.std.specs.List.Sorted.{IsStrictlyIncreasing};
+ghost use Rattle.plans.specs.Receivers.{AreCandidates};
 ghost use Rattle.plans.specs.Signatures.{is_member, fits_one, fits, has, kind_of, receives, receivers_of, is_external, is_open, takes_input, some_component, takers_of};
 
 use crate::automaton::{Entry, Kind, Param};
+use crate::index::notes::is_above;
 use crate::plan::Plan;
 use smallvec::SmallVec;
 use std::alloc::Global;
@@ -51,6 +54,43 @@ impl Plan {
         }
     }
 
+    /// Components among which the receivers of an action are; where one list has them all it is lent, and takes no memory.
+    /// Else `room` holds them. An action that stands under several patterns takes memory.
+    #[inline(always)]
+    pub fn candidates<'a>(
+        &'a self,
+        alloc: Global,
+        action: &Action,
+        sender: u16,
+        room: &'a mut SmallVec<u16, 8>,
+    ) -> Result<&'a [u16], NoMemory>
+        ensures { IfOk result (λ found. AreCandidates
+            (composition self.now) action.now sender found.now) }
+    {
+        if let Some(numbers) = self.lent(action) {
+            if is_above(numbers, self.components()) {
+                return Ok(numbers);
+            }
+        }
+        self.put_receivers(alloc, action, sender, room)
+    }
+
+    #[cold]
+    #[inline(never)]
+    fn put_receivers<'a>(
+        &self,
+        alloc: Global,
+        action: &Action,
+        sender: u16,
+        room: &'a mut SmallVec<u16, 8>,
+    ) -> Result<&'a [u16], NoMemory>
+        ensures { IfOk result (λ found. found.now ≡ receivers_of
+            (composition self.now) action.now sender) }
+    {
+        *room = self.receivers_merged(alloc, action, sender)?;
+        Ok(room.as_slice())
+    }
+
     #[cold]
     #[inline(never)]
     fn receivers_merged(
@@ -61,7 +101,7 @@ impl Plan {
     ) -> Result<SmallVec<u16, 8>, NoMemory>
         ensures { IfOk result (λ receivers. receivers.items ≡ receivers_of (composition self.now) action.now sender) }
     {
-        let candidates = self.candidates(alloc, action)?;
+        let candidates = self.merged(alloc, action)?;
         let receivers = self.receivers_among(alloc, candidates.as_slice(), action, sender);
         drop(candidates);
         receivers
@@ -88,7 +128,7 @@ impl Plan {
     }
 
     // Those that take the action are its receivers, whoever sends it.
-    fn candidates(&self, alloc: Global, action: &Action) -> Result<Vec<u16>, NoMemory>
+    fn merged(&self, alloc: Global, action: &Action) -> Result<Vec<u16>, NoMemory>
         ensures { IfOk result (λ found. (sender : ℕ) → filter (receives (composition self.now) sender action.now) found.items ≡ receivers_of (composition self.now) action.now sender) }
     {
         let found = self.index.candidates(alloc, action)?;
@@ -96,7 +136,8 @@ impl Plan {
     }
 
     fn lent(&self, action: &Action) -> Option<&[u16]>
-        ensures { IfSome result (λ found. (sender : ℕ) → filter
+        ensures rise { IfSome result (λ found. IsStrictlyIncreasing found.now) }
+        ensures all { IfSome result (λ found. (sender : ℕ) → filter
             (receives (composition self.now) sender action.now) found.now ≡ receivers_of
             (composition self.now) action.now sender) }
     {
@@ -192,7 +233,7 @@ fn push_if(numbers: &mut SmallVec<u16, 8>, test: bool, number: u16) -> Result<()
     Ok(())
 }
 
-fn takes_input(kind: Option<Kind>) -> bool
+pub(super) fn takes_input(kind: Option<Kind>) -> bool
     ensures { result ≡ takes_input kind }
 {
     match kind {

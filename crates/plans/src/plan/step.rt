@@ -1,12 +1,14 @@
 //! Start states and the effects of actions.
-ghost use Rattle.std.specs.Prelude.{◌≡◌, IfOk, OnOk, OnErr, map, take};
+ghost use Rattle.std.specs.Prelude.{◌≡◌, IfOk, OnOk, OnErr, cond, map, take};
 ghost use Rattle.plans.specs.Automata.{transition_of};
+ghost use Rattle.plans.specs.Signatures.{inputs};
 ghost use Rattle.plans.specs.Steps.{scope_in, start_value, start_of, is_enabled, applied, IsPartApplied, holds};
 ghost use Rattle.terms.specs.Scopes.{scope};
 ghost use Rattle.terms.specs.TermTree.{term_tree};
 
 use crate::automaton::Entry;
 use crate::plan::Plan;
+use crate::plan::signature::takes_input;
 use evaluation::evaluate::is_true;
 use evaluation::{eval, run};
 use std::alloc::Global;
@@ -62,6 +64,35 @@ impl Plan {
             None => Ok(()),
         }
     }
+
+    /// Changes the state of component `j` by an action that it takes as an input; another action changes nothing. A refusal leaves
+    /// what one of `apply` leaves.
+    #[inline(always)]
+    pub fn receive<C: Cells>(
+        &self,
+        alloc: Global,
+        j: u16,
+        action: &Action,
+        cells: &mut C,
+    ) -> Result<(), NoMemory>
+        ensures ok { OnOk result (C.values cells.new ≡ cond (inputs (composition self.now) j action.now)
+            (applied (composition self.now) j action.now (C.values cells.old)) (C.values cells.old)) }
+        ensures err { OnErr result (IsPartApplied (composition self.now) j action.now
+            (C.values cells.old) (C.values cells.new)) }
+        ensures marked { C.marked cells.new ≡ C.marked cells.old }
+    {
+        match self.entry(j, action) {
+            Some(entry) => {
+                let takes = takes_input(Some(entry.kind));
+                if !takes {
+                    return Ok(());
+                }
+                let env = env_of(self.formals(j), action.args.as_slice());
+                run(alloc, &entry.effect, &env, cells)
+            }
+            None => Ok(()),
+        }
+    }
 }
 
 fn start_values(alloc: Global, terms: &[Term], formals: &[Scalar]) -> Result<Vec<Value>, NoMemory>
@@ -87,6 +118,7 @@ pub(super) fn env_of<'a>(formals: &'a [Scalar], parameters: &'a [Scalar]) -> Env
 }
 
 /// Whether the precondition of an entry holds for these arguments.
+#[inline(always)]
 pub(super) fn holds<C: Cells>(
     alloc: Global,
     entry: &Entry,

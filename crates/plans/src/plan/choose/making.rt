@@ -1,8 +1,9 @@
 //! The action of a tuple, made once and where it stays.
-ghost use Rattle.std.specs.Prelude.{◌≡◌, ◌<◌, ◌∷◌, [], IfOk, Some};
+ghost use Rattle.std.specs.Prelude.{◌≡◌, ◌<◌, ◌∷◌, [], IfOk, OnOk, OnErr, Some};
 ghost use Rattle.plans.specs.Tuples.{many, tuple_at, picked};
 
 use crate::automaton::{Entry, Param};
+use crate::plan::choose::put;
 use crate::plan::tuples::{choices, put_tuple};
 use evaluation::parts;
 use smallvec::SmallVec;
@@ -10,38 +11,33 @@ use std::alloc::Global;
 use terms::cells::slot_of;
 use terms::{Action, NoMemory, Scalar};
 
-/// The action of the tuple at a place among the `count` ones of an entry. It stays a call, so that idle turns need no room for
-/// what it makes.
+/// Puts there the action of the tuple at a place among the `count` ones of an entry. It stays a call, so that idle turns need no
+/// room for what it makes.
 #[inline(never)]
-pub(super) fn action_at(
+pub(super) fn put_action_at(
     alloc: Global,
     entry: &Entry,
     formals: &[Scalar],
     count: usize,
     at: usize,
-) -> Result<Option<Action>, NoMemory>
+    found: &mut Option<Action>,
+) -> Result<(), NoMemory>
     requires count { count ≡ many entry.now.params.items }
     requires below { at < count }
-    ensures { IfOk result (λ found. found ≡ Some (record {
+    ensures ok { OnOk result (found.new ≡ Some (record {
       name = entry.now.name;
       args = tuple_at formals.now entry.now.params.items at;
     })) }
+    ensures err { OnErr result (found.new ≡ found.old) }
 {
     let name = entry.name;
-    match entry.params.as_slice() {
-        [only] => Ok(Some(Action {
-            name,
-            args: one_at(alloc, formals, only, at),
-        })),
-        [first, second] => Ok(Some(Action {
-            name,
-            args: two_at(alloc, formals, first, second, at),
-        })),
-        params => Ok(Some(Action {
-            name,
-            args: many_at(alloc, formals, params, count, at)?,
-        })),
-    }
+    let args = match entry.params.as_slice() {
+        [only] => one_at(alloc, formals, only, at),
+        [first, second] => two_at(alloc, formals, first, second, at),
+        params => many_at(alloc, formals, params, count, at)?,
+    };
+    put(found, Some(Action { name, args }));
+    Ok(())
 }
 
 #[inline(always)]

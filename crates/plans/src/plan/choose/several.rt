@@ -1,18 +1,18 @@
 //! The outcome of a task of any number of entries.
-ghost use Rattle.std.specs.Prelude.{◌≡◌, ◌+◌, ◌<◌, ◌%◌, IfOk, IfSome, OnOk, [], Some, option_copied, map, slice_get, length};
+ghost use Rattle.std.specs.Prelude.{◌≡◌, ◌+◌, ◌<◌, ◌%◌, true, IfOk, IfSome, OnOk, OnErr, [], None, Some, option_copied, map, slice_get, length};
 ghost use Rattle.std.specs.Option.{option_map};
 ghost use Rattle.std.specs.List.{flat_map};
-ghost use Rattle.plans.specs.Alike.{alike, Tells};
+ghost use Rattle.plans.specs.Alike.{alike, AreFirsts, Tells};
 ghost use Rattle.plans.specs.Automata.{transition_of};
 ghost use Rattle.plans.specs.Outcomes.{enabled_by};
-ghost use Rattle.plans.specs.Steps.{scope_in};
+ghost use Rattle.plans.specs.Steps.{holds, scope_in};
 ghost use Rattle.plans.specs.Tuples.{enabled_in, enabled_count};
 ghost use Rattle.terms.specs.Scopes.{scope};
 
 use crate::automaton::Entry;
-use crate::plan::alike::number_at;
-use crate::plan::choose::making::action_at;
-use crate::plan::choose::{action_asked, count_each, entry_among};
+use crate::plan::alike::{first_at, number_at};
+use crate::plan::choose::making::put_action_at;
+use crate::plan::choose::{action_asked, count_each, entry_among, put};
 use crate::plan::step::env_of;
 use evaluation::evaluate::is_true;
 use std::alloc::Global;
@@ -21,52 +21,66 @@ use terms::{Action, Cells, Env, NoMemory, Scalar};
 /// Of so many entries of a task the numbers of their actions stand on the stack.
 const SHORT: usize = 8;
 
-/// The enabled action at `choice` modulo their number. Most tasks have few entries, and no condition that mentions a
+/// Puts there the enabled action at `choice` modulo their number. Most tasks have few entries, and no condition that mentions a
 /// parameter.
 #[inline(never)]
-pub(super) fn outcome_of_several<C: Cells>(
+pub(super) fn put_outcome_of_several<C: Cells>(
     alloc: Global,
     entries: &[Entry],
     numbers: &[usize],
+    firsts: &[usize],
     formals: &[Scalar],
     places: &[usize],
     choice: u32,
     cells: &C,
-) -> Result<Option<Action>, NoMemory>
+    found: &mut Option<Action>,
+) -> Result<(), NoMemory>
     requires told { numbers.now ≡ map alike (map transition_of entries.now) }
-    ensures { IfOk result (λ found. let enabled = flat_map
-        (enabled_in entries.now formals.now (C.values cells.now)) places.now in found
+    requires repeated { AreFirsts (map transition_of entries.now) firsts.now }
+    requires none { found.old ≡ None }
+    ensures ok { OnOk result (let enabled = flat_map
+        (enabled_in entries.now formals.now (C.values cells.now)) places.now in found.new
         ≡ slice_get enabled (choice % length enabled)) }
+    ensures err { OnErr result (found.new ≡ None) }
 {
     let many = places.len();
     if many > SHORT {
-        return outcome_of_any(alloc, entries, numbers, formals, places, choice, cells);
+        return put_outcome_of_any(
+            alloc, entries, numbers, formals, places, choice, cells, found,
+        );
     }
     let mut counts = [0; SHORT];
     let few = &mut counts[..many];
-    let Some(total) = count_all_alike(alloc, entries, numbers, formals, places, few, cells)? else {
-        return outcome_of_any(alloc, entries, numbers, formals, places, choice, cells);
+    let counted = count_all_alike(alloc, entries, numbers, firsts, formals, places, few, cells)?;
+    let Some(total) = counted else {
+        return put_outcome_of_any(
+            alloc, entries, numbers, formals, places, choice, cells, found,
+        );
     };
     if total == 0 {
-        return Ok(None);
+        return Ok(());
     }
     let nth = choice as usize % total;
-    chosen(alloc, entries, numbers, formals, places, few, nth, cells)
+    chosen(
+        alloc, entries, numbers, formals, places, few, nth, cells, found,
+    )
 }
 
 // Notes how many actions of each entry are enabled, and how many that is; none where a condition mentions a parameter. One
-// scope serves all entries.
+// scope serves all entries, and a condition that is the last one's again isn't evaluated again.
 #[inline(always)]
 fn count_all_alike<C: Cells>(
     alloc: Global,
     entries: &[Entry],
     numbers: &[usize],
+    firsts: &[usize],
     formals: &[Scalar],
     places: &[usize],
     counts: &mut [usize],
     cells: &C,
 ) -> Result<Option<usize>, NoMemory>
     requires told { numbers.now ≡ map alike (map transition_of entries.now) }
+    requires repeated { AreFirsts (map transition_of entries.now) firsts.now }
     requires room { length counts.old ≡ length places.now }
     ensures counts { IfOk result (λ total. IfSome total (λ _. counts.new ≡ map
         (enabled_count entries.now formals.now (C.values cells.now)) places.now)) }
@@ -75,25 +89,77 @@ fn count_all_alike<C: Cells>(
 {
     let env = env_of(formals, &[]);
     let mut total: usize = 0;
+    let mut last = entries.len();
+    let mut held = false;
     for at in 0..places.len() {
-        let number = number_at(numbers, places[at]);
+        let place = places[at];
+        let number = number_at(numbers, place);
         if number == 0 {
             return Ok(None);
         }
-        let Some(entry) = entry_among(entries, places[at]) else {
+        let Some(entry) = entry_among(entries, place) else {
             return Ok(None);
         };
-        let count = count_alike(alloc, entry, number, formals, &env, cells)?;
+        let first = first_at(entries, firsts, place);
+        let holding = holds_as(alloc, entry, formals, &env, first == last, held, cells)?;
+        let count = count_if(entry, number, formals, holding, cells);
+        last = first;
+        held = holding;
         counts[at] = count;
         total = sum(total, count)?;
     }
     Ok(Some(total))
 }
 
+// Whether the condition of an entry holds, which is known already where it is the last one's again.
+#[inline(always)]
+fn holds_as<C: Cells>(
+    alloc: Global,
+    entry: &Entry,
+    formals: &[Scalar],
+    env: &Env,
+    again: bool,
+    held: bool,
+    cells: &C,
+) -> Result<bool, NoMemory>
+    requires held { again ≡ true → held ≡ holds (transition_of entry.now) formals.now
+        (C.values cells.now) [] }
+    requires env { scope env.now ≡ scope_in formals.now [] }
+    ensures { IfOk result (λ holding. holding ≡ holds (transition_of entry.now) formals.now
+        (C.values cells.now) []) }
+{
+    let _ = formals;
+    if again {
+        return Ok(held);
+    }
+    is_true(alloc, &entry.pre, env, cells)
+}
+
+// How many actions of an entry are enabled, where its condition mentions no parameter and holds, or doesn't.
+#[inline(always)]
+fn count_if<C: Cells>(
+    entry: &Entry,
+    number: usize,
+    formals: &[Scalar],
+    holding: bool,
+    cells: &C,
+) -> usize
+    requires told { number ≡ alike (transition_of entry.now) }
+    requires some { 0 < number }
+    requires holding { holding ≡ holds (transition_of entry.now) formals.now (C.values cells.now) [] }
+    ensures { result ≡ length
+        (enabled_by formals.now (C.values cells.now) (Some (transition_of entry.now))) }
+{
+    let _ = entry;
+    let _ = formals;
+    let _ = cells;
+    if holding { number } else { 0 }
+}
+
 // The outcome of any task.
 #[cold]
 #[inline(never)]
-fn outcome_of_any<C: Cells>(
+fn put_outcome_of_any<C: Cells>(
     alloc: Global,
     entries: &[Entry],
     numbers: &[usize],
@@ -101,20 +167,25 @@ fn outcome_of_any<C: Cells>(
     places: &[usize],
     choice: u32,
     cells: &C,
-) -> Result<Option<Action>, NoMemory>
+    found: &mut Option<Action>,
+) -> Result<(), NoMemory>
     requires told { numbers.now ≡ map alike (map transition_of entries.now) }
-    ensures { IfOk result (λ found. let enabled = flat_map
-        (enabled_in entries.now formals.now (C.values cells.now)) places.now in found
+    requires none { found.old ≡ None }
+    ensures ok { OnOk result (let enabled = flat_map
+        (enabled_in entries.now formals.now (C.values cells.now)) places.now in found.new
         ≡ slice_get enabled (choice % length enabled)) }
+    ensures err { OnErr result (found.new ≡ None) }
 {
     let many = places.len();
     if many <= SHORT {
         let mut counts = [0; SHORT];
         let few = &mut counts[..many];
-        return outcome_by(alloc, entries, numbers, formals, places, choice, few, cells);
+        return put_outcome_by(
+            alloc, entries, numbers, formals, places, choice, few, cells, found,
+        );
     }
     let mut counts = vec![in alloc; 0; many]?;
-    let outcome = outcome_by(
+    let outcome = put_outcome_by(
         alloc,
         entries,
         numbers,
@@ -123,6 +194,7 @@ fn outcome_of_any<C: Cells>(
         choice,
         counts.as_mut_slice(),
         cells,
+        found,
     );
     drop(counts);
     outcome
@@ -130,7 +202,7 @@ fn outcome_of_any<C: Cells>(
 
 // The same; `counts` has a place for each entry.
 #[inline(never)]
-fn outcome_by<C: Cells>(
+fn put_outcome_by<C: Cells>(
     alloc: Global,
     entries: &[Entry],
     numbers: &[usize],
@@ -139,19 +211,24 @@ fn outcome_by<C: Cells>(
     choice: u32,
     counts: &mut [usize],
     cells: &C,
-) -> Result<Option<Action>, NoMemory>
+    found: &mut Option<Action>,
+) -> Result<(), NoMemory>
     requires told { numbers.now ≡ map alike (map transition_of entries.now) }
     requires room { length counts.old ≡ length places.now }
-    ensures { IfOk result (λ found. let enabled = flat_map
-        (enabled_in entries.now formals.now (C.values cells.now)) places.now in found
+    requires none { found.old ≡ None }
+    ensures ok { OnOk result (let enabled = flat_map
+        (enabled_in entries.now formals.now (C.values cells.now)) places.now in found.new
         ≡ slice_get enabled (choice % length enabled)) }
+    ensures err { OnErr result (found.new ≡ None) }
 {
     let total = count_places(alloc, entries, numbers, formals, places, counts, cells)?;
     if total == 0 {
-        return Ok(None);
+        return Ok(());
     }
     let at = choice as usize % total;
-    chosen(alloc, entries, numbers, formals, places, counts, at, cells)
+    chosen(
+        alloc, entries, numbers, formals, places, counts, at, cells, found,
+    )
 }
 
 // Notes how many actions of each entry are enabled, and how many that is.
@@ -236,12 +313,8 @@ fn count_alike<C: Cells>(
     ensures { IfOk result (λ count. count ≡ length
         (enabled_by formals.now (C.values cells.now) (Some (transition_of entry.now)))) }
 {
-    let _ = formals;
-    let holding = is_true(alloc, &entry.pre, env, cells)?;
-    if holding {
-        return Ok(number);
-    }
-    Ok(0)
+    let holding = holds_as(alloc, entry, formals, env, false, false, cells)?;
+    Ok(count_if(entry, number, formals, holding, cells))
 }
 
 // The enabled action at a place, where each entry's number is known.
@@ -255,27 +328,53 @@ fn chosen<C: Cells>(
     counts: &[usize],
     nth: usize,
     cells: &C,
-) -> Result<Option<Action>, NoMemory>
+    found: &mut Option<Action>,
+) -> Result<(), NoMemory>
     requires told { numbers.now ≡ map alike (map transition_of entries.now) }
     requires counts { counts.now ≡ map (enabled_count entries.now formals.now
         (C.values cells.now)) places.now }
-    ensures { IfOk result (λ found. found ≡ slice_get (flat_map
+    requires none { found.old ≡ None }
+    ensures ok { OnOk result (found.new ≡ slice_get (flat_map
         (enabled_in entries.now formals.now (C.values cells.now)) places.now) nth) }
+    ensures err { OnErr result (found.new ≡ None) }
 {
     let mut left = nth;
     for at in 0..places.len() {
         let count = counts[at];
         if left < count {
             let Some(entry) = entry_among(entries, places[at]) else {
-                return Ok(None);
+                return Ok(());
             };
             let number = number_at(numbers, places[at]);
             if number == 0 {
-                return action_asked(alloc, entry, formals, count, left, cells);
+                return put_action_asked(alloc, entry, formals, count, left, cells, found);
             }
-            return action_at(alloc, entry, formals, number, left);
+            return put_action_at(alloc, entry, formals, number, left, found);
         }
         left -= count;
     }
-    Ok(None)
+    Ok(())
+}
+
+#[cold]
+#[inline(never)]
+fn put_action_asked<C: Cells>(
+    alloc: Global,
+    entry: &Entry,
+    formals: &[Scalar],
+    enabled: usize,
+    at: usize,
+    cells: &C,
+    found: &mut Option<Action>,
+) -> Result<(), NoMemory>
+    requires enabled { enabled ≡ length
+        (enabled_by formals.now (C.values cells.now) (Some (transition_of entry.now))) }
+    requires below { at < enabled }
+    ensures ok { OnOk result (found.new ≡ slice_get
+        (enabled_by formals.now (C.values cells.now) (Some (transition_of entry.now))) at) }
+    ensures err { OnErr result (found.new ≡ found.old) }
+{
+    let action = action_asked(alloc, entry, formals, enabled, at, cells)?;
+    put(found, action);
+    Ok(())
 }

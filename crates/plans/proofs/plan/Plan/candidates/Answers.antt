@@ -1,14 +1,21 @@
-use Rattle.std.proofs.Common.{subst}
-use Rattle.std.proofs.Props.{props}
-use Rattle.std.proofs.Math.Logic.{∥∥₁_elim}
+use Rattle.std.proofs.Common.{◌++◌, ◌∷◌, [], subst}
+use Rattle.std.specs.Prelude.{◌≡◌, ℕ}
+use Rattle.std.specs.List.Sorted.{IsStrictlyIncreasing}
 use Rattle.plans.specs.Plans.{composition}
-use Rattle.plans.proofs.Candidates.{HasListed, receivers_among, taker_found}
+use Rattle.plans.specs.Receivers.{AreCandidates}
+use Rattle.plans.specs.Signatures.{receivers_of}
+use Rattle.plans.proofs.Passing.{lent_are, receivers_are, if_ok}
 use Rattle.plans.proofs.plan.Plan.candidates.Goals as goal
 
+pub returns-then-is_above : goal.returns-then-is_above
+returns-then-is_above c =
+    let numbers = c.in-Some.numbers.now in
+    let above = c.is_above.ensures c.if-is_above.true c.in-Some.ensures.rise in
+    lent_are (composition c.args.self.now) c.args.action.now c.args.sender numbers c.in-Some.ensures.rise
+    (subst (λ (n : ℕ). IsStrictlyIncreasing (numbers ++ n ∷ [])) c.components.ensures above) (c.in-Some.ensures.all c.args.sender)
+
 pub returns : goal.returns
-returns c sender =
+returns c =
     let all = composition c.args.self.now in
-    let action = c.args.action.now in
-    let found = c.in_ok-found.found.items in
-    let listed = subst (λ index. HasListed index found action) c.deref.ensures c.in_ok-found.ensures.all in
-    ∥∥₁_elim c.args.self.now.indexed (hlevel props) (λ indexed. receivers_among all action sender found c.in_ok-found.ensures.rise (taker_found c.args.self.now.index.value all found action indexed listed))
+    if_ok c.put_receivers.result (λ found. found.now ≡ receivers_of all c.args.action.now c.args.sender) (λ found. AreCandidates all c.args.action.now c.args.sender found.now) c.put_receivers.ensures
+    (λ found is. receivers_are all c.args.action.now c.args.sender found.now is)

@@ -8,5 +8,5 @@ pub returns-in-Some : goal.returns-in-Some
 returns-in-Some c =
     let all = composition c.args.self.now in
     let action = c.args.action.now in
-    let is = subst (λ lent. IfSome lent (λ found. (sender : ℕ) → filter (receives all sender action) found.now ≡ receivers_of all action sender)) c.in-Some.is c.lent.ensures in
+    let is = subst (λ lent. IfSome lent (λ found. (sender : ℕ) → filter (receives all sender action) found.now ≡ receivers_of all action sender)) c.in-Some.is c.lent.ensures.all in
     subst (λ (numbers : List ℕ). IfOk c.receivers_among.result (λ receivers. receivers.items ≡ numbers)) (is c.args.sender) c.receivers_among.ensures
