@@ -1,15 +1,15 @@
 -- Rules are broken exactly where two entries clash.
-use Rattle.std.proofs.Common.{arith, ◌≡◌, ◌≢◌, ◌≤◌, ◌+◌, ◌⊎◌, inl, inr, ℕ, zero, suc, Bool as Truth, true, false, not, ◌&&◌, ◌||◌, nat_eq, List, [], ◌∷◌, refl, sym, ◌∙◌, ap, subst}
+use Rattle.std.proofs.Common.{arith, ◌≡◌, ◌≢◌, ◌≤◌, ◌⊎◌, inl, inr, ℕ, Bool as Truth, true, false, not, ◌&&◌, ◌||◌, nat_eq, List, refl, sym, ◌∙◌, ap, subst}
 use Rattle.std.proofs.lemmas.Bool.Decides.{nat_tests}
 use Rattle.terms.specs.Named.{Named}
 use Rattle.plans.specs.declared.automaton.Kind.{Kind}
 use Rattle.plans.specs.declared.automaton.Kind.TheVariants.{Input, Output, Internal}
 use Rattle.plans.specs.Automata.{Instance, component_at}
-use Rattle.plans.specs.Signatures.{has, any_as, same_kind, inputs, outputs, internals, acts}
+use Rattle.plans.specs.Signatures.{any_as, same_kind, inputs, outputs, internals, acts}
 use Rattle.compatibility.specs.declared.rule.Rule.{Rule}
 use Rattle.compatibility.specs.declared.rule.Rule.TheVariants as rule
 use Rattle.compatibility.specs.Rules.{IsTwice, OwnOverlap, InternalShared, OutputShared, Breaks, is_barred}
-use Rattle.compatibility.specs.Standings.{Stood, stands, Has, Pair, Shares, Clash}
+use Rattle.compatibility.specs.Standings.{Stood, stands, Pair, Clash}
 use Rattle.compatibility.proofs.Lists.{Two, two_of, pair_of}
 use Rattle.compatibility.proofs.Members.{both_true, same_is, acting, Actor, actor}
 

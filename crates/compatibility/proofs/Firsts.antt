@@ -1,15 +1,14 @@
 -- The first clash is the first component with which a rule is broken.
-use Rattle.std.proofs.Common.{arith, ◌≡◌, ◌≢◌, ◌≤◌, ◌+◌, ◌⊎◌, inl, inr, ℕ, zero, suc, Bool as Truth, true, false, nat_le, List, [], ◌∷◌, ◌++◌, map, Option, None, Some, refl, sym, ◌∙◌, ap, subst}
+use Rattle.std.proofs.Common.{arith, ◌≡◌, ◌≤◌, ◌+◌, ◌⊎◌, inl, inr, ℕ, suc, Bool as Truth, true, false, nat_le, List, [], ◌∷◌, ◌++◌, map, Option, None, Some, refl, sym, subst}
 use Rattle.std.proofs.lemmas.Bool.Decides.{nat_tests}
 use Rattle.terms.specs.declared.scalar.Scalar.{Scalar}
 use Rattle.plans.specs.Automata.{Transition, Instance}
 use Rattle.plans.specs.Compatible.{IsCompatible}
-use Rattle.plans.specs.Signatures.{inputs, outputs, internals, acts}
 use Rattle.compatibility.specs.declared.rule.Rule.{Rule}
 use Rattle.compatibility.specs.declared.rule.Rule.TheVariants as rule
-use Rattle.compatibility.specs.Rules.{IsTwice, OwnOverlap, InternalShared, OutputShared, Breaks, IsFirst}
+use Rattle.compatibility.specs.Rules.{IsTwice, Breaks, IsFirst}
 use Rattle.compatibility.specs.Standings.{Stood, stood_in, stands, Has, Pair, Clash, IsFirstPair, IsFirstClash}
-use Rattle.compatibility.proofs.Lists.{has_split, has_weaker, has_either, has_right, pair_weaker, pair_right, pair_split, pair_across}
+use Rattle.compatibility.proofs.Lists.{has_split, has_weaker, has_either, pair_weaker, pair_right, pair_split, pair_across}
 use Rattle.compatibility.proofs.Breaking.{ClashTo, broken_by, clash_of}
 
 -- ---- the components rise

@@ -1,15 +1,20 @@
 -- Lists of entries, by name.
-use Rattle.std.proofs.Common.{◌≡◌, ◌≤◌, ◌⊎◌, ℕ, zero, suc, ◌+◌, ◌<◌, Bool, true, false, ◌&&◌, cond, nat_eq, List, [], ◌∷◌, ◌++◌, length, drop, take, map, filter, get_or, slice_get, slice_set, Option, None, Some, inl, inr, refl, sym, ◌∙◌, ap, subst, arith}
+use Rattle.std.proofs.Common.{◌≡◌, ◌≤◌, ◌⊎◌, ℕ, zero, suc, ◌+◌, ◌<◌, Bool, true, false, not, ◌&&◌, cond, nat_eq, List, [], ◌∷◌, ◌++◌, length, drop, take, map, filter, get_or, slice_get, slice_set, Some, inl, inr, refl, sym, ◌∙◌, ap, subst, arith}
+use Rattle.std.proofs.lemmas.Bool.{true≢false}
 use Rattle.std.proofs.lemmas.Bool.Decides.{nat_tests}
 use Rattle.std.proofs.lemmas.List.{append-nil}
 use Rattle.std.proofs.lemmas.List.Elements.{filter-append}
 use Rattle.std.specs.declared.vec.Vec.{Vec}
-use Rattle.terms.specs.Named.{Named}
-use Rattle.plans.specs.Signatures.{has, fits}
+use Rattle.plans.specs.Signatures.{fits, same_kind}
+use Rattle.plans.specs.declared.automaton.Kind.TheVariants.{Input, Output, Internal}
+use Rattle.compatibility.specs.Rules.{is_barred}
 use Rattle.compatibility.specs.declared.rule.Rule.{Rule}
+use Rattle.compatibility.specs.declared.rule.Rule.TheVariants.{Own}
+use Rattle.compatibility.specs.declared.rule.Rule.TheVariants as rule
+use Rattle.plans.specs.declared.automaton.Kind.{Kind}
 use Rattle.compatibility.specs.declared.standing.Standing.{Standing}
-use Rattle.compatibility.specs.Standings.{Stood, stood, listed, seen_at, is_of, Has, Pair, Clash, IsFirstPair}
-use Rattle.compatibility.proofs.Lists.{has_filtered, has_of_filtered, pair_last}
+use Rattle.compatibility.specs.Standings.{Stood, stood, seen_at, is_of, is_input_of, is_control_of, Has, Pair, Clash, ClashesAsInput, IsFirstPair}
+use Rattle.compatibility.proofs.Lists.{has_either, has_filtered, has_of_filtered, has_weaker, pair_last}
 
 -- ---- lists and their places
 
@@ -111,25 +116,65 @@ module _ (rule : Rule) (all : List Standing) (i : ℕ) (x : Standing) (is : x �
   so_far = ap (map stood) (taken_at all i x is low) ∙ mapped_last (take i all) x
 
   -- the lists of names with one more entry
-  pub seen_next : (n : ℕ) (old new : List Stood) → old ≡ filter (is_of n) (map stood (take i all)) → new ≡ old ++ cond (nat_eq (stood x).entry.name n) (stood x ∷ []) [] → new ≡ filter (is_of n) (map stood (take (i + 1) all))
-  seen_next n old new was e = e ∙ ap (λ xs. xs ++ cond (nat_eq (stood x).entry.name n) (stood x ∷ []) []) was ∙ sym (ap (filter (is_of n)) so_far ∙ filter-append (is_of n) (map stood (take i all)) (stood x ∷ []))
+  pub seen_next : (test : ℕ → Stood → Bool) (n : ℕ) (old new : List Stood) → old ≡ filter (test n) (map stood (take i all)) → new ≡ old ++ cond (test n (stood x)) (stood x ∷ []) [] → new ≡ filter (test n) (map stood (take (i + 1) all))
+  seen_next test n old new was e = e ∙ ap (λ xs. xs ++ cond (test n (stood x)) (stood x ∷ []) []) was ∙ sym (ap (filter (test n)) so_far ∙ filter-append (test n) (map stood (take i all)) (stood x ∷ []))
 
   -- no two of the entries so far clash, where the next one clashes with none of its name
-  pub free_next : (old : List Stood) → old ≡ filter (is_of (stood x).entry.name) (map stood (take i all)) → (Pair (Clash rule) (map stood (take i all)) → ⊥) → (Has (λ a. Clash rule a (stood x)) old → ⊥) → Pair (Clash rule) (map stood (take (i + 1) all)) → ⊥
-  free_next old was free none pair = by (pair_last (Clash rule) (stood x) (map stood (take i all)) (subst (Pair (Clash rule)) so_far pair))
+  pub free_next : (inputs controls : List Stood) → inputs ≡ filter (is_input_of (stood x).entry.name) (map stood (take i all)) → controls ≡ filter (is_control_of (stood x).entry.name) (map stood (take i all)) → (Pair (Clash rule) (map stood (take i all)) → ⊥) → (Has (λ a. Clash rule a (stood x)) controls → ⊥) → (Has (λ a. ClashesAsInput rule a (stood x)) inputs → ⊥) → Pair (Clash rule) (map stood (take (i + 1) all)) → ⊥
+  free_next inputs controls inputs_are controls_are free none none_input pair = by (pair_last (Clash rule) (stood x) (map stood (take i all)) (subst (Pair (Clash rule)) so_far pair))
     where
+      sorted : (a : Stood) → Clash rule a (stood x) → ClashesAsInput rule a (stood x) ⊎ ((same_kind Input a.entry.kind ≡ false) × Clash rule a (stood x))
+      sorted a c = go (same_kind Input a.entry.kind) refl where
+        go : (b : Bool) → same_kind Input a.entry.kind ≡ b → ClashesAsInput rule a (stood x) ⊎ ((same_kind Input a.entry.kind ≡ false) × Clash rule a (stood x))
+        go true e = inl (e, c)
+        go false e = inr (e, c)
+
+      as_input : (a : Stood) → ClashesAsInput rule a (stood x) → is_input_of (stood x).entry.name a ≡ true
+      as_input a c = ap (λ b. b && same_kind Input a.entry.kind) (one_name rule a (stood x) c.1) ∙ c.0
+
+      as_control : (a : Stood) → (same_kind Input a.entry.kind ≡ false) × Clash rule a (stood x) → is_control_of (stood x).entry.name a ≡ true
+      as_control a c = ap (λ b. b && not (same_kind Input a.entry.kind)) (one_name rule a (stood x) c.1) ∙ ap not c.0
+
+      apart : Has (λ a. ClashesAsInput rule a (stood x)) (map stood (take i all)) ⊎ Has (λ a. (same_kind Input a.entry.kind ≡ false) × Clash rule a (stood x)) (map stood (take i all)) → ⊥
+      apart (inl h) = none_input (subst (Has (λ a. ClashesAsInput rule a (stood x))) (sym inputs_are) (has_filtered (λ a. ClashesAsInput rule a (stood x)) (is_input_of (stood x).entry.name) as_input (map stood (take i all)) h))
+      apart (inr h) =
+          none (has_weaker (λ a. (same_kind Input a.entry.kind ≡ false) × Clash rule a (stood x)) (λ a. Clash rule a (stood x)) (λ a c. c.1) controls
+          (subst (Has (λ a. (same_kind Input a.entry.kind ≡ false) × Clash rule a (stood x))) (sym controls_are) (has_filtered (λ a. (same_kind Input a.entry.kind ≡ false) × Clash rule a (stood x)) (is_control_of (stood x).entry.name) as_control (map stood (take i all)) h)))
+
       by : Pair (Clash rule) (map stood (take i all)) ⊎ Has (λ a. Clash rule a (stood x)) (map stood (take i all)) → ⊥
       by (inl h) = free h
-      by (inr h) = none (subst (Has (λ a. Clash rule a (stood x))) (sym was) (has_filtered (λ a. Clash rule a (stood x)) (is_of (stood x).entry.name) (λ a. one_name rule a (stood x)) (map stood (take i all)) h))
+      by (inr h) = apart (has_either (λ a. ClashesAsInput rule a (stood x)) (λ a. (same_kind Input a.entry.kind ≡ false) × Clash rule a (stood x)) (map stood (take i all)) (has_weaker (λ a. Clash rule a (stood x)) (λ a. ClashesAsInput rule a (stood x) ⊎ ((same_kind Input a.entry.kind ≡ false) × Clash rule a (stood x))) sorted (map stood (take i all)) h))
 
   -- the next one clashes with one of its name
-  pub first_found : (old : List Stood) → old ≡ filter (is_of (stood x).entry.name) (map stood (take i all)) → (Pair (Clash rule) (map stood (take i all)) → ⊥) → Has (λ a. Clash rule a (stood x)) old → IsFirstPair rule (map stood all) x.component
-  first_found old was free some = record {
+  pub first_found : (test : Stood → Bool) (old : List Stood) → old ≡ filter test (map stood (take i all)) → (Pair (Clash rule) (map stood (take i all)) → ⊥) → Has (λ a. Clash rule a (stood x)) old → IsFirstPair rule (map stood all) x.component
+  first_found test old was free some = record {
     before = map stood (take i all);
     last = stood x;
     after = map stood (drop (i + 1) all);
     split = cut_at all i x is low;
     free = free;
-    clash = has_of_filtered (λ a. Clash rule a (stood x)) (is_of (stood x).entry.name) (map stood (take i all)) (subst (Has (λ a. Clash rule a (stood x))) was some);
+    clash = has_of_filtered (λ a. Clash rule a (stood x)) test (map stood (take i all)) (subst (Has (λ a. Clash rule a (stood x))) was some);
     same = refl;
   }
+
+-- an entry goes into one of two lists
+pub into_first : (xs : List Stood) (s : Stood) (a b : Bool) → b ≡ true → xs ++ cond a (s ∷ []) [] ≡ xs ++ cond (a && b) (s ∷ []) []
+into_first xs s true b e = ap (λ t. xs ++ cond t (s ∷ []) []) (sym e)
+into_first xs s false b e = refl
+
+pub not_into : (xs : List Stood) (s : Stood) (a b : Bool) → b ≡ false → xs ≡ xs ++ cond (a && b) (s ∷ []) []
+not_into xs s true b e = unadded xs s b e
+not_into xs s false b e = sym (append-nil xs)
+
+-- two inputs break no rule
+pub inputs_agree : (rule : Rule) (one : Bool) (a b : Kind) → same_kind Input a ≡ true → same_kind Input b ≡ true → is_barred rule one a b ≡ true → ⊥
+inputs_agree Own true Input Input p q r = true≢false (sym r)
+inputs_agree Own false Input Input p q r = true≢false (sym r)
+inputs_agree rule.Internal true Input Input p q r = true≢false (sym r)
+inputs_agree rule.Internal false Input Input p q r = true≢false (sym r)
+inputs_agree rule.Output true Input Input p q r = true≢false (sym r)
+inputs_agree rule.Output false Input Input p q r = true≢false (sym r)
+inputs_agree rule one Output b p q r = true≢false (sym p)
+inputs_agree rule one Internal b p q r = true≢false (sym p)
+inputs_agree rule one Input Output p q r = true≢false (sym q)
+inputs_agree rule one Input Internal p q r = true≢false (sym q)

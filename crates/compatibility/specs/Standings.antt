@@ -1,10 +1,11 @@
 -- Entries of components, one component after the other.
-use Rattle.std.specs.Prelude.{◌≡◌, ◌≤◌, ◌⊎◌, ℕ, suc, Bool, true, nat_eq, List, [], ◌∷◌, ◌++◌, map, filter, Option, None, Some, slice_get}
+use Rattle.std.specs.Prelude.{◌≡◌, ◌⊎◌, ℕ, suc, Bool, true, not, ◌&&◌, nat_eq, List, [], ◌∷◌, ◌++◌, map, Option, None, Some, slice_get}
 use Rattle.std.specs.declared.vec.Vec.{Vec}
 use Rattle.terms.specs.Named.{Named}
 use Rattle.terms.specs.declared.scalar.Scalar.{Scalar}
 use Rattle.plans.specs.Automata.{Transition, Instance, transition_of}
-use Rattle.plans.specs.Signatures.{has}
+use Rattle.plans.specs.Signatures.{has, same_kind}
+use Rattle.plans.specs.declared.automaton.Kind.TheVariants.{Input}
 use Rattle.compatibility.specs.declared.rule.Rule.{Rule}
 use Rattle.compatibility.specs.declared.standing.Standing.{Standing}
 use Rattle.compatibility.specs.Rules.{is_barred}
@@ -61,6 +62,17 @@ IsFirstClash rule all (Some component) = IsFirstPair rule all component
 -- the entries so far of one name
 abbrev pub is_of : ℕ → Stood → Bool
 is_of n s = nat_eq s.entry.name n
+
+-- the same, inputs and others apart
+abbrev pub is_input_of : ℕ → Stood → Bool
+is_input_of n s = is_of n s && same_kind Input s.entry.kind
+
+abbrev pub is_control_of : ℕ → Stood → Bool
+is_control_of n s = is_of n s && not (same_kind Input s.entry.kind)
+
+-- an input and another entry break a rule
+abbrev pub ClashesAsInput : Rule → Stood → Stood → Type 0
+ClashesAsInput rule a b = (same_kind Input a.entry.kind ≡ true) × Clash rule a b
 
 abbrev pub listed : {A : Type 0} → Option (Vec Standing A) → List Stood
 listed None = []

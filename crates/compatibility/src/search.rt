@@ -6,7 +6,7 @@ ghost use Rattle.compatibility.specs.Standings.{stood, IsFirstClash};
 
 use crate::laws::first_law;
 use crate::rule::Rule;
-use crate::seen::{is_clash, push};
+use crate::seen::{is_clash, is_clash_with_input, push_by_kind};
 use crate::standing::{Standing, standings};
 use plans::{Automaton, Component};
 use std::alloc::Global;
@@ -16,18 +16,22 @@ use terms::NoMemory;
 fn first_clash(alloc: Global, rule: Rule, standings: &[Standing]) -> Result<Option<usize>, NoMemory>
     ensures { IfOk result (λ first. IsFirstClash rule (map stood standings.now) first) }
 {
-    let mut seen = Vec::new(alloc);
+    let mut inputs = Vec::new(alloc);
+    let mut controls = Vec::new(alloc);
     for standing in standings {
-        if is_clash(rule, seen.as_slice(), standing) {
+        if is_clash(rule, controls.as_slice(), standing) {
             return Ok(Some(standing.component));
         }
-        push(alloc, &mut seen, *standing)?;
+        if is_clash_with_input(rule, inputs.as_slice(), standing) {
+            return Ok(Some(standing.component));
+        }
+        push_by_kind(alloc, &mut inputs, &mut controls, *standing)?;
     }
     Ok(None)
 }
 
 /// The least number of a component such that the components up to it break a rule. Entries are compared with those of their own name
-/// alone, by their parameters.
+/// alone, by their parameters, and no input with another.
 pub fn first_break(
     alloc: Global,
     rule: Rule,

@@ -1,9 +1,12 @@
 //! The entries so far, by their names.
 ghost use Rattle.std.specs.Prelude.{◌≡◌, ◌<◌, ◌++◌, ◌∷◌, [], ℕ, true, false, cond, length, map, nat_eq, OnOk};
-ghost use Rattle.compatibility.specs.Standings.{stood, seen_at, Has, Clash};
+ghost use Rattle.compatibility.specs.Standings.{stood, seen_at, is_input_of, is_control_of, Has, Clash, ClashesAsInput};
+ghost use Rattle.plans.specs.Signatures.{same_kind};
+ghost use Rattle.plans.specs.declared.automaton.Kind.TheVariants.{Input};
 
 use crate::rule::Rule;
 use crate::standing::{Standing, clash};
+use plans::Kind;
 use std::alloc::Global;
 use terms::NoMemory;
 
@@ -18,8 +21,8 @@ fn make_room(alloc: Global, seen: &mut Vec<Vec<Standing>>, name: u16) -> Result<
     Ok(())
 }
 
-/// Adds an entry to those of its name.
-pub(crate) fn push<'a>(
+// Adds an entry to those of its name.
+fn push<'a>(
     alloc: Global,
     seen: &mut Vec<Vec<Standing<'a>>>,
     standing: Standing<'a>,
@@ -59,4 +62,41 @@ pub(crate) fn is_clash(rule: Rule, seen: &[Vec<Standing>], standing: &Standing) 
         Some(earlier) => clash_with(rule, earlier.as_slice(), standing),
         None => false,
     }
+}
+
+/// Adds an entry to those of its name, inputs apart from the others.
+pub(crate) fn push_by_kind<'a>(
+    alloc: Global,
+    inputs: &mut Vec<Vec<Standing<'a>>>,
+    controls: &mut Vec<Vec<Standing<'a>>>,
+    standing: Standing<'a>,
+) -> Result<(), NoMemory>
+    ensures inputs { OnOk result ((n : ℕ) → seen_at inputs.new.items n ≡ seen_at inputs.old.items n ++ cond (is_input_of n (stood standing.entry)) (stood standing.entry ∷ []) []) }
+    ensures controls { OnOk result ((n : ℕ) → seen_at controls.new.items n ≡ seen_at controls.old.items n ++ cond (is_control_of n (stood standing.entry)) (stood standing.entry ∷ []) []) }
+{
+    if is_input(standing.entry.kind) {
+        return push(alloc, inputs, standing);
+    }
+    push(alloc, controls, standing)
+}
+
+fn is_input(kind: Kind) -> bool
+    ensures { result ≡ same_kind Input kind }
+{
+    match kind {
+        Kind::Input => true,
+        Kind::Output => false,
+        Kind::Internal => false,
+    }
+}
+
+/// Whether one of the inputs so far and the given entry break a rule. Two inputs never do, and aren't compared.
+pub(crate) fn is_clash_with_input(rule: Rule, inputs: &[Vec<Standing>], standing: &Standing) -> bool
+    ensures some { result ≡ true → Has (λ a. Clash rule a (stood standing.now)) (seen_at inputs.now (stood standing.now).entry.name) }
+    ensures none { result ≡ false → Has (λ a. ClashesAsInput rule a (stood standing.now)) (seen_at inputs.now (stood standing.now).entry.name) → ⊥ }
+{
+    if is_input(standing.entry.kind) {
+        return false;
+    }
+    is_clash(rule, inputs, standing)
 }
