@@ -8,3 +8,4 @@ mod Stepping
 mod Takers
 mod Unread
 pub mod Taken
+mod Owning

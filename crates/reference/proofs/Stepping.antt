@@ -16,6 +16,7 @@ use Rattle.virtual_time.specs.Reference.{Turn, Point, AllBelow, IsNext, IsRefere
 use Rattle.plans.specs.Steps.{start_of}
 use Rattle.task_seed.specs.Ticks.{reaches_key}
 use Rattle.task_seed.specs.Turning.{System, key_of}
+use Rattle.task_seed.specs.Taken.{turn_of, turned_of}
 use Rattle.task_seed.specs.Machines.{machine, turn_rank, turn_outcome, end_rank}
 use Rattle.reference.specs.Queues.{ArePlaced, HasItsNumber, IsQueue, IsSmall, least_key, least_rank, place_of, rank_or_end}
 use Rattle.reference.specs.Taking.{plain, joining}
@@ -39,6 +40,11 @@ seen setup taken = record { setup = setup; taken = taken }
 -- the turn at a key
 abbrev pub turn_at : Key → Option Named → Turn Named
 turn_at key outcome = record { key = rank key; outcome = outcome }
+
+-- a turn by its key and the action that it took, as the theory has it
+pub turn_is : (found : Option Named) (key : Key) → turn_of (turned_of found key) ≡ turn_at key found
+turn_is None key = refl
+turn_is (Some action) key = refl
 
 -- these turns were taken, and these are the queue and the states
 pub record IsFound (s : System) (turns : List (Turn Named)) (places numbers : List ℕ) (states : List States) : Type 0 where

@@ -7,14 +7,14 @@ use Rattle.terms.specs.Named.{Named}
 use Rattle.undo_records.specs.States.{States, undone}
 use Rattle.plans.specs.Automata.{Instance}
 use Rattle.plans.specs.Receivers.{IsIn}
-use Rattle.reference.specs.Taking.{Distinct, IsPassed, AreMarked, changed, marking}
+use Rattle.reference.specs.Taking.{Distinct, IsPassed, AreMarked, changed, other_than, reaching, received}
 
-get_same : {X : Type 0} (xs : List X) (n : ℕ) (x : X) → n < length xs → slice_get (slice_set xs n x) n ≡ Some x
+pub get_same : {X : Type 0} (xs : List X) (n : ℕ) (x : X) → n < length xs → slice_get (slice_set xs n x) n ≡ Some x
 get_same [] n x h = absurd (omega (arith, h))
 get_same (y ∷ ys) zero x h = refl
 get_same (y ∷ ys) (suc n) x h = get_same ys n x (omega (arith, h))
 
-get_other : {X : Type 0} (xs : List X) (n : ℕ) (x : X) (j : ℕ) → (j ≡ n → ⊥) → slice_get (slice_set xs n x) j ≡ slice_get xs j
+pub get_other : {X : Type 0} (xs : List X) (n : ℕ) (x : X) (j : ℕ) → (j ≡ n → ⊥) → slice_get (slice_set xs n x) j ≡ slice_get xs j
 get_other [] n x j ne = refl
 get_other (y ∷ ys) zero x zero ne = absurd (ne refl)
 get_other (y ∷ ys) zero x (suc j) ne = refl
@@ -32,7 +32,7 @@ set_same [] n x h = refl
 set_same (y ∷ ys) zero x h = let same : y ≡ x = cc in ap (λ z. z ∷ ys) (sym same)
 set_same (y ∷ ys) (suc n) x h = ap (λ l. y ∷ l) (set_same ys n x h)
 
-same_lists : {X : Type 0} (xs ys : List X) → ((j : ℕ) → slice_get xs j ≡ slice_get ys j) → xs ≡ ys
+pub same_lists : {X : Type 0} (xs ys : List X) → ((j : ℕ) → slice_get xs j ≡ slice_get ys j) → xs ≡ ys
 same_lists [] [] h = refl
 same_lists [] (y ∷ ys) h = let none : None ≡ Some y = h 0 in cc
 same_lists (x ∷ xs) [] h = let none : Some x ≡ None = h 0 in cc
@@ -122,8 +122,8 @@ module _ (change : ℕ → States → States) (ts : List ℕ) (once : Distinct t
   pub as_was : (d : States) → slice_get olds n ≡ Some (slice_index_or nows n d)
   as_was d = sym untouched ∙ there d
 
-  pub marked_here : (d : States) → AreMarked ts olds → 1 < length (slice_index_or nows n d).below + 1
-  marked_here d marked = let some = marked n (slice_index_or nows n d) n_in (as_was d) in omega (arith, some)
+  pub marked_here : (d : States) (i : ℕ) → AreMarked i ts olds → (n ≡ i → ⊥) → 0 < length (slice_index_or nows n d).below
+  marked_here d i marked other = marked n (slice_index_or nows n d) n_in other (as_was d)
 
   pub one_more : (d new : States) → new ≡ change n (slice_index_or nows n d) → IsPassed change (take (k + 1) ts) olds (slice_set nows n new)
   one_more d new new_is = record { many = slice_set-length nows n new ∙ passed.many; each = each } where
@@ -154,19 +154,20 @@ module _ (change : ℕ → States → States) (ts : List ℕ) (once : Distinct t
       go (inl e) = subst (λ m. slice_get (slice_set nows n new) m ≡ option_map (changed change (take (k + 1) ts) m) (slice_get olds m)) (sym e) here
       go (inr ne) = get_other nows n new j ne ∙ passed.each j ∙ ap (λ b. option_map (λ s. cond b (change j s) s) (slice_get olds j)) (sym (other j ne))
 
--- a refused taker is as it was, and the marks of those before it are undone
-pub gone_back : (c : List Instance) (a : Named) (ts : List ℕ) (olds nows news : List States) (n : ℕ) (d back : States) → n < length nows → back ≡ slice_index_or nows n d
-    → IsPassed (marking c a) ts olds nows → IsPassed (λ _. undone) ts (slice_set nows n back) news → news ≡ olds
-gone_back c a ts olds nows news n d back short back_is marked unmarked = same_lists news olds each where
+-- a component that refused is as it was, and the marks of those before it are undone
+pub gone_back : (c : List Instance) (i : ℕ) (a : Named) (ts : List ℕ) (olds nows news : List States) (n : ℕ) (d back : States) → n < length nows → back ≡ slice_index_or nows n d
+    → IsPassed (reaching c i a) ts olds nows → IsPassed (other_than i undone) ts (slice_set nows n back) news → news ≡ olds
+gone_back c i a ts olds nows news n d back short back_is marked unmarked = same_lists news olds each where
   same : slice_set nows n back ≡ nows
   same = set_same nows n back (slice_get-get_or nows n d short ∙ ap (λ s. Some s) (sym back_is))
 
-  undo_mark : (j : ℕ) (b : Bool) (o : Option States) → option_map (λ s. cond b (undone s) s) (option_map (λ s. cond b (marking c a j s) s) o) ≡ o
-  undo_mark j b None = refl
-  undo_mark j true (Some s) = refl
-  undo_mark j false (Some s) = refl
+  undo_mark : (j : ℕ) (b own : Bool) (o : Option States) → option_map (λ s. cond b (cond own s (undone s)) s) (option_map (λ s. cond b (cond own s (record { current = received c a j s.current; below = s.current ∷ s.below })) s) o) ≡ o
+  undo_mark j b own None = refl
+  undo_mark j true true (Some s) = refl
+  undo_mark j true false (Some s) = refl
+  undo_mark j false own (Some s) = refl
 
   each : (j : ℕ) → slice_get news j ≡ slice_get olds j
   each j =
-      unmarked.each j ∙ ap (λ l. option_map (changed (λ _. undone) ts j) (slice_get l j)) same
-      ∙ ap (option_map (changed (λ _. undone) ts j)) (marked.each j) ∙ undo_mark j (IsIn j ts) (slice_get olds j)
+      unmarked.each j ∙ ap (λ l. option_map (changed (other_than i undone) ts j) (slice_get l j)) same
+      ∙ ap (option_map (changed (other_than i undone) ts j)) (marked.each j) ∙ undo_mark j (IsIn j ts) (j == i) (slice_get olds j)

@@ -1,10 +1,11 @@
 -- The states of components before and after an action.
-use Rattle.std.specs.Prelude.{◌≡◌, ℕ, ◌<◌, cond, true, false, Option, Some, List, [], ◌∷◌, length, slice_get, option_map}
+use Rattle.std.specs.Prelude.{◌≡◌, ℕ, ◌<◌, ◌==◌, cond, true, false, Option, Some, List, [], ◌∷◌, length, slice_get, option_map}
 use Rattle.terms.specs.Datum.{Datum}
 use Rattle.terms.specs.Named.{Named}
 use Rattle.undo_records.specs.States.{States}
 use Rattle.plans.specs.Automata.{Instance}
 use Rattle.plans.specs.Receivers.{IsIn}
+use Rattle.plans.specs.Signatures.{inputs}
 use Rattle.plans.specs.Steps.{applied}
 use Rattle.virtual_time.specs.Machine.{Machine}
 use Rattle.virtual_time.specs.Reference.{joint}
@@ -17,10 +18,6 @@ plain state = record { current = state; below = [] }
 abbrev pub Distinct : List ℕ → Type 0
 Distinct [] = Unit {0}
 Distinct (j ∷ js) = (IsIn j js ≡ false) × Distinct js
-
--- the state of component j after an action that these components take
-abbrev pub taking : List Instance → Named → List ℕ → ℕ → States → States
-taking composition action takers j state = cond (IsIn j takers) (plain (applied composition j action state.current)) state
 
 -- the state of component j after component i's turn
 abbrev pub joining : Machine (List Datum) Named → ℕ → Option Named → ℕ → States → States
@@ -35,10 +32,30 @@ pub record IsPassed (change : ℕ → States → States) (takers : List ℕ) (ol
   pub many : length news ≡ length olds
   pub each : (j : ℕ) → slice_get news j ≡ option_map (changed change takers j) (slice_get olds j)
 
--- each of these components has a marked state
-abbrev pub AreMarked : List ℕ → List States → Type 0
-AreMarked takers states = (j : ℕ) (state : States) → IsIn j takers ≡ true → slice_get states j ≡ Some state → 0 < length state.below
+-- each of these components but component i has a marked state
+abbrev pub AreMarked : ℕ → List ℕ → List States → Type 0
+AreMarked i among states = (j : ℕ) (state : States) → IsIn j among ≡ true → (j ≡ i → ⊥) → slice_get states j ≡ Some state → 0 < length state.below
 
 -- the current state is marked, and changed by an action
-abbrev pub marking : List Instance → Named → ℕ → States → States
-marking composition action j state = record { current = applied composition j action state.current; below = state.current ∷ state.below }
+abbrev pub marking : List Instance → ℕ → Named → States → States
+marking composition i action state = record { current = applied composition i action state.current; below = state.current ∷ state.below }
+
+-- a change of all but component i
+abbrev pub other_than : ℕ → (States → States) → ℕ → States → States
+other_than i change j state = cond (j == i) state (change state)
+
+-- what component j's state becomes by an action, which changes it where it takes that as an input
+abbrev pub received : List Instance → Named → ℕ → List Datum → List Datum
+received composition action j state = cond (inputs composition j action) (applied composition j action state) state
+
+-- the current state is marked, and becomes what an action of component i makes of it, which isn't component j
+abbrev pub reaching : List Instance → ℕ → Named → ℕ → States → States
+reaching composition i action j = other_than i (λ state. record { current = received composition action j state.current; below = state.current ∷ state.below }) j
+
+-- the state of component j after an action of component i reached these components
+abbrev pub reached : List Instance → ℕ → Named → List ℕ → ℕ → States → States
+reached composition i action among j state = cond (IsIn j among) (other_than i (λ state. plain (received composition action j state.current)) j state) state
+
+-- and after component i took it too
+abbrev pub taking : List Instance → ℕ → Named → List ℕ → ℕ → States → States
+taking composition i action among j state = cond (j == i) (plain (applied composition j action state.current)) (reached composition i action among j state)

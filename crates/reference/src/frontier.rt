@@ -1,10 +1,11 @@
 //! How far the turns of a setup were taken.
-ghost use Rattle.std.specs.Prelude.{◌≡◌, ◌+◌, ◌*◌, ◌%◌, ◌<◌, ℕ, [], IfOk, IfSome, OnErr, length, map, replicate, slice_set};
+ghost use Rattle.std.specs.Prelude.{◌≡◌, ◌+◌, ◌*◌, ◌%◌, ◌<◌, ℕ, [], None, IfOk, IfSome, IfNone, OnErr, length, map, option_map, replicate, slice_set};
 ghost use Rattle.std.specs.List.{range_with_len};
 ghost use Rattle.plans.specs.Plans.{composition};
 ghost use Rattle.plans.specs.Steps.{start_of};
 ghost use Rattle.task_seed.specs.Setups.{system, plan_of};
 ghost use Rattle.task_seed.specs.Machines.{machine};
+ghost use Rattle.task_seed.specs.Taken.{turned_of};
 ghost use Rattle.reference.specs.Queues.{ArePlaced, HasItsNumber, IsSmall, least_key, place_of};
 ghost use Rattle.reference.specs.Reading.{AreRead};
 ghost use Rattle.reference.specs.Standing.{taken_at, IsBeforeLeast};
@@ -13,9 +14,9 @@ ghost use Rattle.reference.specs.Tournaments.{IsTournament, node};
 ghost use Rattle.reference.specs.Views.{IsNextTurn, IsComplete};
 
 use crate::readers::Readers;
-use crate::taking::take_turn;
+use crate::taking::{put_none, take_turn};
 use crate::tournament::put;
-use event_keys::{Key, Turned};
+use event_keys::{Key, Outcome, Turned};
 use plans::Plan;
 use std::alloc::Global;
 use task_seed::laws::machine_is_lawful;
@@ -165,16 +166,59 @@ impl Frontier {
         ensures err_numbers { OnErr result (self.new.numbers.items ≡ self.old.numbers.items) }
         ensures whole { IsComplete (machine (system T.turn_of setup.now)) (taken_at (system T.turn_of setup.now) self.new.places.items self.new.numbers.items) }
     {
+        let mut found = None;
+        let key = self.take_next_into(alloc, setup, &mut found)?;
+        Ok(turned(found, key))
+    }
+
+    /// The same, with the action in `found`, if the turn took one. A refusal leaves nothing there.
+    #[inline(always)]
+    pub(crate) fn take_next_into<T: Turns>(
+        &mut self,
+        alloc: Global,
+        setup: &Setup<T>,
+        found: &mut Option<Action>,
+    ) -> Result<Option<Key>, NoMemory>
+        requires stands { IsBeforeLeast (system T.turn_of setup.now) self.old.places.items self.old.numbers.items self.old.states.items }
+        requires read { AreRead T.turn_of T.stands setup.now self.old.readers.readers.items }
+        ensures stands { IsBeforeLeast (system T.turn_of setup.now) self.new.places.items self.new.numbers.items self.new.states.items }
+        ensures read { AreRead T.turn_of T.stands setup.now self.new.readers.readers.items }
+        ensures ok { IfOk result (λ key. IsNextTurn (machine (system T.turn_of setup.now)) (taken_at (system T.turn_of setup.now) self.old.places.items self.old.numbers.items) (option_map (turned_of found.new) key) (taken_at (system T.turn_of setup.now) self.new.places.items self.new.numbers.items)) }
+        ensures last { IfOk result (λ key. IfNone key (found.new ≡ None)) }
+        ensures err_places { OnErr result (self.new.places.items ≡ self.old.places.items) }
+        ensures err_numbers { OnErr result (self.new.numbers.items ≡ self.old.numbers.items) }
+        ensures err_found { OnErr result (found.new ≡ None) }
+        ensures whole { IsComplete (machine (system T.turn_of setup.now)) (taken_at (system T.turn_of setup.now) self.new.places.items self.new.numbers.items) }
+    {
         machine_is_lawful(setup);
         reference_is_one::<State, Action>();
         reference_is_complete::<State, Action>();
         let Some(key) = least_key(&self.places, &self.numbers) else {
+            put_none(found);
             return Ok(None);
         };
         let turn = self.readers.turn(setup, key);
-        let outcome = take_turn(alloc, setup, key, turn, &mut self.states)?;
+        take_turn(alloc, setup, key, turn, &mut self.states, found)?;
         let next = self.readers.read_on(setup, key);
         move_on(&mut self.places, &mut self.numbers, key, next);
-        Ok(Some(Turned { key, outcome }))
+        Ok(Some(key))
+    }
+}
+
+// The turn of a key, if there is one, with the action that it took.
+#[inline(always)]
+fn turned(found: Option<Action>, key: Option<Key>) -> Option<Turned>
+    ensures { result ≡ option_map (turned_of found) key }
+{
+    match (key, found) {
+        (Some(key), Some(action)) => Some(Turned {
+            key,
+            outcome: Outcome::Did(action),
+        }),
+        (Some(key), None) => Some(Turned {
+            key,
+            outcome: Outcome::Idle,
+        }),
+        (None, _) => None,
     }
 }

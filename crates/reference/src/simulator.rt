@@ -1,17 +1,18 @@
 //! The simulator that always takes the turn with the least key.
-ghost use Rattle.std.specs.Prelude.{◌≡◌, [], IfOk, OnErr};
+ghost use Rattle.std.specs.Prelude.{◌≡◌, [], None, IfOk, IfNone, OnErr, option_map};
 ghost use Rattle.std.specs.Arc.{arc_value};
 ghost use Rattle.task_seed.specs.Setups.{system};
 ghost use Rattle.task_seed.specs.Machines.{machine};
+ghost use Rattle.task_seed.specs.Taken.{turned_of};
 ghost use Rattle.reference.specs.Views.{IsNextTurn, IsComplete};
 
 use crate::frontier::Frontier;
-use event_keys::Turned;
+use event_keys::{Key, Turned};
 use std::alloc::Global;
 use std::marker::Model;
 use std::sync::Arc;
 use task_seed::{Setup, Turns};
-use terms::NoMemory;
+use terms::{Action, NoMemory};
 
 /// The simulator that always takes the turn with the least key. It is seen as its setup and the turns that it has taken, the
 /// last one first.
@@ -78,5 +79,28 @@ impl<T: Turns> Reference<T> {
         ensures whole { IsComplete (machine (system T.turn_of self.old.setup)) self.new.taken }
     {
         self.frontier.take_next(alloc, &self.setup)
+    }
+
+    /// The same, with the action in `found`, if the turn took one, in place of what was there. Nothing is there after an idle turn,
+    /// after the last turn, and after a refusal.
+    ///
+    /// # Errors
+    ///
+    /// `NoMemory`; then no turn was taken, and the next call takes the same one.
+    #[inline(always)]
+    pub fn step_into(
+        &mut self,
+        alloc: Global,
+        found: &mut Option<Action>,
+    ) -> Result<Option<Key>, NoMemory>
+        ensures ok { IfOk result (λ key. IsNextTurn (machine (system T.turn_of self.old.setup)) self.old.taken
+            (option_map (turned_of found.new) key) self.new.taken) }
+        ensures last { IfOk result (λ key. IfNone key (found.new ≡ None)) }
+        ensures err { OnErr result (self.new.taken ≡ self.old.taken) }
+        ensures err_found { OnErr result (found.new ≡ None) }
+        ensures setup { self.new.setup ≡ self.old.setup }
+        ensures whole { IsComplete (machine (system T.turn_of self.old.setup)) self.new.taken }
+    {
+        self.frontier.take_next_into(alloc, &self.setup, found)
     }
 }

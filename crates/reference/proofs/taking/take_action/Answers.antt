@@ -1,30 +1,23 @@
-use Rattle.std.proofs.Common.{◌∙◌, ap, sym, take, length, slice_set}
-use Rattle.std.specs.Prelude.{slice_index_or}
+use Rattle.std.proofs.Common.{ℕ, ◌<◌, length, subst, sym}
+use Rattle.std.specs.Prelude.{◌≡◌}
 use Rattle.plans.specs.Plans.{composition}
-use Rattle.reference.specs.Taking.{marking}
-use Rattle.reference.proofs.Takers.{distinct_take, first_within, short, slice_set-length, one_more, gone_back}
+use Rattle.reference.proofs.Owning.{own_back, own_marked, all_taken}
 use Rattle.reference.proofs.taking.take_action.Goals as goal
-
-pub bounds-states-place : goal.bounds-states-place
-bounds-states-place c =
-    short (marking (composition c.args.plan.now) c.args.action.now) c.args.takers.now c.requires.once c.args.states.now c.loop-count.states c.loop-count.count c.from-place.result c.from-place.ensures c.loop-count-test.true c.requires.within c.loop-count.invariant
 
 pub returns-in-Err-clause-err : goal.returns-in-Err-clause-err
 returns-in-Err-clause-err c =
-    let short_here = short (marking (composition c.args.plan.now) c.args.action.now) c.args.takers.now c.requires.once c.args.states.now c.loop-count.states c.loop-count.count c.from-place.result c.from-place.ensures c.loop-count-test.true c.requires.within c.loop-count.invariant in
-    gone_back (composition c.args.plan.now) c.args.action.now (take c.loop-count.count c.args.takers.now) c.args.states.now c.loop-count.states c.take_back.new.states c.from-place.result c.index-states-place.result c.advance.new.state short_here
-    c.in-Err.ensures.err c.loop-count.invariant c.take_back.ensures
+    let within = subst (λ (n : ℕ). n < length c.args.states.now) (sym c.from-own.ensures) c.requires.own in
+    own_back (composition c.args.plan.now) c.args.i c.args.action.now c.args.states.now c.from-own.result c.from-own.ensures within c.index-states-own.result c.advance.new.state c.in_ok-advance.ensures.ok
+    c.reach_all.new.states c.in-Err.ensures.err c.index-states-own-in-Err.result c.undo.new.self c.undo.ensures.state
 
-pub loop-count-preserved : goal.loop-count-preserved
-loop-count-preserved c =
-    let was = slice_index_or c.loop-count.states c.from-place.result c.index-states-place.result in
-    one_more (marking (composition c.args.plan.now) c.args.action.now) c.args.takers.now c.requires.once c.args.states.now c.loop-count.states c.loop-count.count c.from-place.result c.from-place.ensures c.loop-count-test.true c.requires.within c.loop-count.invariant
-    c.index-states-place.result c.advance.new.state (c.in_default.ensures.ok ∙ ap (λ j. marking (composition c.args.plan.now) c.args.action.now j was) (sym c.from-place.ensures))
+pub forget_first-requires : goal.forget_first-requires
+forget_first-requires c =
+    let within = subst (λ (n : ℕ). n < length c.args.states.now) (sym c.from-own.ensures) c.requires.own in
+    own_marked (composition c.args.plan.now) c.args.i c.args.action.now c.args.states.now c.from-own.result c.from-own.ensures within c.index-states-own.result c.advance.new.state c.in_ok-advance.ensures.ok
+    c.args.among.now c.reach_all.new.states c.reach_all.ensures.many c.in_default.ensures.ok c.index-states-own-2.result
 
-pub take_back-requires-clause-once : goal.take_back-requires-clause-once
-take_back-requires-clause-once c = distinct_take c.args.takers.now c.loop-count.count c.requires.once
-
-pub take_back-requires-clause-within : goal.take_back-requires-clause-within
-take_back-requires-clause-within c =
-    first_within c.args.takers.now c.loop-count.count (length c.args.states.now) (length (slice_set c.loop-count.states c.from-place.result c.advance.new.state)) c.requires.within
-    (slice_set-length c.loop-count.states c.from-place.result c.advance.new.state ∙ c.loop-count.invariant.many)
+pub returns-clause-ok : goal.returns-clause-ok
+returns-clause-ok c =
+    let within = subst (λ (n : ℕ). n < length c.args.states.now) (sym c.from-own.ensures) c.requires.own in
+    all_taken (composition c.args.plan.now) c.args.i c.args.action.now c.args.states.now c.from-own.result c.from-own.ensures within c.index-states-own.result c.advance.new.state c.in_ok-advance.ensures.ok
+    c.args.among.now c.reach_all.new.states c.reach_all.ensures.many c.in_default.ensures.ok c.requires.plain c.index-states-own-2.result c.forget_first.new.self c.forget_first.ensures

@@ -1,12 +1,16 @@
+use Rattle.std.proofs.Common.{ap, sym, ◌∙◌}
+use Rattle.std.specs.Prelude.{slice_index_or}
 use Rattle.undo_records.specs.States.{undone}
+use Rattle.reference.specs.Taking.{other_than}
 use Rattle.reference.proofs.Takers.{short, one_more}
 use Rattle.reference.proofs.taking.take_back.Goals as goal
 
 pub bounds-states-from : goal.bounds-states-from
 bounds-states-from c =
-    short (λ _. undone) c.args.takers.now c.requires.once c.args.states.now c.loop-taker.states c.loop-taker.taker-index c.from.result c.from.ensures c.loop-taker-test.true c.requires.within c.loop-taker.invariant
+    short (other_than c.args.i undone) c.args.among.now c.requires.once c.args.states.now c.loop-j.states c.loop-j.j-index c.from.result c.from.ensures c.loop-j-test.true c.requires.within c.loop-j.invariant
 
-pub loop-taker-preserved : goal.loop-taker-preserved
-loop-taker-preserved c =
-    one_more (λ _. undone) c.args.takers.now c.requires.once c.args.states.now c.loop-taker.states c.loop-taker.taker-index c.from.result c.from.ensures c.loop-taker-test.true c.requires.within c.loop-taker.invariant
-    c.index-states-from.result c.undo.new.self c.undo.ensures.state
+pub loop-j-preserved : goal.loop-j-preserved
+loop-j-preserved c =
+    let was = slice_index_or c.loop-j.states c.from.result c.index-states-from.result in
+    one_more (other_than c.args.i undone) c.args.among.now c.requires.once c.args.states.now c.loop-j.states c.loop-j.j-index c.from.result c.from.ensures c.loop-j-test.true c.requires.within c.loop-j.invariant
+    c.index-states-from.result c.undo_other.new.state (c.undo_other.ensures ∙ ap (λ j. other_than c.args.i undone j was) (sym c.from.ensures))

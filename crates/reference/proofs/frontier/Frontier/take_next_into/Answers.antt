@@ -1,10 +1,9 @@
-use Rattle.std.proofs.Common.{◌≡◌, ℕ, ◌+◌, ◌<◌, ◌≤◌, List, length, refl, ap, sym, subst, ◌∙◌}
+use Rattle.std.proofs.Common.{◌≡◌, ℕ, ◌+◌, ◌<◌, ◌≤◌, List, ◌∷◌, length, refl, ap, sym, subst, ◌∙◌}
 use Rattle.std.specs.Prelude.{slice_set}
 use Rattle.std.specs.Vec.{with_items}
 use Rattle.std.proofs.lemmas.List.{with_items_is}
 use Rattle.undo_records.specs.States.{States}
-use Rattle.event_keys.specs.Entries.{action_of}
-use Rattle.virtual_time.specs.Reference.{point}
+use Rattle.virtual_time.specs.Reference.{point, after, IsNext}
 use Rattle.task_seed.specs.Setups.{system}
 use Rattle.task_seed.specs.Machines.{machine, end_rank}
 use Rattle.reference.specs.Queues.{HasItsNumber, least_key, least_rank, place_of}
@@ -12,8 +11,8 @@ use Rattle.reference.specs.Standing.{IsAt, taken_at}
 use Rattle.reference.specs.Tournaments.{IsTournament, node}
 use Rattle.reference.specs.Views.{IsComplete}
 use Rattle.reference.proofs.Takers.{slice_set-length}
-use Rattle.reference.proofs.Stepping.{ended, fits, key_is, key_small, next_turn, numbered, numbers_within, small_key, stepped, whole_after, whole_here, within}
-use Rattle.reference.proofs.frontier.Frontier.take_next.Goals as goal
+use Rattle.reference.proofs.Stepping.{ended, fits, key_is, key_small, next_turn, numbered, numbers_within, small_key, stepped, turn_is, whole_after, whole_here, within}
+use Rattle.reference.proofs.frontier.Frontier.take_next_into.Goals as goal
 
 pub least_key-requires : goal.least_key-requires
 least_key-requires g c =
@@ -53,8 +52,8 @@ returns-in_default-clause-whole g c =
     let states = c.args.self.now.states.items in
     whole_here s law counted exists one places numbers states c.requires.stands
 
-pub returns-in_err-outcome-clause-whole : goal.returns-in_err-outcome-clause-whole
-returns-in_err-outcome-clause-whole g c =
+pub returns-in_err-take_turn-clause-whole : goal.returns-in_err-take_turn-clause-whole
+returns-in_err-take_turn-clause-whole g c =
     let s = system g.T.Turns.turn_of c.args.setup.now in
     let law = c.machine_is_lawful.ensures.lawful in
     let counted = c.machine_is_lawful.ensures.counted in
@@ -191,9 +190,9 @@ returns-clause-stands g c =
     let first = c.in-Some.ensures ∙ ap (λ l. least_key l c.deref-2.result.now) c.deref.ensures.value ∙ ap (least_key places) c.deref-2.ensures.value in
     let i = key.component in
     let here = c.deref_mut.result.now in
-    let found = (action_of c.in_ok-outcome.outcome) in
+    let found = c.take_turn.new.found in
     let stands = subst (λ l. IsAt s (point (machine s) (least_rank places numbers)) places numbers l) (sym c.deref_mut.ensures.value) c.requires.stands in
-    let came = c.in_ok-outcome.ensures.found in
+    let came = c.in_ok-take_turn.ensures.found in
     let next = c.read_on-next.result in
     let small = small_key s c.args.setup.now.in_range i (key.number + 1) (fits s law counted exists one places numbers here stands key first) next c.read_on-next.ensures.key c.read_on-next.ensures.small in
     let new = c.move_on.new.places in
@@ -208,11 +207,11 @@ returns-clause-stands g c =
     let places_are : (with_items c.args.self.now.places new).items ≡ new = with_items_is c.args.self.now.places new (moved.many ∙ c.deref_mut-2.ensures.len) in
     let numbers_are : (with_items c.args.self.now.numbers new_numbers).items ≡ new_numbers
     = with_items_is c.args.self.now.numbers new_numbers (ap length moved.numbers ∙ slice_set-length c.deref_mut-3.result.now i (key.number + 1) ∙ c.deref_mut-3.ensures.len) in
-    let states_are : (with_items c.args.self.now.states news).items ≡ news = with_items_is c.args.self.now.states news (c.in_ok-outcome.ensures.many ∙ c.deref_mut.ensures.len) in
+    let states_are : (with_items c.args.self.now.states news).items ≡ news = with_items_is c.args.self.now.states news (c.in_ok-take_turn.ensures.many ∙ c.deref_mut.ensures.len) in
     subst (λ (l : List States). IsAt s (point (machine s) (least_rank (with_items c.args.self.now.places new).items (with_items c.args.self.now.numbers new_numbers).items)) (with_items c.args.self.now.places new).items (with_items c.args.self.now.numbers new_numbers).items l) (sym states_are)
     (subst (λ (l : List ℕ). IsAt s (point (machine s) (least_rank l (with_items c.args.self.now.numbers new_numbers).items)) l (with_items c.args.self.now.numbers new_numbers).items news) (sym places_are)
     (subst (λ (l : List ℕ). IsAt s (point (machine s) (least_rank new l)) new l news) (sym numbers_are)
-    (stepped s law counted exists one places numbers here stands key first found came next c.read_on-next.ensures.key small new tournament own others new_numbers counted_on news c.in_ok-outcome.ensures.many c.in_ok-outcome.ensures.states).stands))
+    (stepped s law counted exists one places numbers here stands key first found came next c.read_on-next.ensures.key small new tournament own others new_numbers counted_on news c.in_ok-take_turn.ensures.many c.in_ok-take_turn.ensures.states).stands))
 
 pub returns-clause-whole : goal.returns-clause-whole
 returns-clause-whole g c =
@@ -228,9 +227,9 @@ returns-clause-whole g c =
     let first = c.in-Some.ensures ∙ ap (λ l. least_key l c.deref-2.result.now) c.deref.ensures.value ∙ ap (least_key places) c.deref-2.ensures.value in
     let i = key.component in
     let here = c.deref_mut.result.now in
-    let found = (action_of c.in_ok-outcome.outcome) in
+    let found = c.take_turn.new.found in
     let stands = subst (λ l. IsAt s (point (machine s) (least_rank places numbers)) places numbers l) (sym c.deref_mut.ensures.value) c.requires.stands in
-    let came = c.in_ok-outcome.ensures.found in
+    let came = c.in_ok-take_turn.ensures.found in
     let next = c.read_on-next.result in
     let small = small_key s c.args.setup.now.in_range i (key.number + 1) (fits s law counted exists one places numbers here stands key first) next c.read_on-next.ensures.key c.read_on-next.ensures.small in
     let new = c.move_on.new.places in
@@ -245,10 +244,10 @@ returns-clause-whole g c =
     let places_are : (with_items c.args.self.now.places new).items ≡ new = with_items_is c.args.self.now.places new (moved.many ∙ c.deref_mut-2.ensures.len) in
     let numbers_are : (with_items c.args.self.now.numbers new_numbers).items ≡ new_numbers
     = with_items_is c.args.self.now.numbers new_numbers (ap length moved.numbers ∙ slice_set-length c.deref_mut-3.result.now i (key.number + 1) ∙ c.deref_mut-3.ensures.len) in
-    let states_are : (with_items c.args.self.now.states news).items ≡ news = with_items_is c.args.self.now.states news (c.in_ok-outcome.ensures.many ∙ c.deref_mut.ensures.len) in
+    let states_are : (with_items c.args.self.now.states news).items ≡ news = with_items_is c.args.self.now.states news (c.in_ok-take_turn.ensures.many ∙ c.deref_mut.ensures.len) in
     subst (λ (l : List ℕ). IsComplete (machine s) (taken_at s l (with_items c.args.self.now.numbers new_numbers).items)) (sym places_are)
     (subst (λ (l : List ℕ). IsComplete (machine s) (taken_at s new l)) (sym numbers_are)
-    (whole_after s law counted exists one places numbers here stands key first found came next c.read_on-next.ensures.key small new tournament own others new_numbers counted_on news c.in_ok-outcome.ensures.many c.in_ok-outcome.ensures.states))
+    (whole_after s law counted exists one places numbers here stands key first found came next c.read_on-next.ensures.key small new tournament own others new_numbers counted_on news c.in_ok-take_turn.ensures.many c.in_ok-take_turn.ensures.states))
 
 pub returns-clause-ok : goal.returns-clause-ok
 returns-clause-ok g c =
@@ -264,9 +263,9 @@ returns-clause-ok g c =
     let first = c.in-Some.ensures ∙ ap (λ l. least_key l c.deref-2.result.now) c.deref.ensures.value ∙ ap (least_key places) c.deref-2.ensures.value in
     let i = key.component in
     let here = c.deref_mut.result.now in
-    let found = (action_of c.in_ok-outcome.outcome) in
+    let found = c.take_turn.new.found in
     let stands = subst (λ l. IsAt s (point (machine s) (least_rank places numbers)) places numbers l) (sym c.deref_mut.ensures.value) c.requires.stands in
-    let came = c.in_ok-outcome.ensures.found in
+    let came = c.in_ok-take_turn.ensures.found in
     let next = c.read_on-next.result in
     let small = small_key s c.args.setup.now.in_range i (key.number + 1) (fits s law counted exists one places numbers here stands key first) next c.read_on-next.ensures.key c.read_on-next.ensures.small in
     let new = c.move_on.new.places in
@@ -281,8 +280,9 @@ returns-clause-ok g c =
     let places_are : (with_items c.args.self.now.places new).items ≡ new = with_items_is c.args.self.now.places new (moved.many ∙ c.deref_mut-2.ensures.len) in
     let numbers_are : (with_items c.args.self.now.numbers new_numbers).items ≡ new_numbers
     = with_items_is c.args.self.now.numbers new_numbers (ap length moved.numbers ∙ slice_set-length c.deref_mut-3.result.now i (key.number + 1) ∙ c.deref_mut-3.ensures.len) in
-    let states_are : (with_items c.args.self.now.states news).items ≡ news = with_items_is c.args.self.now.states news (c.in_ok-outcome.ensures.many ∙ c.deref_mut.ensures.len) in (
-      next_turn s law counted exists one places numbers here stands key first found came,
+    let states_are : (with_items c.args.self.now.states news).items ≡ news = with_items_is c.args.self.now.states news (c.in_ok-take_turn.ensures.many ∙ c.deref_mut.ensures.len) in (
+      subst (λ t. IsNext (machine s) (after (machine s) (taken_at s places numbers)) t) (sym (turn_is found key)) (next_turn s law counted exists one places numbers here stands key first found came),
       ap (λ l. taken_at s l (with_items c.args.self.now.numbers new_numbers).items) places_are ∙ ap (taken_at s new) numbers_are
-          ∙ (stepped s law counted exists one places numbers here stands key first found came next c.read_on-next.ensures.key small new tournament own others new_numbers counted_on news c.in_ok-outcome.ensures.many c.in_ok-outcome.ensures.states).taken,
+          ∙ (stepped s law counted exists one places numbers here stands key first found came next c.read_on-next.ensures.key small new tournament own others new_numbers counted_on news c.in_ok-take_turn.ensures.many c.in_ok-take_turn.ensures.states).taken
+          ∙ ap (λ t. t ∷ taken_at s places numbers) (sym (turn_is found key)),
     )
