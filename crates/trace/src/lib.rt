@@ -8,6 +8,7 @@ pub mod laws;
 mod line;
 mod line_fault;
 pub mod lines;
+mod long;
 pub mod reading;
 pub mod steps;
 pub mod texts;
@@ -16,7 +17,7 @@ mod written;
 
 pub use counted::Counted;
 pub use fault::{TraceError, WriteFault};
-pub use lines::{Lines, append_turn, append_turns, write_turns};
+pub use lines::{Lines, append_taken, append_turn, append_turns, write_turns};
 pub use reading::read_trace;
 pub use steps::read_steps;
 pub use texts::write_text;

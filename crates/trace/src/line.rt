@@ -1,7 +1,9 @@
-//! A line on its way out: its bytes are put together here, so that they go out at once.
-ghost use Rattle.std.specs.Prelude.{◌≡◌, ◌+◌, ◌≤◌, [], ◌∷◌, ◌++◌, codes, drop, length, if◌then◌else◌};
-ghost use Rattle.std.specs.Prelude.{IfOk, OnOk, IfErr};
-ghost use Rattle.trace.specs.Adds.{Adds, Breaks};
+//! Lines that are put together in place, from their end to their start: so digits are made, and no
+//! piece is copied twice.
+ghost use Rattle.std.specs.Prelude.{◌≡◌, ◌+◌, ◌≤◌, [], ◌∷◌, ◌++◌, codes, length};
+ghost use Rattle.std.specs.Prelude.{IfOk, IfErr, IfSome};
+ghost use Rattle.std.specs.Fmt.{signed_decimal};
+ghost use Rattle.trace.specs.Fronts.{IsBefore};
 ghost use Rattle.trace.specs.Lines.{key_text, number_text};
 ghost use Rattle.trace.specs.Puts.{Puts, Stops};
 
@@ -10,116 +12,85 @@ use crate::fault::WriteFault;
 use event_keys::Key;
 use itoa::write_digits;
 use std::io::Write;
-use std::marker::Model;
 
-const SIZE: usize = 128;
-
-// A key ends here: its three numbers have up to 20 digits, and a space each.
-const KEY_END: usize = 63;
+/// The most bytes that a key takes: its three numbers have up to 20 digits, and a space each.
+pub(crate) const KEY_ROOM: usize = 63;
 
 // The line of an idle turn ends here.
-const IDLE_END: usize = KEY_END + 5;
+const IDLE_END: usize = KEY_ROOM + 5;
 
-/// Bytes of a text that wait to go out.
-#[derive(Drop)]
-pub(crate) struct Line {
-    bytes: [u8; SIZE],
-    start: usize,
-    end: usize,
-}
-
-impl Model for Line {
-    ghost use Rattle.std.specs.Prelude.{◌≤◌, ℕ, List, slice_range};
-
-    ghost Value = { List ℕ };
-
-    ghost view = { λ l. slice_range l.bytes l.start l.end };
-
-    ghost invariant = { λ l. (l.start ≤ l.end) × (l.end ≤ 128) };
-}
+// A whole number has a sign, and up to 19 digits.
+const WHOLE_ROOM: usize = 20;
 
 // Writes a number and its space so that they end at a place, and answers where they start.
 #[inline(always)]
 fn write_number(number: u64, bytes: &mut [u8], end: usize) -> usize
     requires { (21 ≤ end) × (end ≤ length bytes.old) }
-    ensures start { result + length (number_text number) ≡ end }
     ensures short { end ≤ result + 21 }
-    ensures written { drop result bytes.new ≡ number_text number ++ drop end bytes.old }
+    ensures written { IsBefore bytes.old bytes.new end (number_text number) result }
 {
     bytes[end - 1] = b' ';
     write_digits(number, bytes, end - 1)
 }
 
-// Writes a key so that it ends at its place, and answers where it starts. Digits are made from the last to the first, and so
-// is the key.
+/// Writes a key so that it ends at a place, and answers where it starts.
 #[inline(always)]
-fn write_key(key: Key, bytes: &mut [u8]) -> usize
-    requires { KEY_END ≤ length bytes.old }
-    ensures start { result + length (key_text key) ≡ KEY_END }
-    ensures written { drop result bytes.new ≡ key_text key ++ drop KEY_END bytes.old }
+#[tactic(auto, using(crate::proofs::Before::before))]
+pub(crate) fn write_key(key: Key, bytes: &mut [u8], end: usize) -> usize
+    requires { (KEY_ROOM ≤ end) × (end ≤ length bytes.old) }
+    ensures { IsBefore bytes.old bytes.new end (key_text key) result }
 {
-    let start = write_number(key.number, bytes, KEY_END);
+    let start = write_number(key.number, bytes, end);
     let start = write_number(key.component as u64, bytes, start);
     write_number(key.tick, bytes, start)
 }
 
-impl Line {
-    /// An empty line.
-    #[inline(always)]
-    pub(crate) fn new() -> Line
-        ensures { result ≡ [] }
-    {
-        Line {
-            bytes: [0; SIZE],
-            start: KEY_END,
-            end: KEY_END,
-        }
-    }
-
-    /// Makes it a turn's key, from which its line goes on.
-    #[inline(always)]
-    pub(crate) fn begin(&mut self, key: Key)
-        ensures { self.new ≡ key_text key }
-    {
-        self.start = write_key(key, &mut self.bytes);
-        self.end = KEY_END;
-    }
-
-    // Adds a piece where there is room for it, and answers whether there was.
-    #[inline(always)]
-    fn push(&mut self, piece: &[u8]) -> bool
-        ensures { self.new ≡ (if result then self.old ++ piece.now else self.old) }
-    {
-        let end = self.end;
-        if piece.len() > SIZE - end {
-            return false;
-        }
-        self.bytes[end..end + piece.len()].copy_from_slice(piece);
-        self.end = end + piece.len();
-        true
-    }
-
-    /// Writes what waits, which is then nothing.
-    #[inline(always)]
-    pub(crate) fn send<W: Write>(
-        &mut self,
-        out: &mut Counted<W>,
-        before: u64,
-    ) -> Result<u64, WriteFault>
-        ensures ok { IfOk result (λ after. Puts W.contents out.old out.new before after self.old) }
-        ensures empty { OnOk result (self.new ≡ []) }
-        ensures err { IfErr result (λ fault.
-            Stops W.contents out.old out.new before self.old fault) }
-    {
-        let written = put_bytes(out, &self.bytes[self.start..self.end], before)?;
-        self.start = 0;
-        self.end = 0;
-        Ok(written)
-    }
+/// Writes a byte before a place, if there is room, and answers where it is.
+#[inline(always)]
+pub(crate) fn write_byte(byte: u8, bytes: &mut [u8], end: usize) -> Option<usize>
+    requires { end ≤ length bytes.old }
+    ensures { IfSome result (IsBefore bytes.old bytes.new end (byte ∷ [])) }
+{
+    let start = end.checked_sub(1)?;
+    bytes[start] = byte;
+    Some(start)
 }
 
+/// Writes a text before a place, if there is room, and answers where it starts.
+#[inline(always)]
+pub(crate) fn write_text(text: &str, bytes: &mut [u8], end: usize) -> Option<usize>
+    requires { end ≤ length bytes.old }
+    ensures { IfSome result (IsBefore bytes.old bytes.new end text.now) }
+{
+    let start = end.checked_sub(text.len())?;
+    bytes[start..end].copy_from_slice(text.as_bytes());
+    Some(start)
+}
+
+/// Writes a whole number before a place, if there is room for any, and answers where it starts.
+#[inline(always)]
+#[tactic(auto, using(crate::proofs::Before::before))]
+pub(crate) fn write_whole(number: i64, bytes: &mut [u8], end: usize) -> Option<usize>
+    requires { end ≤ length bytes.old }
+    ensures { IfSome result (IsBefore bytes.old bytes.new end (signed_decimal number)) }
+{
+    if end < WHOLE_ROOM {
+        return None;
+    }
+    let start = write_digits(number.unsigned_abs(), bytes, end);
+    if number >= 0 {
+        return Some(start);
+    }
+    write_byte(b'-', bytes, start)
+}
+
+/// Writes bytes, up to the first write that fails.
 #[inline]
-fn put_bytes<W: Write>(out: &mut Counted<W>, bytes: &[u8], before: u64) -> Result<u64, WriteFault>
+pub(crate) fn put_bytes<W: Write>(
+    out: &mut Counted<W>,
+    bytes: &[u8],
+    before: u64,
+) -> Result<u64, WriteFault>
     ensures ok { IfOk result (λ after. Puts W.contents out.old out.new before after bytes.now) }
     ensures err { IfErr result (λ fault. Stops W.contents out.old out.new before bytes.now fault) }
 {
@@ -142,46 +113,7 @@ pub(crate) fn put_idle<W: Write>(
         before (key_text key ++ (codes "idle" ++ 10 ∷ [])) fault) }
 {
     let mut bytes = [0; IDLE_END];
-    bytes[KEY_END..].copy_from_slice(b"idle\n");
-    let start = write_key(key, &mut bytes);
+    bytes[KEY_ROOM..].copy_from_slice(b"idle\n");
+    let start = write_key(key, &mut bytes, KEY_ROOM);
     put_bytes(out, &bytes[start..], before)
-}
-
-// A piece for which there was no room.
-#[cold]
-#[inline(never)]
-#[tactic(auto, using(crate::proofs::Adding::pieces))]
-fn put_past<W: Write>(
-    line: &mut Line,
-    out: &mut Counted<W>,
-    piece: &[u8],
-    before: u64,
-) -> Result<u64, WriteFault>
-    ensures ok { IfOk result (λ after.
-        Adds W.contents out.old out.new line.old line.new before after piece.now) }
-    ensures err { IfErr result (λ fault.
-        Breaks W.contents out.old out.new line.old before piece.now fault) }
-{
-    let written = line.send(out, before)?;
-    put_bytes(out, piece, written)
-}
-
-/// Adds a piece to the line. Where there is no room for it, what waits goes out, and then the
-/// piece.
-#[inline(always)]
-pub(crate) fn put<W: Write>(
-    line: &mut Line,
-    out: &mut Counted<W>,
-    piece: &str,
-    before: u64,
-) -> Result<u64, WriteFault>
-    ensures ok { IfOk result (λ after.
-        Adds W.contents out.old out.new line.old line.new before after piece.now) }
-    ensures err { IfErr result (λ fault.
-        Breaks W.contents out.old out.new line.old before piece.now fault) }
-{
-    if line.push(piece.as_bytes()) {
-        return Ok(before);
-    }
-    put_past(line, out, piece.as_bytes(), before)
 }

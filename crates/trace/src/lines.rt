@@ -1,21 +1,27 @@
 //! Lines of turns.
-ghost use Rattle.std.specs.Prelude.{◌≡◌, ◌∷◌, ◌++◌, [], List, IfOk, OnOk, IfErr, OnErr};
+ghost use Rattle.std.specs.Prelude.{◌≡◌, ◌∷◌, ◌++◌, [], List, option_copied};
+ghost use Rattle.std.specs.Prelude.{IfOk, OnOk, IfErr, OnErr};
 ghost use Rattle.std.specs.Borrow.{Bor};
 ghost use Rattle.std.specs.Iterator.{IsFinite, Drains, Yields};
 ghost use Rattle.std.specs.Io.KnownBytes.{Appends};
 ghost use Rattle.event_keys.specs.declared.outcome.Turned.{Turned};
+ghost use Rattle.task_seed.specs.Taken.{outcome_of, turned_of};
 ghost use Rattle.trace.specs.Counts.{writer_of, failures_of, one_more};
 ghost use Rattle.trace.specs.Lines.{action_text, did_external, is_shown, key_text, line_of, shown_text, text_of, turns_at};
 ghost use Rattle.trace.specs.Puts.{Puts, Stops};
 
 use crate::counted::Counted;
 use crate::fault::WriteFault;
-use crate::line::{Line, put, put_idle};
-use crate::words::put_action;
+use crate::line::{put_bytes, put_idle};
+use crate::long::put_long;
+use crate::words::write_line;
 use event_keys::{Key, Outcome, Turned};
 use plans::Plan;
 use std::io::Write;
 use terms::Action;
+
+// The room for a line that is put together.
+const LINE_ROOM: usize = 128;
 
 /// Which turns are written.
 #[derive(Clone, Copy, Debug, PartialEq, Eq)]
@@ -87,28 +93,59 @@ pub fn append_turn<W: Write>(
     ensures ok { IfOk result (λ after. Puts W.contents out.old out.new before after (shown_text plan.now lines turned.now)) }
     ensures err { IfErr result (λ fault. Stops W.contents out.old out.new before (shown_text plan.now lines turned.now) fault) }
 {
-    if is_shown(plan, lines, &turned.outcome) {
-        put_line(out, plan, turned, before)
+    let found = action_in(&turned.outcome);
+    append_taken(plan, turned.key, found, lines, before, out)
+}
+
+/// As [`append_turn`], for the turn with this key that took this action, or none.
+#[inline(always)]
+pub fn append_taken<W: Write>(
+    plan: &Plan,
+    key: Key,
+    found: Option<&Action>,
+    lines: Lines,
+    before: u64,
+    out: &mut Counted<W>,
+) -> Result<u64, WriteFault>
+    ensures ok { IfOk result (λ after. Puts W.contents out.old out.new before after
+        (shown_text plan.now lines (turned_of (option_copied found.entry) key))) }
+    ensures err { IfErr result (λ fault. Stops W.contents out.old out.new before
+        (shown_text plan.now lines (turned_of (option_copied found.entry) key)) fault) }
+{
+    if is_shown(plan, lines, found) {
+        put_line(out, plan, key, found, before)
     } else {
         Ok(before)
     }
 }
 
-fn is_shown(plan: &Plan, lines: Lines, outcome: &Outcome) -> bool
-    ensures { result ≡ is_shown plan.now lines outcome.now }
+// The action of an outcome, if it is one.
+#[inline(always)]
+fn action_in(outcome: &Outcome) -> Option<&Action>
+    ensures { outcome_of (option_copied result) ≡ outcome.now }
 {
-    match lines {
-        Lines::All => true,
-        Lines::Trace => did_external(plan, outcome),
+    match outcome {
+        Outcome::Idle => None,
+        Outcome::Did(action) => Some(action),
     }
 }
 
-fn did_external(plan: &Plan, outcome: &Outcome) -> bool
-    ensures { result ≡ did_external plan.now outcome.now }
+#[inline(always)]
+fn is_shown(plan: &Plan, lines: Lines, found: Option<&Action>) -> bool
+    ensures { result ≡ is_shown plan.now lines (outcome_of (option_copied found.entry)) }
 {
-    match outcome {
-        Outcome::Idle => false,
-        Outcome::Did(action) => plan.is_external(action),
+    match lines {
+        Lines::All => true,
+        Lines::Trace => did_external(plan, found),
+    }
+}
+
+fn did_external(plan: &Plan, found: Option<&Action>) -> bool
+    ensures { result ≡ did_external plan.now (outcome_of (option_copied found.entry)) }
+{
+    match found {
+        Some(action) => plan.is_external(action),
+        None => false,
     }
 }
 
@@ -117,36 +154,38 @@ fn did_external(plan: &Plan, outcome: &Outcome) -> bool
 fn put_line<W: Write>(
     out: &mut Counted<W>,
     plan: &Plan,
-    turned: &Turned,
+    key: Key,
+    found: Option<&Action>,
     before: u64,
 ) -> Result<u64, WriteFault>
-    ensures ok { IfOk result (λ after. Puts W.contents out.old out.new before after (line_of plan.now turned.now)) }
-    ensures err { IfErr result (λ fault. Stops W.contents out.old out.new before (line_of plan.now turned.now) fault) }
+    ensures ok { IfOk result (λ after. Puts W.contents out.old out.new before after
+        (line_of plan.now (turned_of (option_copied found.entry) key))) }
+    ensures err { IfErr result (λ fault. Stops W.contents out.old out.new before
+        (line_of plan.now (turned_of (option_copied found.entry) key)) fault) }
 {
-    match &turned.outcome {
-        Outcome::Idle => put_idle(out, turned.key, before),
-        Outcome::Did(action) => put_did(out, plan, turned.key, action, before),
+    match found {
+        Some(action) => put_did(out, plan, &key, action, before),
+        None => put_idle(out, key, before),
     }
 }
 
 // The line of a turn that took an action, in a frame of its own.
 #[inline(never)]
-#[tactic(auto, using(crate::proofs::Adding::lines))]
 fn put_did<W: Write>(
     out: &mut Counted<W>,
     plan: &Plan,
-    key: Key,
+    key: &Key,
     action: &Action,
     before: u64,
 ) -> Result<u64, WriteFault>
     ensures ok { IfOk result (λ after. Puts W.contents out.old out.new
-        before after (key_text key ++ (action_text plan.now action.now ++ 10 ∷ []))) }
+        before after (key_text key.now ++ (action_text plan.now action.now ++ 10 ∷ []))) }
     ensures err { IfErr result (λ fault. Stops W.contents out.old out.new
-        before (key_text key ++ (action_text plan.now action.now ++ 10 ∷ [])) fault) }
+        before (key_text key.now ++ (action_text plan.now action.now ++ 10 ∷ [])) fault) }
 {
-    let mut line = Line::new();
-    line.begin(key);
-    let written = put_action(&mut line, out, plan, action, before)?;
-    let written = put(&mut line, out, "\n", written)?;
-    line.send(out, written)
+    let mut bytes = [0; LINE_ROOM];
+    match write_line(plan, key, action, &mut bytes) {
+        Some(start) => put_bytes(out, &bytes[start..], before),
+        None => put_long(out, plan, key, action, before),
+    }
 }

@@ -1,20 +1,18 @@
-//! Names and arguments, each added to its line by pieces. Every call is given how many bytes of the whole text went out
-//! before, and answers how many went out by its end.
-ghost use Rattle.std.specs.Prelude.{◌≡◌, ◌++◌, IfOk, IfErr};
-ghost use Rattle.trace.specs.Adds.{Adds, Breaks};
-ghost use Rattle.trace.specs.Lines.{name_at, argument_text, other_text, others_text, bracketed_text, arguments_text, action_text};
+//! Names and arguments, and the line of an action that they make, put together from its end. An
+//! answer is where the text starts, if there was room for it.
+ghost use Rattle.std.specs.Prelude.{◌≡◌, ◌≤◌, [], ◌∷◌, ◌++◌, drop, length, IfSome};
 ghost use Rattle.plans.specs.Plans.{action_texts, member_texts};
+ghost use Rattle.trace.specs.Fronts.{IsBefore};
+ghost use Rattle.trace.specs.Lines.{name_at, argument_text, other_text, others_text};
+ghost use Rattle.trace.specs.Lines.{bracketed_text, arguments_text, action_text, key_text};
 
-use crate::counted::Counted;
-use crate::fault::WriteFault;
-use crate::line::{Line, put};
-use itoa::Buffer;
+use crate::line::{KEY_ROOM, write_byte, write_key, write_text, write_whole};
+use event_keys::Key;
 use plans::Plan;
-use std::io::Write;
 use terms::{Action, Scalar};
 
 #[inline(always)]
-fn name_of<'a>(plan: &'a Plan, action: &Action) -> &'a str
+pub(crate) fn name_of<'a>(plan: &'a Plan, action: &Action) -> &'a str
     ensures { result.now ≡ name_at (action_texts plan.now) action.now.name }
 {
     match plan.action_name(action.name) {
@@ -23,7 +21,7 @@ fn name_of<'a>(plan: &'a Plan, action: &Action) -> &'a str
     }
 }
 
-fn member_of(plan: &Plan, member: u16) -> &str
+pub(crate) fn member_of(plan: &Plan, member: u16) -> &str
     ensures { result.now ≡ name_at (member_texts plan.now) member }
 {
     match plan.member_name(member) {
@@ -33,106 +31,100 @@ fn member_of(plan: &Plan, member: u16) -> &str
 }
 
 #[inline(always)]
-fn put_argument<W: Write>(
-    line: &mut Line,
-    out: &mut Counted<W>,
-    plan: &Plan,
-    argument: Scalar,
-    before: u64,
-) -> Result<u64, WriteFault>
-    ensures ok { IfOk result (λ after. Adds W.contents out.old out.new line.old line.new before after (argument_text plan.now argument)) }
-    ensures err { IfErr result (λ fault. Breaks W.contents out.old out.new line.old before (argument_text plan.now argument) fault) }
+fn write_argument(plan: &Plan, argument: Scalar, bytes: &mut [u8], end: usize) -> Option<usize>
+    requires { end ≤ length bytes.old }
+    ensures { IfSome result
+        (IsBefore bytes.old bytes.new end (argument_text plan.now argument)) }
 {
     match argument {
-        Scalar::Int(number) => put(line, out, Buffer::new().format(number), before),
-        Scalar::Bool(true) => put(line, out, "true", before),
-        Scalar::Bool(false) => put(line, out, "false", before),
-        Scalar::Member(member) => put(line, out, member_of(plan, member), before),
+        Scalar::Int(number) => write_whole(number, bytes, end),
+        Scalar::Bool(true) => write_text("true", bytes, end),
+        Scalar::Bool(false) => write_text("false", bytes, end),
+        Scalar::Member(member) => write_text(member_of(plan, member), bytes, end),
     }
-}
-
-#[tactic(auto, using(crate::proofs::Adding::steps))]
-fn put_other<W: Write>(
-    line: &mut Line,
-    out: &mut Counted<W>,
-    plan: &Plan,
-    argument: Scalar,
-    before: u64,
-) -> Result<u64, WriteFault>
-    ensures ok { IfOk result (λ after. Adds W.contents out.old out.new line.old line.new before after (other_text plan.now argument)) }
-    ensures err { IfErr result (λ fault. Breaks W.contents out.old out.new line.old before (other_text plan.now argument) fault) }
-{
-    let written = put(line, out, ",", before)?;
-    put_argument(line, out, plan, argument, written)
-}
-
-#[tactic(auto, using(crate::proofs::Adding::items))]
-fn put_others<W: Write>(
-    line: &mut Line,
-    out: &mut Counted<W>,
-    plan: &Plan,
-    arguments: &[Scalar],
-    before: u64,
-) -> Result<u64, WriteFault>
-    ensures ok { IfOk result (λ after. Adds W.contents out.old out.new line.old line.new before after (others_text plan.now arguments.now)) }
-    ensures err { IfErr result (λ fault. Breaks W.contents out.old out.new line.old before (others_text plan.now arguments.now) fault) }
-{
-    let mut written = before;
-    for argument in arguments {
-        written = put_other(line, out, plan, *argument, written)?;
-    }
-    Ok(written)
 }
 
 #[inline(always)]
-#[tactic(auto, using(crate::proofs::Adding::steps))]
-fn put_bracketed<W: Write>(
-    line: &mut Line,
-    out: &mut Counted<W>,
+#[tactic(auto, using(crate::proofs::Before::before))]
+fn write_other(plan: &Plan, argument: Scalar, bytes: &mut [u8], end: usize) -> Option<usize>
+    requires { end ≤ length bytes.old }
+    ensures { IfSome result (IsBefore bytes.old bytes.new end (other_text plan.now argument)) }
+{
+    let start = write_argument(plan, argument, bytes, end)?;
+    write_byte(b',', bytes, start)
+}
+
+// The last argument is written first.
+#[inline(always)]
+#[tactic(auto, using(crate::proofs::Before::before))]
+fn write_others(plan: &Plan, arguments: &[Scalar], bytes: &mut [u8], end: usize) -> Option<usize>
+    requires { end ≤ length bytes.old }
+    ensures { IfSome result
+        (IsBefore bytes.old bytes.new end (others_text plan.now arguments.now)) }
+{
+    let mut start = end;
+    let mut left = arguments.len();
+    while left > 0 {
+        left -= 1;
+        start = write_other(plan, arguments[left], bytes, start)?;
+    }
+    Some(start)
+}
+
+#[inline(always)]
+#[tactic(auto, using(crate::proofs::Before::before))]
+fn write_bracketed(
     plan: &Plan,
-    first: Scalar,
+    first: &Scalar,
     others: &[Scalar],
-    before: u64,
-) -> Result<u64, WriteFault>
-    ensures ok { IfOk result (λ after. Adds W.contents out.old out.new line.old line.new before after (bracketed_text plan.now first others.now)) }
-    ensures err { IfErr result (λ fault. Breaks W.contents out.old out.new line.old before (bracketed_text plan.now first others.now) fault) }
+    bytes: &mut [u8],
+    end: usize,
+) -> Option<usize>
+    requires { end ≤ length bytes.old }
+    ensures { IfSome result
+        (IsBefore bytes.old bytes.new end (bracketed_text plan.now first.now others.now)) }
 {
-    let written = put(line, out, "(", before)?;
-    let written = put_argument(line, out, plan, first, written)?;
-    let written = put_others(line, out, plan, others, written)?;
-    put(line, out, ")", written)
+    let start = write_byte(b')', bytes, end)?;
+    let start = write_others(plan, others, bytes, start)?;
+    let start = write_argument(plan, *first, bytes, start)?;
+    write_byte(b'(', bytes, start)
 }
 
 #[inline(always)]
-#[tactic(auto, using(crate::proofs::Adding::items))]
-fn put_arguments<W: Write>(
-    line: &mut Line,
-    out: &mut Counted<W>,
-    plan: &Plan,
-    arguments: &[Scalar],
-    before: u64,
-) -> Result<u64, WriteFault>
-    ensures ok { IfOk result (λ after. Adds W.contents out.old out.new line.old line.new before after (arguments_text plan.now arguments.now)) }
-    ensures err { IfErr result (λ fault. Breaks W.contents out.old out.new line.old before (arguments_text plan.now arguments.now) fault) }
+#[tactic(auto, using(crate::proofs::Before::before))]
+fn write_arguments(plan: &Plan, arguments: &[Scalar], bytes: &mut [u8], end: usize) -> Option<usize>
+    requires { end ≤ length bytes.old }
+    ensures { IfSome result
+        (IsBefore bytes.old bytes.new end (arguments_text plan.now arguments.now)) }
 {
     match arguments.split_first() {
-        Some((first, others)) => put_bracketed(line, out, plan, *first, others, before),
-        None => Ok(before),
+        Some((first, others)) => write_bracketed(plan, first, others, bytes, end),
+        None => Some(end),
     }
 }
 
 #[inline(always)]
-#[tactic(auto, using(crate::proofs::Adding::steps))]
-pub(crate) fn put_action<W: Write>(
-    line: &mut Line,
-    out: &mut Counted<W>,
-    plan: &Plan,
-    action: &Action,
-    before: u64,
-) -> Result<u64, WriteFault>
-    ensures ok { IfOk result (λ after. Adds W.contents out.old out.new line.old line.new before after (action_text plan.now action.now)) }
-    ensures err { IfErr result (λ fault. Breaks W.contents out.old out.new line.old before (action_text plan.now action.now) fault) }
+#[tactic(auto, using(crate::proofs::Before::before))]
+fn write_action(plan: &Plan, action: &Action, bytes: &mut [u8], end: usize) -> Option<usize>
+    requires { end ≤ length bytes.old }
+    ensures { IfSome result (IsBefore bytes.old bytes.new end (action_text plan.now action.now)) }
 {
-    let written = put(line, out, name_of(plan, action), before)?;
-    put_arguments(line, out, plan, action.args.as_slice(), written)
+    let start = write_arguments(plan, action.args.as_slice(), bytes, end)?;
+    write_text(name_of(plan, action), bytes, start)
+}
+
+/// Writes the line of a turn that took an action so that it ends where the bytes do.
+#[inline(always)]
+#[tactic(auto, using(crate::proofs::Before::before))]
+pub(crate) fn write_line(plan: &Plan, key: &Key, action: &Action, bytes: &mut [u8]) -> Option<usize>
+    ensures within { IfSome result (λ start. start ≤ length bytes.old) }
+    ensures written { IfSome result (λ start.
+        drop start bytes.new ≡ key_text key.now ++ (action_text plan.now action.now ++ 10 ∷ [])) }
+{
+    let start = write_byte(b'\n', bytes, bytes.len())?;
+    let start = write_action(plan, action, bytes, start)?;
+    if start < KEY_ROOM {
+        return None;
+    }
+    Some(write_key(*key, bytes, start))
 }

@@ -19,7 +19,7 @@ const TRACE: &str = "2 0 0 pass(1)\n3 1 1 pass(0)\n4 0 1 pass(1)\n";
 const ARGUMENTS: &str =
     "18446744073709551615 65535 10 pass(true,-3)\n7 0 18446744073709551615 pass\n8 2 0 (false,,-9223372036854775808)\n";
 
-// A line that is put together in three parts, of 53, 20 and 107 bytes.
+// A line that is too long to be put together at once: its pieces go out one after another.
 const LONG: &str =
     "1 0 0 pass(-9223372036854775808,-9223372036854775808,-9223372036854775808,-9223372036854775808,-9223372036854775808,-9223372036854775808,-9223372036854775808,-9223372036854775808)\n";
 
