@@ -1,7 +1,8 @@
 //! The engine of `reference`.
-ghost use Rattle.std.specs.Prelude.{◌≡◌, [], IfErr, IfOk, OnOk};
+ghost use Rattle.std.specs.Prelude.{◌≡◌, [], IfErr, IfOk, OnOk, option_copied};
 ghost use Rattle.std.specs.Io.KnownBytes.{Keeps};
 ghost use Rattle.task_seed.specs.Setups.{plan_of, system};
+ghost use Rattle.task_seed.specs.Taken.{turned_of};
 ghost use Rattle.trace.specs.Counts.{failures_of, writer_of};
 ghost use Rattle.trace.specs.Lines.{shown_text};
 ghost use Rattle.trace.specs.Puts.{Puts, Stops};
@@ -10,7 +11,7 @@ ghost use Rattle.commands.specs.Simulated.{IsSimulated, IsUnsimulated};
 ghost use Rattle.commands.specs.Streams.{IsKnown};
 
 use crate::fault::SimulateFault;
-use event_keys::Turned;
+use event_keys::Key;
 use plans::Plan;
 use reference::Reference;
 use reference::laws::turns_are_schedule;
@@ -20,7 +21,7 @@ use std::sync::Arc;
 use task_seed::laws::machine_is_lawful;
 use task_seed::{Setup, Turns};
 use terms::{Action, State};
-use trace::{Counted, Lines, WriteFault, append_turn};
+use trace::{Counted, Lines, WriteFault, append_taken};
 use virtual_time::reference::{reference_is_complete, reference_is_one};
 
 /// Simulates a composition by one thread, which always takes the turn with the least key, and writes
@@ -74,8 +75,10 @@ fn write_all<T: Turns, W: Write>(
         (Stops W.contents out.old out.new 0)) }
 {
     let mut written = 0;
-    while let Some(turned) = reference.step(alloc)? {
-        match put_turn(reference.setup().plan(), turned, lines, written, out) {
+    let mut found = None;
+    while let Some(key) = reference.step_into(alloc, &mut found)? {
+        let plan = reference.setup().plan();
+        match put_turn(plan, key, found.as_ref(), lines, written, out) {
             Ok(after) => written = after,
             Err(fault) => return Err(SimulateFault::Write(fault)),
         }
@@ -84,21 +87,21 @@ fn write_all<T: Turns, W: Write>(
 }
 
 // Writes the line of a turn, where so many bytes went out before.
+#[inline(always)]
 fn put_turn<W: Write>(
     plan: &Plan,
-    turned: Turned,
+    key: Key,
+    found: Option<&Action>,
     lines: Lines,
     before: u64,
     out: &mut Counted<W>,
 ) -> Result<u64, WriteFault>
-    ensures ok { IfOk result (λ after.
-        Puts W.contents out.old out.new before after (shown_text plan.now lines turned)) }
-    ensures err { IfErr result (λ fault.
-        Stops W.contents out.old out.new before (shown_text plan.now lines turned) fault) }
+    ensures ok { IfOk result (λ after. Puts W.contents out.old out.new before after
+        (shown_text plan.now lines (turned_of (option_copied found.entry) key))) }
+    ensures err { IfErr result (λ fault. Stops W.contents out.old out.new before
+        (shown_text plan.now lines (turned_of (option_copied found.entry) key)) fault) }
 {
-    let answer = append_turn(plan, &turned, lines, before, out);
-    drop(turned);
-    let after = answer?;
+    let after = append_taken(plan, key, found, lines, before, out)?;
     send_first(before, after, out);
     Ok(after)
 }

@@ -6,8 +6,8 @@ use Rattle.reference.specs.Views.{IsComplete}
 use Rattle.commands.proofs.Streaming.{Sofar}
 use Rattle.commands.proofs.simulating.write_all.Given as goal
 
-abbrev pub invariant-loop-turned : goal.invariant-loop-turned
-invariant-loop-turned g l =
+abbrev pub invariant-loop-found : goal.invariant-loop-found
+invariant-loop-found g l =
     let setup = l.initial.reference.setup in
     record {
       same : l.reference.setup ≡ setup;
@@ -15,5 +15,5 @@ invariant-loop-turned g l =
       sofar : Sofar g.W.Write.contents (plan_of setup) l.lines l.initial.out l.out l.reference.taken l.written;
     }
 
-abbrev pub decreases-loop-turned : goal.decreases-loop-turned
-decreases-loop-turned g l = length (reference_below (machine (system g.T.Turns.turn_of l.initial.reference.setup)) end_rank) - length l.reference.taken
+abbrev pub decreases-loop-found : goal.decreases-loop-found
+decreases-loop-found g l = length (reference_below (machine (system g.T.Turns.turn_of l.initial.reference.setup)) end_rank) - length l.reference.taken
