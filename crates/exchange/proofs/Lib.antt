@@ -10,5 +10,6 @@ mod Lowest
 mod Receiving
 pub mod Accepting
 mod Spreading
+mod Moved
 mod Core
 mod Doing

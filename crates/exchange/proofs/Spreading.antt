@@ -64,7 +64,7 @@ receiver_there to [] [] e none_out none_copies = cc
 receiver_there to [] (x ∷ xs) e none_out none_copies = first_there to x xs (cc) none_copies
 receiver_there to (x ∷ xs) copies e none_out none_copies = first_there to x xs (cc) none_out
 
-nothing_left : (out copies : List Signed) → first_receiver (out ++ copies) ≡ None → (out ≡ []) × (copies ≡ [])
+pub nothing_left : (out copies : List Signed) → first_receiver (out ++ copies) ≡ None → (out ≡ []) × (copies ≡ [])
 nothing_left [] [] e = (refl, refl)
 nothing_left [] (x ∷ xs) e = cc
 nothing_left (x ∷ xs) copies e = cc

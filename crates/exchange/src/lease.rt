@@ -12,7 +12,7 @@ ghost use Rattle.exchange.specs.Seen.{HasDelivered, IsSoundLease, MovesBy};
 ghost use Rattle.rollback.specs.Stepped.{HasNextKey, IsNextSent, next_entry};
 
 use antimessage::Bag;
-use event_keys::{Bound, Key, Turned};
+use event_keys::{Bound, Key, Signed, Turned};
 use raw_events::EventList;
 use rollback::laws::run_law;
 use rollback::{Component, Copies, ProcessRefused};
@@ -121,6 +121,13 @@ impl<T: Turns> Lease<T> {
         ensures { self.new ≡ self.old }
     {
         self.component.swap_spare(spare);
+    }
+
+    // Adds spare cells of messages to the component's.
+    pub(crate) fn add_spare_messages(&mut self, spare: &mut EventList<Signed>)
+        ensures { self.new ≡ self.old }
+    {
+        self.component.add_spare_messages(spare);
     }
 
     /// Processes entries, at most `budget` of them, and answers how many. It stops short where nothing is pending and no turn is

@@ -1,7 +1,7 @@
 //! Meetings of a lease with what workers share.
-ghost use Rattle.std.specs.Prelude.{◌≡◌, ◌↔◌, ◌++◌, ℕ, List, Some, true, false, length, slice_get, IfErr, IfOk, OnOk, OnErr, IsOk, IsErrOf};
+ghost use Rattle.std.specs.Prelude.{◌≡◌, ◌↔◌, ◌++◌, [], ℕ, List, Some, true, false, length, slice_get, IfErr, IfOk, OnOk, OnErr, IsOk, IsErrOf};
 ghost use Rattle.event_keys.specs.Ranks.{rank_of_bound};
-ghost use Rattle.antimessage.specs.Bags.{insert_all};
+ghost use Rattle.antimessage.specs.Bags.{first_is_below, insert_all, without_below};
 ghost use Rattle.antimessage.specs.Counts.{Each};
 ghost use Rattle.plans.specs.Plans.{composition};
 ghost use Rattle.task_seed.specs.Setups.{plan_of, system};
@@ -16,9 +16,12 @@ use crate::lease::Lease;
 use crate::stub::{Stub, earlier};
 use antimessage::Bag;
 use antimessage::laws::order_law;
-use event_keys::Bound;
+use event_keys::laws::bound_law;
+use event_keys::{Bound, Signed};
+use raw_events::EventList;
 use rollback::laws::{comparable_law, flight_law};
 use rollback::{Component, Copies};
+use std::mem::swap;
 use task_seed::laws::machine_is_lawful;
 use task_seed::{Setup, Turns};
 use terms::{Action, State};
@@ -26,14 +29,51 @@ use turn_lists::merge;
 use virtual_time::exchanges::{exchange_is_core, exchange_is_sound, meeting_law};
 use virtual_time::merging::merging_law;
 
+// Moves all messages into a bag, each to its place. In an empty one they have their places.
+#[tactic(auto, using(crate::proofs::Moved::moved_in, crate::proofs::Moved::empty_out))]
+fn move_all(bag: &mut Bag, other: &mut Bag)
+    ensures all { bag.new ≡ insert_all other.old bag.old }
+    ensures empty { other.new ≡ [] }
+{
+    order_law(other);
+    if bag.is_empty() {
+        swap(bag, other);
+    } else {
+        bag.append(other);
+    }
+}
+
+// Whether there is a first message, and its key is below the bound.
+#[tactic(auto, using(crate::proofs::Moved::least_below))]
+fn is_first_below(bag: &Bag, bound: Bound) -> bool
+    ensures { result ≡ first_is_below bound bag.now }
+{
+    let least = bag.least();
+    bound_law(least, bound);
+    least < bound
+}
+
+// Takes all messages whose keys are below the bound. They stand first, and their cells serve again.
+fn take_below(bag: &mut Bag, bound: Bound, cells: &mut EventList<Signed>)
+    ensures { bag.new ≡ without_below bound bag.old }
+{
+    order_law(bag);
+    while is_first_below(bag, bound) {
+        if let Some(cell) = bag.take_first() {
+            cells.push_last(cell);
+        }
+    }
+}
+
 impl Stub {
     // What is outgoing leaves: messages stand, and antimessages take theirs out.
     fn send(&mut self, copies: &mut Bag, out: &Bag)
-        ensures { IsSent copies.old out.now self.old self.new }
+        ensures stub { IsSent copies.old out.now self.old self.new }
+        ensures copies { copies.new ≡ [] }
     {
         flight_law();
         order_law(out);
-        self.standing.append(copies);
+        move_all(&mut self.standing, copies);
         order_law(&self.standing);
         self.standing.cancel(out);
         order_law(&self.standing);
@@ -44,9 +84,9 @@ impl Stub {
         ensures { IsArrived came copies self.old self.new }
     {
         flight_law();
-        self.inbox.append(&mut came);
+        move_all(&mut self.inbox, &mut came);
         order_law(&self.inbox);
-        self.copies.append(&mut copies);
+        move_all(&mut self.copies, &mut copies);
         order_law(&self.copies);
         self.copies.cancel(&self.inbox);
         order_law(&self.copies);
@@ -71,23 +111,23 @@ impl Stub {
     {
         flight_law();
         order_law(&self.inbox);
-        self.taken.append(&mut self.copies);
+        move_all(&mut self.taken, &mut self.copies);
         order_law(&self.taken);
         self.taken.cancel(&self.inbox);
         order_law(&self.taken);
-        tray.append(&mut self.inbox);
+        move_all(tray, &mut self.inbox);
     }
 
-    // Below a bound nothing is kept, and the bound is the base.
-    fn forget_below(&mut self, bound: Bound)
+    // Below a bound nothing is kept but the cells, and the bound is the base.
+    fn forget_below(&mut self, bound: Bound, cells: &mut EventList<Signed>)
         ensures { IsForgotten bound self.old self.new }
     {
         flight_law();
         comparable_law(bound);
         order_law(&self.taken);
-        self.taken.drop_below(bound);
+        take_below(&mut self.taken, bound, cells);
         order_law(&self.standing);
-        self.standing.drop_below(bound);
+        take_below(&mut self.standing, bound, cells);
         self.base = bound;
     }
 }
@@ -121,10 +161,12 @@ fn bring(stubs: &mut [Stub], to: u16, came: Bag, copies: Bag)
     }
 }
 
-// What is outgoing comes to the stubs, each message to its receiver's. Only the receivers are gone through, not all stubs.
+// All that is outgoing comes to the stubs, each message to its receiver's. Only the receivers are gone through, not all stubs.
 fn spread(stubs: &mut [Stub], out: &mut Bag, copies: &mut Bag)
     ensures many { length stubs.new ≡ length stubs.old }
     ensures each { (j : ℕ) (stub : StubValue) → slice_get stubs.new j ≡ Some stub → IsReached out.old copies.old stubs.old j stub }
+    ensures out { out.new ≡ [] }
+    ensures copies { copies.new ≡ [] }
 {
     while let Some(to) = next_receiver(out, copies) {
         let came = out.split_to(to);
@@ -151,6 +193,7 @@ fn pass_on<T: Turns>(
     tray: &mut Bag,
     out: &mut Bag,
     copies: &mut Copies,
+    cells: &mut EventList<Signed>,
 ) -> Bound
     requires many { length stubs.old ≡ length (composition (plan_of component.now.setup)) }
     requires arrived { Each (λ x. x.message.to ≡ component.now.number) tray.old }
@@ -158,6 +201,8 @@ fn pass_on<T: Turns>(
     ensures passed { HasPassedOn component.now.number bound result out.old copies.old tray.old tray.new stubs.old stubs.new }
     ensures arrived { Each (λ x. x.message.to ≡ component.now.number) tray.new }
     ensures floor { IsFloorOf T.turn_of component.now tray.new result }
+    ensures out { out.new ≡ [] }
+    ensures copies { copies.new ≡ record { of_sender = []; of_receiver = [] } }
 {
     flight_law();
     machine_is_lawful(component.setup());
@@ -166,7 +211,7 @@ fn pass_on<T: Turns>(
     spread(stubs, out, &mut copies.of_receiver);
     let own = &mut stubs[i];
     own.hand_over(tray);
-    own.forget_below(bound);
+    own.forget_below(bound, cells);
     own.floor = floor_of(component, tray);
     own.floor
 }
@@ -220,8 +265,23 @@ impl<T: Turns> Exchange<T> {
         Ok(self.accept(lease))
     }
 
-    // The meeting, where the lease is known.
+    // The meeting, where the lease is known. The cells of messages that are kept no longer serve the lease again.
     fn accept(&mut self, lease: &mut Lease<T>) -> Bound
+        requires same { system T.turn_of self.old.setup ≡ system T.turn_of lease.old.component.setup }
+        requires matches { Knows T.turn_of self.old lease.old }
+        ensures bound { result ≡ self.old.bound }
+        ensures met { HaveMet T.turn_of self.old lease.old self.new lease.new }
+        ensures rest { self.new ≡ record self.old { stubs = self.new.stubs; held = self.new.held } }
+        ensures same { KeepsComponent lease.old lease.new }
+    {
+        let mut cells = EventList::new();
+        let bound = self.join(lease, &mut cells);
+        lease.add_spare_messages(&mut cells);
+        bound
+    }
+
+    // The same, where these are the cells.
+    fn join(&mut self, lease: &mut Lease<T>, cells: &mut EventList<Signed>) -> Bound
         requires same { system T.turn_of self.old.setup ≡ system T.turn_of lease.old.component.setup }
         requires matches { Knows T.turn_of self.old lease.old }
         ensures bound { result ≡ self.old.bound }
@@ -242,9 +302,8 @@ impl<T: Turns> Exchange<T> {
             &mut lease.tray,
             &mut lease.out,
             &mut lease.copies,
+            cells,
         );
-        lease.out = Bag::new();
-        lease.copies = Copies::new();
         self.bound
     }
 }

@@ -8,6 +8,7 @@ mod Stepping
 mod Unwinding
 mod Oldest
 mod Dropping
+mod Spared
 mod Returning
 mod Nearest
 mod Equality

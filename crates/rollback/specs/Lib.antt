@@ -8,6 +8,7 @@ pub mod ComponentInvariant
 pub mod Refusals
 pub mod Coming
 pub mod Dropped
+pub mod Reuse
 pub mod Runs
 pub mod Same
 pub mod SameLaws

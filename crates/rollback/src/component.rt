@@ -20,6 +20,7 @@ ghost use Rattle.rollback.specs.Stepped.{HasNextKey, IsNextSent, IsNextTurn, IsU
 use crate::growth::{outcome_at, post_all, receivers_of_turn, take_idle, take_input, take_turn};
 use crate::keys::{fits, is_below, key_of};
 use crate::refused::ProcessRefused;
+use crate::spares::Spares;
 use antimessage::Bag;
 use event_keys::{Bound, Key, Outcome, Signed, Turned};
 use message_balance::Done;
@@ -53,8 +54,7 @@ pub struct Component<T: Turns> {
     pub(crate) coming: Option<Key>,
     // What was read of the turns from the next one on.
     pub(crate) ahead: TurnReader,
-    // Cells that serve again; what they hold is of no use any more.
-    pub(crate) spare: EventList<Turned>,
+    pub(crate) spares: Spares,
 }
 
 impl<T: Turns> Model for Component<T> {
@@ -104,7 +104,7 @@ impl<T: Turns> Component<T> {
             owed: EventList::new(),
             coming,
             ahead: TurnReader::new(),
-            spare: EventList::new(),
+            spares: Spares::new(),
         })
     }
 
@@ -135,7 +135,15 @@ impl<T: Turns> Component<T> {
     pub fn swap_spare(&mut self, spare: &mut EventList<Turned>)
         ensures { self.new ≡ self.old }
     {
-        swap(&mut self.spare, spare);
+        swap(&mut self.spares.turns, spare);
+    }
+
+    /// Adds spare cells of messages to the component's. They serve for the messages that its next turns send, which then take no memory.
+    pub fn add_spare_messages(&mut self, spare: &mut EventList<Signed>)
+        ensures kept { self.new ≡ self.old }
+        ensures empty { spare.new ≡ record { before = []; after = [] } }
+    {
+        self.spares.signed.append_all(spare);
     }
 
     /// The pending inputs and the owed antimessages are in order. The call does nothing.
@@ -231,6 +239,7 @@ impl<T: Turns> Component<T> {
             &mut self.store,
             &mut self.done,
             &mut self.pending,
+            &mut self.spares,
         )?;
         Ok(key)
     }
@@ -280,7 +289,7 @@ impl<T: Turns> Component<T> {
             key,
             &mut self.store,
             &mut self.done,
-            &mut self.spare,
+            &mut self.spares,
         )?;
         self.coming = self.ahead.read_on(&self.setup, self.number, key);
         Ok(key)
@@ -331,7 +340,7 @@ impl<T: Turns> Component<T> {
             receivers,
             &mut self.store,
             &mut self.done,
-            &mut self.spare,
+            &mut self.spares,
             out,
         )?;
         self.coming = self.ahead.read_on(&self.setup, self.number, key);
@@ -355,7 +364,7 @@ impl<T: Turns> Component<T> {
                 let key = turned.value().key;
                 fits(key);
                 self.coming = Some(key);
-                self.spare.push_last(turned);
+                self.spares.turns.push_last(turned);
                 post_all(out, antimessages);
             }
             Done::Input(cell) => self.pending.insert_sorted(cell),

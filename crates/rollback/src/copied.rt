@@ -111,8 +111,20 @@ impl<T: Turns> Component<T> {
         receivers_law();
         fits(turned.key);
         let receivers = receivers_of_turn(alloc, &self.setup, self.number, &turned.outcome)?;
-        let of_sender = messages_to(alloc, &turned, Sign::Plus, receivers.as_slice())?;
-        let of_receiver = messages_to(alloc, &turned, Sign::Plus, receivers.as_slice())?;
+        let of_sender = messages_to(
+            alloc,
+            &mut self.spares.signed,
+            &turned,
+            Sign::Plus,
+            receivers.as_slice(),
+        )?;
+        let of_receiver = messages_to(
+            alloc,
+            &mut self.spares.signed,
+            &turned,
+            Sign::Plus,
+            receivers.as_slice(),
+        )?;
         let key = self.do_turned(alloc, turned, receivers.as_slice(), out)?;
         post_all(&mut copies.of_sender, of_sender);
         post_all(&mut copies.of_receiver, of_receiver);

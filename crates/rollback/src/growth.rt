@@ -19,45 +19,19 @@ ghost use Rattle.rollback.specs.ComponentInvariant.{signed_by, signed_of, turn_r
 ghost use Rattle.rollback.specs.Post.{signed_to, post_all, IsPosted};
 
 use crate::keys::fits;
+use crate::spares::{Spares, input_entry, spare_or_new, turn_entry};
 use antimessage::Bag;
 use antimessage::laws::order_law;
 use event_keys::{Key, Message, Outcome, Sign, Signed, Turned};
 use message_balance::Done;
 use plans::Plan;
 use plans::laws::receivers_law;
-use raw_events::{EventCell, EventList};
+use raw_events::EventList;
 use smallvec::SmallVec;
 use std::alloc::Global;
 use task_seed::{Setup, Turn, Turns};
 use terms::{Action, NoMemory};
 use undo_records::Store;
-
-fn cell_of<T: Drop>(alloc: Global, value: T) -> Result<EventCell<T>, NoMemory>
-    ensures { IfOk result (λ cell. cell ≡ value) }
-{
-    match EventCell::new(alloc, value) {
-        Ok(cell) => Ok(cell),
-        Err(_) => Err(NoMemory),
-    }
-}
-
-// The same, in a spare cell if there is one, whose old value is dropped.
-#[inline(always)]
-fn turned_cell(
-    alloc: Global,
-    spare: &mut EventList<Turned>,
-    turned: Turned,
-) -> Result<EventCell<Turned>, NoMemory>
-    ensures { IfOk result (λ cell. cell ≡ turned) }
-{
-    match spare.take_first() {
-        Some(mut cell) => {
-            *cell.value_mut() = turned;
-            Ok(cell)
-        }
-        None => cell_of(alloc, turned),
-    }
-}
 
 /// Marks the state, and changes it by an action.
 pub(crate) fn advance(
@@ -120,11 +94,12 @@ pub(crate) fn outcome_at<T: Turns>(
     }
 }
 
-// One message of the action for each receiver, the first nearest to the cursor. It stays a call, so that idle turns, which are most, don't pay for
-// it.
+// One message of the action for each receiver, the first nearest to the cursor, in spare cells where there are any. It stays a call, so that idle
+// turns, which are most, don't pay for it.
 #[inline(never)]
 fn signed_cells(
     alloc: Global,
+    spare: &mut EventList<Signed>,
     key: Key,
     action: &Action,
     sign: Sign,
@@ -139,7 +114,7 @@ fn signed_cells(
             action: action.clone()?,
             to: receiver,
         };
-        cells.push_last(cell_of(alloc, Signed { message, sign })?);
+        cells.push_last(spare_or_new(alloc, spare, Signed { message, sign })?);
     }
     Ok(cells)
 }
@@ -163,6 +138,7 @@ pub(crate) fn receivers_of_turn<T: Turns>(
 #[inline(always)]
 pub(crate) fn messages_to(
     alloc: Global,
+    spare: &mut EventList<Signed>,
     turned: &Turned,
     sign: Sign,
     receivers: &[u16],
@@ -171,7 +147,9 @@ pub(crate) fn messages_to(
 {
     match &turned.outcome {
         Outcome::Idle => Ok(EventList::new()),
-        Outcome::Did(action) => Ok(signed_cells(alloc, turned.key, action, sign, receivers)?),
+        Outcome::Did(action) => Ok(signed_cells(
+            alloc, spare, turned.key, action, sign, receivers,
+        )?),
     }
 }
 
@@ -196,7 +174,7 @@ fn give_back(pending: &mut EventList<Signed>, refused: Done)
     }
 }
 
-/// Takes the first pending input.
+/// Takes the first pending input. A spare cell serves again.
 pub(crate) fn take_input(
     alloc: Global,
     plan: &Plan,
@@ -204,6 +182,7 @@ pub(crate) fn take_input(
     store: &mut Store,
     done: &mut EventList<Done>,
     pending: &mut EventList<Signed>,
+    spares: &mut Spares,
 ) -> Result<(), NoMemory>
     requires { IsTrue (is_nonempty pending.old.after) }
     ensures state { OnOk result (IfSome (head pending.old.after) (λ first. store.new ≡ after_input plan.now i first store.old)) }
@@ -221,7 +200,7 @@ pub(crate) fn take_input(
     let Some(cell) = pending.take_last() else {
         unreachable!();
     };
-    match EventCell::new(alloc, Done::Input(cell)) {
+    match input_entry(alloc, spares, cell) {
         Ok(cell) => {
             done.push_last(cell);
             Ok(())
@@ -234,7 +213,7 @@ pub(crate) fn take_input(
     }
 }
 
-/// Does a turn by which nothing is done. A spare cell serves again.
+/// Does a turn by which nothing is done. Spare cells serve again.
 #[inline(always)]
 pub(crate) fn take_idle<T: Turns>(
     alloc: Global,
@@ -243,7 +222,7 @@ pub(crate) fn take_idle<T: Turns>(
     key: Key,
     store: &mut Store,
     done: &mut EventList<Done>,
-    spare: &mut EventList<Turned>,
+    spares: &mut Spares,
 ) -> Result<(), NoMemory>
     ensures state { OnOk result (store.new ≡ after_turn (machine_of T.turn_of setup.now) i
         (record { key = key; outcome = Idle }) store.old) }
@@ -258,14 +237,13 @@ pub(crate) fn take_idle<T: Turns>(
         key,
         outcome: Outcome::Idle,
     };
-    let turned = turned_cell(alloc, spare, turned)?;
-    let cell = cell_of(alloc, Done::Turn(turned, EventList::new()))?;
+    let cell = turn_entry(alloc, spares, turned, EventList::new())?;
     store.mark(alloc)?;
     done.push_last(cell);
     Ok(())
 }
 
-/// Does a turn with what came of it, and posts a message for each receiver of that. A spare cell serves again.
+/// Does a turn with what came of it, and posts a message for each receiver of that. Spare cells serve again.
 pub(crate) fn take_turn<T: Turns>(
     alloc: Global,
     setup: &Setup<T>,
@@ -274,7 +252,7 @@ pub(crate) fn take_turn<T: Turns>(
     receivers: &[u16],
     store: &mut Store,
     done: &mut EventList<Done>,
-    spare: &mut EventList<Turned>,
+    spares: &mut Spares,
     out: &mut Bag,
 ) -> Result<(), NoMemory>
     requires there { i < length (composition (plan_of setup.now)) }
@@ -288,11 +266,10 @@ pub(crate) fn take_turn<T: Turns>(
 {
     receivers_law();
     fits(turned.key);
-    let messages = messages_to(alloc, &turned, Sign::Plus, receivers)?;
-    let antimessages = messages_to(alloc, &turned, Sign::Minus, receivers)?;
-    let turned = turned_cell(alloc, spare, turned)?;
-    advance_turn(alloc, setup, i, &turned.value().outcome, store)?;
-    match EventCell::new(alloc, Done::Turn(turned, antimessages)) {
+    let messages = messages_to(alloc, &mut spares.signed, &turned, Sign::Plus, receivers)?;
+    let antimessages = messages_to(alloc, &mut spares.signed, &turned, Sign::Minus, receivers)?;
+    advance_turn(alloc, setup, i, &turned.outcome, store)?;
+    match turn_entry(alloc, spares, turned, antimessages) {
         Ok(cell) => done.push_last(cell),
         Err(_) => {
             store.undo();

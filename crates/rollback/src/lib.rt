@@ -12,6 +12,7 @@ pub mod laws;
 mod matching;
 pub mod refused;
 mod same;
+mod spares;
 
 pub use component::Component;
 pub use copied::Copies;

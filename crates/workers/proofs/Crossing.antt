@@ -32,6 +32,7 @@ use Rattle.plans.proofs.automaton.Param.TheSendSync as param
 use Rattle.plans.proofs.index.Index.TheSendSync as index
 use Rattle.raw_events.proofs.list.EventList.TheSendSync as event_list
 use Rattle.rollback.proofs.copied.Copies.TheSendSync as copies
+use Rattle.rollback.proofs.spares.Spares.TheSendSync as spares
 use Rattle.message_balance.proofs.done.Done.TheSendSync as done
 use Rattle.std.proofs.Crossing as crossing
 use Rattle.std.proofs.boxed.Box.TheSendSync as box
@@ -56,7 +57,7 @@ module _ (T : RattleType) where
 
 module _ (T : RattleType) (g : turns.Ghosts T.Denot) (e : equal.Ghosts T.Denot) where
   pub Component-send : IsSend T → IsSync T → IsSend (Component.the_row T g e)
-  Component-send s y = search (Setup-send, Setup-sync, crossing.Arc-send, option.the_field_send, bound.the_field_send, key.the_send, signed.the_send, turned.the_send, event_list.the_send, done.the_send, arc.the_send, vec.the_send, vec_deque.the_send, scalar.the_send, crossing.crosses, value.crosses, effect.crosses, shape.crosses, term.crosses, sendable) depth 60 fits 20000
+  Component-send s y = search (Setup-send, Setup-sync, crossing.Arc-send, spares.the_field_send, option.the_field_send, bound.the_field_send, key.the_send, signed.the_send, event_list.the_send, done.the_send, arc.the_send, vec.the_send, vec_deque.the_send, scalar.the_send, crossing.crosses, value.crosses, effect.crosses, shape.crosses, term.crosses, sendable) depth 60 fits 20000
 
   pub Lease-send : IsSend T → IsSync T → IsSend (Lease.the_row T g e)
   Lease-send s y = search (Component-send, bag.the_send, bound.the_field_send, copies.the_field_send, crossing.crosses, value.crosses, effect.crosses, shape.crosses, term.crosses, sendable) depth 60 fits 20000

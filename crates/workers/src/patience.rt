@@ -30,6 +30,10 @@ const MOST_DOUBLINGS: u32 = 11;
 
 const MOST_NAP_DOUBLINGS: u32 = 5;
 
+// How many turns may be published before the calling thread has looked for them again. A worker waits then until it has: what isn't written takes
+// memory, and the cells of what is written serve again.
+const MOST_UNSEEN: u64 = 1024;
+
 // Where turns are cheap and each waits for a message, a second worker does nothing but take the exchange from the first. So a worker that finds
 // it away too often rests, each time longer, but the first worker, which never does.
 #[derive(Drop)]
@@ -44,6 +48,9 @@ pub(crate) struct Patience {
     // How many naps are left of a rest, and how long each is, in microseconds.
     naps: u32,
     nap: u64,
+    // How often the calling thread had looked for turns when the worker last saw that it did, and how many were published then.
+    caller_looks: u64,
+    published: u64,
 }
 
 impl Patience {
@@ -55,6 +62,8 @@ impl Patience {
             rests: 0,
             naps: 0,
             nap: NAP,
+            caller_looks: 0,
+            published: 0,
         }
     }
 
@@ -65,6 +74,20 @@ impl Patience {
         }
         self.naps -= 1;
         nap(rt, self.nap);
+        true
+    }
+
+    // Naps, if so many turns are published, the calling thread has looked for them so often, and many were published since it did last. Answers
+    // whether it napped.
+    pub(crate) fn keep_back<R: Wait>(&mut self, rt: &R, caller_looks: u64, published: u64) -> bool {
+        if self.caller_looks != caller_looks {
+            self.caller_looks = caller_looks;
+            self.published = published;
+        }
+        if published.saturating_sub(self.published) <= MOST_UNSEEN {
+            return false;
+        }
+        nap(rt, NAP);
         true
     }
 

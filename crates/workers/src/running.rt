@@ -23,7 +23,7 @@ use raw_events::EventList;
 use reference::laws::turns_are_schedule;
 use std::alloc::Global;
 use std::io::Write;
-use std::sync::atomic::AtomicBool;
+use std::sync::atomic::{AtomicBool, AtomicU64};
 use std::sync::{Arc, Mutex, Wait};
 use std::thread;
 use std::thread::Threads;
@@ -106,6 +106,7 @@ fn start<T: Turns, R: Wait>(
         exchange,
         fault: Mutex::new(None),
         ends: AtomicBool::new(false),
+        looks: AtomicU64::new(0),
         pool,
         published,
         components,

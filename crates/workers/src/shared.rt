@@ -8,19 +8,20 @@ use crate::fault::WorkFault;
 use crossbeam_utils::Backoff;
 use gvt::Published;
 use pools::{Pass, Pool};
-use std::sync::atomic::{AtomicBool, Ordering};
+use std::sync::atomic::{AtomicBool, AtomicU64, Ordering};
 use std::sync::{Mutex, Wait};
 use std::thread::Parker;
 use std::time::Duration;
 use task_seed::{Setup, Turns};
 
-// The exchange, which one thread at a time has, the first fault, whether a worker has ended, the leases that wait for a worker, the count of
-// committed turns, and how many components there are.
+// The exchange, which one thread at a time has, the first fault, whether a worker has ended, how often the calling thread looked for turns, the
+// leases that wait for a worker, the count of committed turns, and how many components there are.
 #[derive(Drop)]
 pub(crate) struct Shared<T: Turns> {
     pub(crate) exchange: Pool<Lent<T>, Setup<T>>,
     pub(crate) fault: Mutex<Option<WorkFault>>,
     pub(crate) ends: AtomicBool,
+    pub(crate) looks: AtomicU64,
     pub(crate) pool: Pool<Paced<T>, Setup<T>>,
     pub(crate) published: Published,
     pub(crate) components: usize,
@@ -63,6 +64,16 @@ pub(crate) fn ends<T: Turns>(shared: &Shared<T>) -> bool {
 // Tells all that a worker ends.
 pub(crate) fn end<T: Turns>(shared: &Shared<T>) {
     shared.ends.store(true, Ordering::SeqCst);
+}
+
+// The calling thread looks for turns.
+pub(crate) fn note_look<T: Turns>(shared: &Shared<T>) {
+    shared.looks.fetch_add(1, Ordering::SeqCst);
+}
+
+// How often the calling thread looked for turns.
+pub(crate) fn looks<T: Turns>(shared: &Shared<T>) -> u64 {
+    shared.looks.load(Ordering::SeqCst)
 }
 
 // Notes a fault, if it is the first, and has all workers end.

@@ -8,9 +8,10 @@ use crate::fault::WorkFault;
 use crate::gate::Gate;
 use crate::patience::Patience;
 use crate::rounds::Rounds;
-use crate::shared::{Shared, end, ends, hold, note};
-use event_keys::Bound;
+use crate::shared::{Shared, end, ends, hold, looks, note};
+use event_keys::{Bound, Turned};
 use exchange::{Exchange, Lease, MeetRefused};
+use raw_events::EventList;
 use std::alloc::Global;
 use std::sync::Wait;
 use task_seed::Turns;
@@ -41,7 +42,7 @@ pub(crate) fn work<T: Turns, G: Gate<T>, R: Wait>(
         if ends(shared) {
             break;
         }
-        if patience.rest_on(rt) {
+        if patience.rest_on(rt) || patience.keep_back(rt, looks(shared), rounds.count()) {
             continue;
         }
         let visit = match change(rt, shared, &mut worker, &mut patience, &mut rounds, done) {
@@ -62,10 +63,7 @@ pub(crate) fn work<T: Turns, G: Gate<T>, R: Wait>(
             patience.wait(rt);
             continue;
         };
-        paced.lease.swap_spare(&mut worker.spare);
-        let advanced = advance(alloc, gate, &mut paced, holds_up, budget);
-        paced.lease.swap_spare(&mut worker.spare);
-        if advanced.is_err() {
+        if advance(alloc, gate, &mut paced, holds_up, budget).is_err() {
             note(rt, shared, WorkFault::NoMemory);
             break;
         }
@@ -161,8 +159,18 @@ fn share<T: Turns, R: Wait>(
         return Ok(());
     };
     let met = meet(exchange, &mut *paced.lease);
+    take_spare(&mut *paced.lease, &mut worker.spare);
     shared.pool.give_back(rt, &mut worker.pass, paced);
     met
+}
+
+// Takes the spare cells that a lease had for its visit.
+fn take_spare<T: Turns>(lease: &mut Lease<T>, spare: &mut EventList<Turned>)
+    ensures { lease.new ≡ lease.old }
+{
+    let mut own = EventList::new();
+    lease.swap_spare(&mut own);
+    spare.append_all(&mut own);
 }
 
 // Each lease that comes back is still that of its component.
@@ -237,7 +245,7 @@ fn take_some<T: Turns, R: Wait>(
             return Ok(None);
         };
         if is_due(exchange, &mut paced, count, shared.components, at_once) {
-            return Ok(Some(begin_visit(exchange, paced, count)?));
+            return Ok(Some(begin_visit(exchange, &mut worker.spare, paced, count)?));
         }
         shared.pool.give_back(rt, &mut worker.pass, paced);
     }
@@ -274,9 +282,11 @@ fn is_due<T: Turns>(
         .is_due(lease.depth(), has_next, count, components)
 }
 
-// A lease meets the exchange before it is worked on, if messages wait for it, or it is ahead so far that it has to drop what is committed.
+// A lease gets the spare cells for its visit, and meets the exchange before it is worked on, if messages wait for it, or it is ahead so far that it
+// has to drop what is committed.
 fn begin_visit<T: Turns>(
     exchange: &mut Exchange<T>,
+    spare: &mut EventList<Turned>,
     mut paced: Paced<T>,
     count: u64,
 ) -> Result<Visit<T>, MeetRefused>
@@ -286,6 +296,7 @@ fn begin_visit<T: Turns>(
     ensures exchange { exchange.new.setup ≡ exchange.old.setup }
 {
     let lease = &mut *paced.lease;
+    lease.swap_spare(spare);
     if exchange.has_mail(lease.number()) || paced.pace.is_half_full(lease.depth()) {
         meet(exchange, lease)?;
     }

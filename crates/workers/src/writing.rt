@@ -10,7 +10,7 @@ ghost use Rattle.workers.specs.Runs.{WroteAll, WroteSome};
 use crate::crew::Caller;
 use crate::fault::{RunFault, WorkFault, run_fault};
 use crate::running::Summary;
-use crate::shared::{Shared, ends, hold, nap, noted};
+use crate::shared::{Shared, ends, hold, nap, note_look, noted};
 use event_keys::Turned;
 use exchange::Exchange;
 use plans::Plan;
@@ -70,6 +70,7 @@ fn next_portion<T: Turns, R: Wait>(
     ensures portion { IfOk result (IsDuePortion (system T.turn_of own.now)) }
 {
     let _ = own;
+    note_look(shared);
     let count = shared.published.read(&mut caller.seat);
     if count <= written && !ends(shared) {
         return Ok(None);

@@ -17,7 +17,7 @@ floor_of-own-requires-after_bounds g c = λ _ _.
     let many = c.requires.many in
     let short : x.number < length c.args.stubs.now = omega (arith, there, number, many) in
     tray_to x.number c.from-i.result is_n c.args.bound c.args.bound c.args.out.now c.args.copies.now.of_sender c.args.copies.now.of_receiver c.args.tray.now c.hand_over.new.tray c.args.stubs.now c.index-stubs-i.result c.index-stubs-i-2.result short
-    c.send.new.self c.send.ensures c.spread.new.stubs c.spread.ensures.many c.spread.ensures.each s law c.flight_law.ensures.to c.requires.inbox c.requires.arrived c.hand_over.ensures.tray
+    c.send.new.self c.send.ensures.stub c.spread.new.stubs c.spread.ensures.many c.spread.ensures.each s law c.flight_law.ensures.to c.requires.inbox c.requires.arrived c.hand_over.ensures.tray
 
 pub returns-clause-passed : goal.returns-clause-passed
 returns-clause-passed g c =
@@ -31,7 +31,7 @@ returns-clause-passed g c =
     let many = c.requires.many in
     let short : x.number < length c.args.stubs.now = omega (arith, there, number, many) in
     passed_on x.number c.from-i.result is_n c.args.bound c.floor_of-own.result c.args.out.now c.args.copies.now.of_sender c.args.copies.now.of_receiver c.args.tray.now c.hand_over.new.tray c.args.stubs.now c.index-stubs-i.result c.index-stubs-i-2.result short
-    c.send.new.self c.send.ensures c.spread.new.stubs c.spread.ensures.many c.spread.ensures.each c.hand_over.new.self c.hand_over.ensures.stub c.forget_below.new.self c.forget_below.ensures c.hand_over.ensures.tray
+    c.send.new.self c.send.ensures.stub c.spread.new.stubs c.spread.ensures.many c.spread.ensures.each c.hand_over.new.self c.hand_over.ensures.stub c.forget_below.new.self c.forget_below.ensures c.hand_over.ensures.tray
 
 pub returns-clause-arrived : goal.returns-clause-arrived
 returns-clause-arrived g c =
@@ -45,4 +45,4 @@ returns-clause-arrived g c =
     let many = c.requires.many in
     let short : x.number < length c.args.stubs.now = omega (arith, there, number, many) in
     tray_to x.number c.from-i.result is_n c.args.bound c.args.bound c.args.out.now c.args.copies.now.of_sender c.args.copies.now.of_receiver c.args.tray.now c.hand_over.new.tray c.args.stubs.now c.index-stubs-i.result c.index-stubs-i-2.result short
-    c.send.new.self c.send.ensures c.spread.new.stubs c.spread.ensures.many c.spread.ensures.each s law c.flight_law.ensures.to c.requires.inbox c.requires.arrived c.hand_over.ensures.tray
+    c.send.new.self c.send.ensures.stub c.spread.new.stubs c.spread.ensures.many c.spread.ensures.each s law c.flight_law.ensures.to c.requires.inbox c.requires.arrived c.hand_over.ensures.tray

@@ -1,7 +1,7 @@
 use Rattle.std.proofs.Common.{rules, ◌≡◌, ◌++◌, None, Some, filter, sym, subst₂}
 use Rattle.antimessage.specs.Bags.{is_to}
 use Rattle.exchange.specs.Moving.{first_receiver, IsBrought}
-use Rattle.exchange.proofs.Spreading.{IsSpreading, fewer, spreading_steps, spreading_ends}
+use Rattle.exchange.proofs.Spreading.{IsSpreading, fewer, nothing_left, spreading_steps, spreading_ends}
 use Rattle.exchange.proofs.meeting.spread.Goals as goal
 
 pub loop-to-smaller : goal.loop-to-smaller
@@ -25,3 +25,15 @@ returns-clause-each c =
     let l = c.loop-to in
     let none : first_receiver (l.out ++ l.copies) ≡ None = search rules in
     spreading_ends c.args.out.now c.args.copies.now c.args.stubs.now l.out l.copies l.stubs l.invariant none
+
+pub returns-clause-out : goal.returns-clause-out
+returns-clause-out c =
+    let l = c.loop-to in
+    let none : first_receiver (l.out ++ l.copies) ≡ None = search rules in
+    (nothing_left l.out l.copies none).0
+
+pub returns-clause-copies : goal.returns-clause-copies
+returns-clause-copies c =
+    let l = c.loop-to in
+    let none : first_receiver (l.out ++ l.copies) ≡ None = search rules in
+    (nothing_left l.out l.copies none).1

@@ -50,12 +50,11 @@ loop-cell-preserved c =
     let inv = c.loop-cell.invariant in
     let taken : Some d ≡ oldest_below b ds = c.in-Some.ensures.taken in
     let rest : c.take_oldest_below.new.done ≡ record { before = without_oldest_below b ds; after = c.loop-cell.done.after } = c.in-Some.ensures.rest in
-    let turns : c.add_turn.new.dropped.turns ≡ record { before = turn_in d old.turns.before; after = old.turns.after }
-    = c.add_turn.ensures.turns ∙ ap (λ x. record old.turns { before = turn_in x old.turns.before }) c.into_value.ensures in
-    let newest : c.add_turn.new.dropped.newest ≡ key_in d old.newest = c.add_turn.ensures.newest ∙ ap (λ x. key_in x old.newest) c.into_value.ensures in
+    let turns : c.add_entry.new.dropped.turns ≡ record { before = turn_in d old.turns.before; after = old.turns.after } = c.add_entry.ensures.turns in
+    let newest : c.add_entry.new.dropped.newest ≡ key_in d old.newest = c.add_entry.ensures.newest in
     let many : length (dones_below b c.take_oldest_below.new.done.before) ≡ length (dones_below b (without_oldest_below b ds)) = ap (λ (a : Around Done). length (dones_below b a.before)) rest in
     let less = length_step b ds d taken in
-    let added = c.add_turn.ensures.count in
+    let added = c.add_entry.ensures.count in
     let count = inv.count in
     record {
       end = ap (λ (a : Around Done). a.after) rest ∙ inv.end;

@@ -23,7 +23,7 @@ use Rattle.exchange.specs.ExchangeView.{ExchangeView, IsValidExchange, stub_or_s
 use Rattle.exchange.proofs.Accepting.{accepted}
 use Rattle.exchange.proofs.Receiving.{To}
 use Rattle.exchange.proofs.Chunking.{onto_back}
-use Rattle.exchange.proofs.exchange.Exchange.accept.Goals as goal
+use Rattle.exchange.proofs.exchange.Exchange.join.Goals as goal
 
 pub merge-requires-clause-falls : goal.merge-requires-clause-falls
 merge-requires-clause-falls g c =
@@ -121,8 +121,8 @@ invariant_of-lease g c =
     (c.meeting_law.ensures.met m) (c.exchange_is_sound.ensures.meet m) (c.meeting_law.ensures.falls m) (c.meeting_law.ensures.apart m) c.merging_law.ensures.falls c.merging_law.ensures.outcomes
     refl lowest dropped c.merge.ensures.all arrived in
     let settled : LeaseView _ = record h { component = record l.component { base = f.bound; history = cut }; tray = on.new.tray; out = []; copies = record { of_sender = []; of_receiver = [] }; floor = on.result } in
-    let final : LeaseView _ = record { component = c.drop_below.new.self; tray = on.new.tray; out = c.new.result; copies = c.new-2.result; floor = on.result } in
-    let ends : settled ≡ final = λ v. record { component = sym own v; tray = on.new.tray; out = sym c.new.ensures v; copies = sym c.new-2.ensures v; floor = on.result } in
+    let final : LeaseView _ = record { component = c.drop_below.new.self; tray = on.new.tray; out = on.new.out; copies = on.new.copies; floor = on.result } in
+    let ends : settled ≡ final = λ v. record { component = sym own v; tray = on.new.tray; out = sym on.ensures.out v; copies = sym on.ensures.copies v; floor = on.result } in
     subst (λ (x : LeaseView _). IsValidLease (machine_of t x.component.setup) (length (composition (plan_of x.component.setup))) x) ends (subst (λ x. IsValidLease (machine x) (length x.composition) settled) same all.holding)
 
 pub returns-clause-met : goal.returns-clause-met
@@ -158,7 +158,7 @@ returns-clause-met g c =
     refl lowest dropped c.merge.ensures.all arrived in
     let items : (with_items f.stubs on.new.stubs).items ≡ on.new.stubs = with_items_is f.stubs on.new.stubs (on.ensures.passed.many ∙ c.deref_mut.ensures.len) in
     let settled : LeaseView _ = record h { component = record l.component { base = f.bound; history = cut }; tray = on.new.tray; out = []; copies = record { of_sender = []; of_receiver = [] }; floor = on.result } in
-    let final : LeaseView _ = record { component = c.drop_below.new.self; tray = on.new.tray; out = c.new.result; copies = c.new-2.result; floor = on.result } in
-    let ends : settled ≡ final = λ v. record { component = sym own v; tray = on.new.tray; out = sym c.new.ensures v; copies = sym c.new-2.ensures v; floor = on.result } in
+    let final : LeaseView _ = record { component = c.drop_below.new.self; tray = on.new.tray; out = on.new.out; copies = on.new.copies; floor = on.result } in
+    let ends : settled ≡ final = λ v. record { component = sym own v; tray = on.new.tray; out = sym on.ensures.out v; copies = sym on.ensures.copies v; floor = on.result } in
     let met = subst₂ (λ stubs (x : LeaseView _). Met m i (exchange_of m e) (lease_of h) (exchange_of m (record e { stubs = stubs; held = c.merge.new.held.after })) (lease_of x)) (sym items) ends all.met in
     subst₂ (λ (x : ExchangeView _) (y : LeaseView _). Met (machine_of t x.setup) y.component.number (exchange_of (machine_of t x.setup) x) (lease_of y) (exchange_of (machine_of t x.setup) (record e { stubs = (with_items f.stubs on.new.stubs).items; held = c.merge.new.held.after })) (lease_of final)) c.self.view_is c.lease.view_is met
