@@ -1,6 +1,7 @@
 -- The least of the next keys and of the keys in flight is global virtual time.
 use Rattle.std.proofs.Common.{◌≡◌, ℕ, zero, suc, ◌+◌, ◌<◌, ◌≤◌, ◌^◌, None, Some, List, [], ◌∷◌, length, min, drop, refl, ap, sym, subst, ◌∙◌, arith}
-use Rattle.std.specs.Prelude.{slice_get, slice_index_or, Option}
+use Rattle.std.specs.Prelude.{is_some, slice_get, slice_index_or, Option}
+use Rattle.std.proofs.lemmas.Bool.{true≢false}
 use Rattle.std.proofs.Math.Seq.{drop-cons}
 use Rattle.terms.specs.Datum.{Datum}
 use Rattle.terms.specs.Named.{Named}
@@ -29,12 +30,18 @@ lower : (a b : ℕ) (xs : List (Item Named)) → b ≤ a → AllFrom a xs → Al
 lower a b [] l h = tt
 lower a b (x ∷ xs) l h = let k = h.0 in (omega (arith, l, k), lower a b xs l h.1)
 
+some_same : {X : Type 0} (a b : X) → Some a ≡ Some b → a ≡ b
+some_same a b e = cc
+
+none_there : {X : Type 0} (b : X) → None ≡ Some b → ⊥
+none_there b e = true≢false (sym (ap is_some e))
+
 module _ {T : Type 0} (turn_of : T → ℕ → ℕ → Option Turn) where
   -- the least of the components' next keys is not above any
   least_low : (cs : List (ComponentView (Setup T))) (j : ℕ) (c : ComponentView (Setup T)) → slice_get cs j ≡ Some c → least_next turn_of cs ≤ next_key (machine_of turn_of c.setup) (next_of (machine_of turn_of c.setup) c.number c.history)
-  least_low [] j c e = cc
+  least_low [] j c e = absurd (none_there c e)
   least_low (x ∷ cs) zero c e =
-      let same : x ≡ c = cc in
+      let same : x ≡ c = some_same x c e in
       subst (λ y. least_next turn_of (x ∷ cs) ≤ next_key (machine_of turn_of y.setup) (next_of (machine_of turn_of y.setup) y.number y.history)) same (omega arith)
   least_low (x ∷ cs) (suc j) c e = let rest = least_low cs j c e in omega (arith, rest)
 
