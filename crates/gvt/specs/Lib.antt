@@ -1,3 +1,4 @@
 pub mod Least
 pub mod Counts
 pub mod Seats
+pub mod Tournaments

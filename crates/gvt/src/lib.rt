@@ -4,6 +4,7 @@
 pub mod least;
 pub mod published;
 mod rule;
+pub mod tournament;
 pub mod word;
 
 pub use event_keys::lesser;

@@ -1,6 +1,5 @@
 pub mod Checked
 mod Joining
-mod Played
 mod Queued
 pub mod Runs
 mod Scheduled

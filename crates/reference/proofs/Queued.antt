@@ -8,8 +8,8 @@ use Rattle.event_keys.specs.Ranks.{rank}
 use Rattle.task_seed.specs.Turning.{System, key_of, key_at as key_with, ticks, has_turns}
 use Rattle.task_seed.specs.Machines.{turn_rank, end_rank}
 use Rattle.reference.specs.Queues.{ArePlaced, IsQueue, IsSmall, key_at, least_key, least_rank, place_of, rank_or_end}
-use Rattle.reference.specs.Tournaments.{IsTournament, node}
-use Rattle.reference.proofs.Played.{IsOne, root_low, root_reached}
+use Rattle.gvt.specs.Tournaments.{IsTournament, node}
+use Rattle.gvt.proofs.Played.{IsOne, root_low, root_reached}
 
 -- a key of turn n of component j
 pub record IsKeyOf (j n : ℕ) (key : Key) : Type 0 where

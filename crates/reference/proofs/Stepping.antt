@@ -20,7 +20,7 @@ use Rattle.task_seed.specs.Taken.{turn_of, turned_of}
 use Rattle.task_seed.specs.Machines.{machine, turn_rank, turn_outcome, end_rank}
 use Rattle.reference.specs.Queues.{ArePlaced, HasItsNumber, IsQueue, IsSmall, least_key, least_rank, place_of, rank_or_end}
 use Rattle.reference.specs.Taking.{plain, joining}
-use Rattle.reference.specs.Tournaments.{IsTournament, node}
+use Rattle.gvt.specs.Tournaments.{IsTournament, node}
 use Rattle.reference.specs.Standing.{IsAt, IsBeforeLeast, taken_at}
 use Rattle.reference.specs.Views.{IsComplete, Ran}
 use Rattle.reference.proofs.Queued.{IsFirst, first_queue, has_number, key_there, least_low, led, ranked, refilled}

@@ -3,6 +3,5 @@ pub mod Reading
 pub mod Schedules
 pub mod Standing
 pub mod Taking
-pub mod Tournaments
 pub mod Verdicts
 pub mod Views

@@ -4,7 +4,7 @@ use Rattle.event_keys.specs.declared.key.Key.{Key}
 use Rattle.event_keys.specs.Ranks.{rank}
 use Rattle.task_seed.specs.Turning.{System, key_of}
 use Rattle.task_seed.specs.Machines.{end_rank}
-use Rattle.reference.specs.Tournaments.{IsTournament, node}
+use Rattle.gvt.specs.Tournaments.{IsTournament, node}
 
 -- the tick and the component of a key as one number, and the greatest of 64 bits where there is no key
 abbrev pub place_of : Option Key → ℕ

@@ -10,13 +10,13 @@ ghost use Rattle.reference.specs.Queues.{ArePlaced, HasItsNumber, IsSmall, least
 ghost use Rattle.reference.specs.Reading.{AreRead};
 ghost use Rattle.reference.specs.Standing.{taken_at, IsBeforeLeast};
 ghost use Rattle.reference.specs.Taking.{plain};
-ghost use Rattle.reference.specs.Tournaments.{IsTournament, node};
+ghost use Rattle.gvt.specs.Tournaments.{IsTournament, node};
 ghost use Rattle.reference.specs.Views.{IsNextTurn, IsComplete};
 
 use crate::readers::Readers;
 use crate::taking::{put_none, take_turn};
-use crate::tournament::put;
 use event_keys::{Key, Outcome, Turned};
+use gvt::tournament::put;
 use plans::Plan;
 use std::alloc::Global;
 use task_seed::laws::machine_is_lawful;

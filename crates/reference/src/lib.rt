@@ -8,7 +8,6 @@ mod readers;
 pub mod scheduling;
 pub mod simulator;
 mod taking;
-mod tournament;
 
 pub use checking::{Verdict, check_run};
 pub use scheduling::schedule;

@@ -1,5 +1,4 @@
 use Rattle.std.proofs.Common.{ℕ, ◌<◌, length, subst, sym}
-use Rattle.std.specs.Prelude.{◌≡◌}
 use Rattle.plans.specs.Plans.{composition}
 use Rattle.reference.proofs.Owning.{own_back, own_marked, all_taken}
 use Rattle.reference.proofs.taking.take_action.Goals as goal

@@ -8,7 +8,7 @@ use Rattle.task_seed.specs.Setups.{system}
 use Rattle.task_seed.specs.Machines.{machine, end_rank}
 use Rattle.reference.specs.Queues.{HasItsNumber, least_key, least_rank, place_of}
 use Rattle.reference.specs.Standing.{IsAt, taken_at}
-use Rattle.reference.specs.Tournaments.{IsTournament, node}
+use Rattle.gvt.specs.Tournaments.{IsTournament, node}
 use Rattle.reference.specs.Views.{IsComplete}
 use Rattle.reference.proofs.Takers.{slice_set-length}
 use Rattle.reference.proofs.Stepping.{ended, fits, key_is, key_small, next_turn, numbered, numbers_within, small_key, stepped, turn_is, whole_after, whole_here, within}

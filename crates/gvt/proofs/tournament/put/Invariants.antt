@@ -1,6 +1,6 @@
 use Rattle.std.proofs.Common.{◌-◌}
-use Rattle.reference.proofs.Played.{IsPlayed}
-use Rattle.reference.proofs.tournament.put.Given as goal
+use Rattle.gvt.proofs.Played.{IsPlayed}
+use Rattle.gvt.proofs.tournament.put.Given as goal
 
 abbrev pub invariant-loop-at : goal.invariant-loop-at
 invariant-loop-at l = IsPlayed l.count l.index l.number l.fn.nodes l.at l.nodes

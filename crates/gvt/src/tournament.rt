@@ -1,6 +1,6 @@
 //! A tournament of numbers, which tells the least of them.
 ghost use Rattle.std.specs.Prelude.{◌≡◌, ◌+◌, ◌*◌, ◌<◌, ℕ, length, min, slice_set};
-ghost use Rattle.reference.specs.Tournaments.{IsTournament, node};
+ghost use Rattle.gvt.specs.Tournaments.{IsTournament, node};
 
 // The lesser of the numbers at the two nodes below comes to the node.
 #[inline(always)]
@@ -16,7 +16,7 @@ fn settle(nodes: &mut [u64], at: usize)
 
 /// Puts a number in place of the one with this index. The steps are as many as its node has nodes above it.
 #[inline]
-pub(crate) fn put(nodes: &mut [u64], count: usize, index: usize, number: u64)
+pub fn put(nodes: &mut [u64], count: usize, index: usize, number: u64)
     requires within { index < count }
     requires tournament { IsTournament count nodes.old }
     ensures tournament { IsTournament count nodes.new }

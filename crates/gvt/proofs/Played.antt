@@ -3,7 +3,7 @@ use Rattle.std.proofs.Common.{◌≡◌, ℕ, ◌+◌, ◌*◌, ◌/◌, ◌%◌
 use Rattle.std.specs.Prelude.{min, slice_set, replicate}
 use Rattle.std.proofs.lemmas.Bool.{cases_eq, cases_lt}
 use Rattle.std.proofs.lemmas.List.{get_or-set_same, get_or-set_other, length-set, get_or-replicate, length-replicate}
-use Rattle.reference.specs.Tournaments.{IsTournament, IsSettled, node}
+use Rattle.gvt.specs.Tournaments.{IsTournament, IsSettled, node}
 
 -- the numbers at the nodes where the one at a place has changed
 node_same : (nodes : List ℕ) (at number k : ℕ) → at < length nodes → k ≡ at → node (slice_set nodes at number) k ≡ number
