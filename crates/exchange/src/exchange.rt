@@ -20,6 +20,7 @@ ghost use Rattle.exchange.specs.Walks.{AreWalks};
 ghost use Rattle.std.specs.List.{list_all};
 ghost use Rattle.exchange.specs.Seen.{HasCommitted, IsOneCommit, IsSoundExchange};
 
+use crate::receivers::Receivers;
 use crate::stub::Stub;
 use event_keys::laws::rank_law;
 use event_keys::{Bound, Turned};
@@ -44,6 +45,7 @@ pub struct Exchange<T: Turns> {
     // All after the cursor, in the order of keys.
     pub(crate) held: EventList<Turned>,
     pub(crate) given: u64,
+    pub(crate) receivers: Receivers,
 }
 
 impl<T: Turns> Model for Exchange<T> {
@@ -108,6 +110,14 @@ impl<T: Turns> Exchange<T> {
             None => false,
             Some(stub) => !stub.inbox.is_empty(),
         }
+    }
+
+    /// A component to whose inbox something came since it was last answered here, if there is one, the last one first. It tells who looks for
+    /// work whom to look at; something may still wait where it doesn't, and nothing may wait any more where it does.
+    pub fn take_receiver(&mut self) -> Option<u16>
+        ensures { self.new ≡ self.old }
+    {
+        self.receivers.take()
     }
 
     /// Whether every base is the end: then all turns that there are lie below the bases.

@@ -7,6 +7,7 @@ pub mod judging;
 pub mod laws;
 pub mod lease;
 mod meeting;
+mod receivers;
 mod same;
 mod start;
 pub mod stub;

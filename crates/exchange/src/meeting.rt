@@ -13,6 +13,7 @@ ghost use Rattle.exchange.specs.Seen.{HaveMet, IsFloorOf, Knows, OnlyMeets, is_o
 use crate::exchange::Exchange;
 use crate::judging::MeetRefused;
 use crate::lease::Lease;
+use crate::receivers::Receivers;
 use crate::stub::{Stub, earlier};
 use antimessage::Bag;
 use antimessage::laws::order_law;
@@ -162,7 +163,7 @@ fn bring(stubs: &mut [Stub], to: u16, came: Bag, copies: Bag)
 }
 
 // All that is outgoing comes to the stubs, each message to its receiver's. Only the receivers are gone through, not all stubs.
-fn spread(stubs: &mut [Stub], out: &mut Bag, copies: &mut Bag)
+fn spread(stubs: &mut [Stub], out: &mut Bag, copies: &mut Bag, receivers: &mut Receivers)
     ensures many { length stubs.new ≡ length stubs.old }
     ensures each { (j : ℕ) (stub : StubValue) → slice_get stubs.new j ≡ Some stub → IsReached out.old copies.old stubs.old j stub }
     ensures out { out.new ≡ [] }
@@ -171,6 +172,7 @@ fn spread(stubs: &mut [Stub], out: &mut Bag, copies: &mut Bag)
     while let Some(to) = next_receiver(out, copies) {
         let came = out.split_to(to);
         bring(stubs, to, came, copies.split_to(to));
+        receivers.note(to);
     }
 }
 
@@ -193,6 +195,7 @@ fn pass_on<T: Turns>(
     tray: &mut Bag,
     out: &mut Bag,
     copies: &mut Copies,
+    receivers: &mut Receivers,
     cells: &mut EventList<Signed>,
 ) -> Bound
     requires many { length stubs.old ≡ length (composition (plan_of component.now.setup)) }
@@ -208,7 +211,7 @@ fn pass_on<T: Turns>(
     machine_is_lawful(component.setup());
     let i = usize::from(component.number());
     stubs[i].send(&mut copies.of_sender, out);
-    spread(stubs, out, &mut copies.of_receiver);
+    spread(stubs, out, &mut copies.of_receiver, receivers);
     let own = &mut stubs[i];
     own.hand_over(tray);
     own.forget_below(bound, cells);
@@ -302,6 +305,7 @@ impl<T: Turns> Exchange<T> {
             &mut lease.tray,
             &mut lease.out,
             &mut lease.copies,
+            &mut self.receivers,
             cells,
         );
         self.bound

@@ -7,6 +7,7 @@ ghost use Rattle.exchange.specs.Start.{StandForStart, first_bound, start_stub, s
 
 use crate::exchange::Exchange;
 use crate::lease::Lease;
+use crate::receivers::Receivers;
 use crate::stub::Stub;
 use antimessage::Bag;
 use event_keys::{Bound, Key};
@@ -103,6 +104,7 @@ impl<T: Turns> Exchange<T> {
             walks.push(None)?;
             leases.push(start_lease(alloc, Arc::try_clone(&setup)?, i)?)?;
         }
+        let receivers = Receivers::none(alloc, setup.plan().components())?;
         let exchange = Exchange {
             setup,
             stubs,
@@ -110,6 +112,7 @@ impl<T: Turns> Exchange<T> {
             bound: FIRST,
             held: EventList::new(),
             given: 0,
+            receivers,
         };
         Ok((exchange, leases))
     }
