@@ -8,9 +8,11 @@ use Rattle.exchange.specs.contracts.exchange.Exchange as Exchange
 use Rattle.exchange.specs.contracts.lease.Lease as Lease
 use Rattle.rollback.specs.contracts.component.Component as Component
 use Rattle.std.specs.declared.cmp.Eq as whole_equal
+use Rattle.workers.specs.contracts.crew.Handed as Handed
 use Rattle.workers.specs.contracts.crew.Lent as Lent
 use Rattle.workers.specs.contracts.crew.Paced as Paced
 use Rattle.workers.specs.contracts.crew.Worker as Worker
+use Rattle.workers.specs.contracts.depot.Depot as Depot
 use Rattle.workers.specs.contracts.shared.Shared as Shared
 use Rattle.core.proofs.atomic.AtomicBool.TheSendSync as atomic_bool
 use Rattle.core.proofs.sync.Mutex.TheSendSync as mutex
@@ -19,6 +21,9 @@ use Rattle.gvt.proofs.word.Published.TheSendSync as published
 use Rattle.gvt.proofs.word.Seat.TheSendSync as seat
 use Rattle.pools.proofs.places.Pass.TheSendSync as pass
 use Rattle.workers.proofs.pace.Pace.TheSendSync as pace
+use Rattle.workers.proofs.places.Places.TheSendSync as places
+use Rattle.workers.proofs.rounds.Rounds.TheSendSync as rounds
+use Rattle.exchange.proofs.receivers.Receivers.TheSendSync as receivers
 use Rattle.pools.proofs.places.Pool.TheSendSync as pool
 use Rattle.antimessage.proofs.bag.Bag.TheSendSync as bag
 use Rattle.event_keys.proofs.key.Bound.TheSendSync as bound
@@ -63,16 +68,22 @@ module _ (T : RattleType) (g : turns.Ghosts T.Denot) (e : equal.Ghosts T.Denot) 
   Lease-send s y = search (Component-send, bag.the_send, bound.the_field_send, copies.the_field_send, crossing.crosses, value.crosses, effect.crosses, shape.crosses, term.crosses, sendable) depth 60 fits 20000
 
   pub Exchange-send : IsSend T → IsSync T → IsSend (Exchange.the_row T g e)
-  Exchange-send s y = search (Setup-send, Setup-sync, crossing.Arc-send, bound.the_field_send, turned.the_send, stub.the_send, event_list.the_send, arc.the_send, vec.the_send, crossing.crosses, effect.crosses, shape.crosses, term.crosses, sendable) depth 60 fits 20000
+  Exchange-send s y = search (Setup-send, Setup-sync, receivers.the_field_send, crossing.Arc-send, bound.the_field_send, turned.the_send, stub.the_send, event_list.the_send, arc.the_send, vec.the_send, crossing.crosses, effect.crosses, shape.crosses, term.crosses, sendable) depth 60 fits 20000
 
   pub Paced-send : IsSend T → IsSync T → IsSend (Paced.the_row T g e)
-  Paced-send s y = search (Lease-send, pace.the_field_send, pace.the_send, crossing.crosses, value.crosses, effect.crosses, shape.crosses, term.crosses, sendable) depth 60 fits 20000
+  Paced-send s y = search (Lease-send, pace.the_field_send, crossing.crosses, value.crosses, effect.crosses, shape.crosses, term.crosses, sendable) depth 60 fits 20000
+
+  pub Handed-send : IsSend T → IsSync T → IsSend (Handed.the_row T g e)
+  Handed-send s y = search (Paced-send, crossing.crosses, value.crosses, effect.crosses, shape.crosses, term.crosses, sendable) depth 60 fits 20000
+
+  pub Depot-send : IsSend T → IsSync T → IsSend (Depot.the_row T g e)
+  Depot-send s y = search (Exchange-send, Handed-send, places.the_send, rounds.the_field_send, bound.the_field_send, option.the_field_send, option.the_send, turned.the_send, event_list.the_send, vec.the_send, crossing.crosses, value.crosses, effect.crosses, shape.crosses, term.crosses, sendable) depth 60 fits 20000
 
   pub Lent-send : IsSend T → IsSync T → IsSend (Lent.the_row T g e)
-  Lent-send s y = search (Exchange-send, turned.the_send, event_list.the_send, crossing.crosses, effect.crosses, shape.crosses, term.crosses, sendable) depth 60 fits 20000
+  Lent-send s y = search (Depot-send, crossing.crosses, effect.crosses, shape.crosses, term.crosses, sendable) depth 60 fits 20000
 
   pub Worker-send : IsSend T → IsSync T → IsSend (Worker.the_row T g e)
-  Worker-send s y = search (Setup-send, Paced-send, Lent-send, turned.the_send, event_list.the_send, seat.the_field_send, pass.the_field_send, crossing.crosses, value.crosses, effect.crosses, shape.crosses, term.crosses, sendable) depth 60 fits 20000
+  Worker-send s y = search (Lent-send, turned.the_send, event_list.the_send, seat.the_field_send, pass.the_field_send, crossing.crosses, value.crosses, effect.crosses, shape.crosses, term.crosses, sendable) depth 60 fits 20000
 
   pub Shared-sync : (q : whole_equal.Ghosts T.Denot) → IsSend T → IsSync T → IsSync (Shared.the_row T g q e)
-  Shared-sync q s y = search (Setup-send, Paced-send, Lent-send, atomic_bool.the_field_sync, option.the_field_send, option.the_send, mutex.the_sync, meet_refused.the_field_send, published.the_field_sync, pool.the_field_sync, crossing.crosses, value.crosses, effect.crosses, shape.crosses, term.crosses, sendable) depth 60 fits 20000
+  Shared-sync q s y = search (Lent-send, atomic_bool.the_field_sync, option.the_field_send, option.the_send, mutex.the_sync, meet_refused.the_field_send, published.the_field_sync, pool.the_field_sync, crossing.crosses, value.crosses, effect.crosses, shape.crosses, term.crosses, sendable) depth 60 fits 20000

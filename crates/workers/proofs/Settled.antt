@@ -12,10 +12,6 @@ use Rattle.exchange.specs.Core.{StaysKnown}
 use Rattle.exchange.specs.LeaseView.{LeaseView, AllDelivered, IsAhead, lease_of}
 use Rattle.workers.specs.Gates.{StaysItself}
 
-pub number_stays : {P : Type 0} (m : Machine (List Datum) Named) (old : LeaseView P) (tray : List Signed) (new : LeaseView P) → AllDelivered m old tray new → new.component.number ≡ old.component.number
-number_stays m old [] new h = ap (λ l. l.component.number) h
-number_stays m old (s ∷ ss) new h = number_stays m h.0 ss new h.2 ∙ ap (λ l. l.component.number) h.1.rest
-
 pub setup_stays : {P : Type 0} (m : Machine (List Datum) Named) (old : LeaseView P) (tray : List Signed) (new : LeaseView P) → AllDelivered m old tray new → new.component.setup ≡ old.component.setup
 setup_stays m old [] new h = ap (λ l. l.component.setup) h
 setup_stays m old (s ∷ ss) new h = setup_stays m h.0 ss new h.2 ∙ ap (λ l. l.component.setup) h.1.rest

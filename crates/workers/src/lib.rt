@@ -2,11 +2,13 @@
 #![tactic(auto)]
 
 mod crew;
+mod depot;
 pub mod fault;
 pub mod gate;
-pub mod laws;
 mod pace;
 mod patience;
+mod places;
+mod policy;
 mod rounds;
 pub mod running;
 mod shared;

@@ -1,118 +1,126 @@
-//! How far a component is let run ahead of what is committed, and when its lease is worth a visit.
+//! How far a component is let run ahead of the others.
+use crate::policy::POLICY;
 
-// How often a lease is passed over at most that may have turns which were committed since its last visit.
-const MOST_SKIPS: u64 = 256;
-
-// How many entries a component has done since its base at most, whatever its window.
-const MOST_HELD: u64 = 256;
-
-// How many times in a row messages take nothing back before a component needn't be careful any more.
-const MANY_ARRIVALS: u32 = 128;
-
-// A component that is far ahead loses much to a straggler; one that is hardly ahead is visited for little. What it did beyond the messages that
-// came last and isn't committed is what the next ones may cost. So its window for that goes after what it could keep between two arrivals, and
+// What a component does beyond what the others have to do is what a straggler may cost. So its window for that goes after what it could keep, and
 // grows where nothing is lost.
 #[derive(Drop)]
 pub(crate) struct Pace {
-    // How many entries it may have done beyond the last messages that aren't committed.
-    window: u64,
-    // How many entries it did beyond them.
-    ran: u64,
-    // How many turns were committed when its lease was last visited.
-    seen: u64,
-    // How often its lease was passed over since.
-    skips: u64,
+    // How many entries it may do in a visit beyond what the others have to do.
+    window: u32,
+    // How many it did in the last visit, and whether there were no more because of the window.
+    ran: u32,
+    is_used_up: bool,
+    // How many visits in a row used the window up and lost nothing.
+    good: u32,
+    // Whether it ever lost anything.
+    has_lost: bool,
     // How many times in a row messages came and took nothing back.
     kept: u32,
+    // Whether it did nothing in its last turn.
+    is_idle: bool,
+    // The pass in which it last met the exchange.
+    met: u64,
 }
 
 impl Pace {
-    pub(crate) fn new(budget: u32) -> Pace {
+    pub(crate) fn new() -> Pace {
         Pace {
-            window: u64::from(budget),
+            window: 1,
             ran: 0,
-            seen: 0,
-            skips: 0,
-            kept: MANY_ARRIVALS,
+            is_used_up: false,
+            good: 0,
+            has_lost: false,
+            kept: POLICY.many_arrivals,
+            is_idle: false,
+            met: 0,
         }
     }
 
-    // Whether messages took something back of late. Then the component is not to run on where it has sent something and waits for an answer.
+    // Whether messages took something back of late. Then the component is not to run on where it does nothing: it mostly waits for an answer, and
+    // what it did until that comes would be taken back.
     pub(crate) fn is_careful(&self) -> bool {
-        self.kept < MANY_ARRIVALS
+        self.kept < POLICY.many_arrivals
     }
 
-    // How many of so many entries since the base were done beyond the last messages.
-    fn ahead(&self, depth: usize) -> u64 {
-        self.ran.min(depth as u64)
+    // Whether it is careful, and did nothing at last.
+    pub(crate) fn waits(&self) -> bool {
+        self.is_idle && self.is_careful()
     }
 
-    // Whether half of what may be ahead is, where there are so many entries since the base.
-    pub(crate) fn is_half_full(&self, depth: usize) -> bool {
-        self.window.saturating_add(1) / 2 <= self.ahead(depth) || MOST_HELD / 2 <= depth as u64
-    }
-
-    // Whether a lease with so many entries since its base is worth a visit, where so many turns are committed. It may run ahead where half of its
-    // window is free, or will be, if each component has its share of the turns that were committed since the last visit. Else it is passed over,
-    // but not for ever, since its own turns among those wait to be taken in.
-    pub(crate) fn is_due(
-        &mut self,
-        depth: usize,
-        has_next: bool,
-        count: u64,
-        components: usize,
-    ) -> bool {
-        let since = count.saturating_sub(self.seen);
-        let shares = (components as u64).saturating_mul(self.window.saturating_add(1) / 2);
-        if has_next && (!self.is_half_full(depth) || shares <= since) {
-            return true;
-        }
-        self.skips = self.skips.saturating_add(1);
-        depth > 0 && since > 0 && self.skips > MOST_SKIPS
-    }
-
-    // A lease is visited, where so many turns are committed.
-    pub(crate) fn visit(&mut self, count: u64) {
-        self.seen = count;
-        self.skips = 0;
-    }
-
-    // Messages came or not, and so many entries were taken back. The window goes half of the way to what could be kept, or grows by one where it was
-    // used up.
+    // Messages came or not, and so many entries were taken back.
     pub(crate) fn adapt(&mut self, came: bool, lost: usize, budget: u32) {
         if lost > 0 {
-            let kept = self.ran.saturating_sub(lost as u64);
-            self.window = (self.window.saturating_add(kept) / 2).max(1);
-            self.kept = 0;
-        } else {
-            self.grow(came, budget);
-        }
-        if came {
-            self.ran = 0;
-        }
-    }
-
-    // Nothing was taken back.
-    fn grow(&mut self, came: bool, budget: u32) {
-        let used = if came { 1 } else { 2 };
-        if self.ran >= self.window.saturating_mul(used) {
-            self.window = self.window.saturating_add(1).min(u64::from(budget));
+            self.lose(lost);
+            return;
         }
         if came {
             self.kept = self.kept.saturating_add(1);
         }
+        if self.is_used_up {
+            self.grow(budget);
+        }
     }
 
-    // So many entries were done.
-    pub(crate) fn add(&mut self, count: u32) {
-        self.ran = self.ran.saturating_add(u64::from(count));
+    fn lose(&mut self, lost: usize) {
+        let kept = (self.ran as usize).saturating_sub(lost);
+        if kept < self.window as usize {
+            self.window = kept as u32;
+        }
+        self.kept = 0;
+        self.good = 0;
+        self.has_lost = true;
     }
 
-    // How many entries a lease may run that has so many since its base: what is left of its window, but one at least where it holds all others up.
-    pub(crate) fn allowed(&self, depth: usize, holds_up: bool) -> u32 {
-        let left = self.window.saturating_sub(self.ahead(depth));
-        let room = MOST_HELD.saturating_sub(depth as u64);
-        let least = u64::from(holds_up);
-        u32::try_from(left.min(room).max(least)).unwrap_or(u32::MAX)
+    // Nothing was taken back. Up to the first loss a window doubles each time.
+    fn grow(&mut self, budget: u32) {
+        if !self.has_lost {
+            self.widen(self.window, budget);
+            return;
+        }
+        self.good = self.good.saturating_add(1);
+        if self.good >= POLICY.visits_to_grow {
+            self.widen(1, budget);
+            self.good = 0;
+        }
+    }
+
+    fn widen(&mut self, by: u32, budget: u32) {
+        let window = self.window.saturating_add(by);
+        self.window = window.min(budget).min(POLICY.most_window);
+    }
+
+    // How many entries of at most so many a lease may run beyond what the others have to do, where so many are done since its base. While it is
+    // alone and stops where it does nothing, it needs no window.
+    pub(crate) fn allowed(&self, most: u32, depth: usize, stops_alone: bool) -> u32 {
+        let window = if stops_alone { most } else { self.window };
+        let room = POLICY.most_held.saturating_sub(depth as u64);
+        let allowed = window.min(most);
+        if room < u64::from(allowed) {
+            room as u32
+        } else {
+            allowed
+        }
+    }
+
+    // A visit is over, in which so many entries of so many were done beyond what the others have to do, and whether the last turn did nothing.
+    pub(crate) fn note(&mut self, count: u32, allowed: u32, is_idle: bool) {
+        self.ran = count;
+        self.is_used_up = count == allowed;
+        self.is_idle = is_idle;
+    }
+
+    // It meets the exchange in this pass.
+    pub(crate) fn meet(&mut self, pass: u64) {
+        self.met = pass;
+    }
+
+    // Whether it has met the exchange in this pass.
+    pub(crate) fn has_met(&self, pass: u64) -> bool {
+        self.met == pass
+    }
+
+    // Whether it has met the exchange neither in this pass nor in the one before.
+    pub(crate) fn is_stale(&self, pass: u64) -> bool {
+        self.met.saturating_add(1) < pass
     }
 }

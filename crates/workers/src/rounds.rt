@@ -1,39 +1,78 @@
-//! When a worker raises the bound.
+//! When the leases that wait are gone over, and when the bound is raised.
+use crate::policy::POLICY;
 
-// A commit looks at all components. Where messages wait there is something to do without it, and it is done once in as many rounds as there are
-// components, so that a round costs the same however many there are.
+// A pass goes over the leases that wait and takes each that hasn't met the exchange for long. It begins once in some visits for each component,
+// and some times as often the bound is raised, so that a visit costs the same however many components there are.
 #[derive(Drop)]
 pub(crate) struct Rounds {
-    // How many rounds there were since the last commit.
-    since: usize,
-    // How many turns that one counted.
-    count: u64,
+    // The number of the pass, from 1.
+    pass: u64,
+    // The component that it looks at next.
+    next: u16,
+    // How many visits there were since it began.
+    visits: u64,
+    // How many visits there were since the bound was raised.
+    since: u64,
+    // How many visits there were.
+    all: u64,
 }
 
 impl Rounds {
-    pub(crate) fn new() -> Rounds {
-        Rounds { since: 0, count: 0 }
+    // Before the first pass, with so many components.
+    pub(crate) fn new(components: u16) -> Rounds {
+        Rounds {
+            pass: 1,
+            next: components,
+            visits: 0,
+            since: 0,
+            all: 0,
+        }
     }
 
-    // A round begins. Whether it is to commit.
-    pub(crate) fn begin(&mut self, mail_waits: bool, components: usize) -> bool {
+    pub(crate) fn pass(&self) -> u64 {
+        self.pass
+    }
+
+    // There is a visit.
+    pub(crate) fn visit(&mut self) {
+        self.visits = self.visits.saturating_add(1);
         self.since = self.since.saturating_add(1);
-        !mail_waits || self.since >= components
+        self.all = self.all.saturating_add(1);
     }
 
-    // There was a commit, which counted so many turns.
-    pub(crate) fn note(&mut self, count: u64) {
+    // How many visits there were.
+    pub(crate) fn visits(&self) -> u64 {
+        self.all
+    }
+
+    // The bound is raised.
+    pub(crate) fn commit(&mut self) {
         self.since = 0;
-        self.count = count;
     }
 
-    // Whether there was a commit in this round.
-    pub(crate) fn has_committed(&self) -> bool {
-        self.since == 0
+    // Whether the bound is to be raised.
+    pub(crate) fn is_to_commit(&self, components: u16) -> bool {
+        let visits = POLICY.visits_a_pass * u64::from(components);
+        self.since.saturating_mul(POLICY.commits_a_pass) >= visits
     }
 
-    // How many turns the last commit counted.
-    pub(crate) fn count(&self) -> u64 {
-        self.count
+    // Begins a pass if one is due, and answers whether one is under way.
+    pub(crate) fn begin(&mut self, components: u16) -> bool {
+        if self.visits >= POLICY.visits_a_pass * u64::from(components) {
+            self.pass = self.pass.saturating_add(1);
+            self.next = 0;
+            self.visits = 0;
+        }
+        self.next < components
+    }
+
+    // The component that the pass looks at next; none where it is over.
+    pub(crate) fn next(&mut self, components: u16) -> Option<u16> {
+        let next = self.next;
+        if next >= components {
+            return None;
+        }
+        self.next = next + 1;
+        Some(next)
     }
 }

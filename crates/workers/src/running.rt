@@ -1,17 +1,18 @@
 //! A run: workers in threads of their own, and the calling thread, which writes.
-ghost use Rattle.std.specs.Prelude.{◌≡◌, ◌≤◌, All, IfErr, IfOk, length, map};
+ghost use Rattle.std.specs.Prelude.{◌≡◌, ◌≤◌, All, IfErr, IfOk, length};
 ghost use Rattle.std.specs.Arc.{arc_value};
 ghost use Rattle.gvt.specs.Seats.{IsSeatOf};
-ghost use Rattle.pools.specs.Passes.{IsOf as IsOfPool, holding};
-ghost use Rattle.pools.specs.Places.{AreOnce};
-ghost use Rattle.workers.specs.Crews.{AreOfOne, IsCallerOf, IsOf, IsOfAll, lease_in, number_of, setup_of};
+ghost use Rattle.pools.specs.Passes.{IsOf as IsOfPool};
+ghost use Rattle.workers.specs.Crews.{IsCallerOf, IsOf, IsOfAll};
+ghost use Rattle.workers.specs.Leases.{IsAwayOrOf, setup_of};
 ghost use Rattle.workers.specs.Runs.{WroteAll, WroteSome};
 
-use crate::crew::{Caller, Lent, Paced, Worker};
+use crate::crew::{Caller, Handed, Lent, Paced, Worker};
+use crate::depot::Depot;
 use crate::fault::{RunFault, WorkFault};
 use crate::gate::Gate;
-use crate::laws::distinct_numbers_law;
 use crate::pace::Pace;
+use crate::places::Places;
 use crate::shared::{Shared, end, note};
 use crate::working::work;
 use crate::writing::write_all;
@@ -66,7 +67,7 @@ pub fn run<T: Turns, W: Write + Drop, G: Gate<T>, R: Threads + Wait + Sync>(
     ensures unfinished { IfErr result (WroteSome T.turn_of W.contents (arc_value setup) lines out.old out.new) }
 {
     turns_are_schedule(&setup);
-    match start(rt, alloc, &setup, workers, budget) {
+    match start(rt, alloc, &setup, workers) {
         Ok(begun) => run_begun(rt, alloc, &setup, begun, budget, gate, lines, out),
         Err(_refused) => Err(RunFault::NoMemory),
     }
@@ -80,36 +81,30 @@ struct Begun<T: Turns> {
     caller: Caller<T>,
 }
 
-// Makes what the threads share, and gives each worker its passes and its seat.
+// Makes what the threads share, and gives each worker its pass and its seat.
 fn start<T: Turns, R: Wait>(
     rt: &R,
     alloc: Global,
     setup: &Arc<Setup<T>>,
     workers: u16,
-    budget: u32,
 ) -> Result<Begun<T>, NoMemory>
     requires workers { (1 ≤ workers) × (workers ≤ 64) }
     ensures crew { IfOk result (λ begun. All (IsOf begun.shared) begun.crew.items) }
     ensures caller { IfOk result (λ begun. IsCallerOf begun.shared (arc_value setup.now) begun.caller) }
 {
-    let (exchange, leases) = start_exchange(alloc, setup)?;
-    let components = leases.len();
-    let lent = Vec::from_array(alloc, [lend_out(alloc, exchange)?])?;
-    let (pool, passes) = Pool::new(rt, alloc, pace_all(alloc, leases, budget)?, workers)?;
+    let lent = Vec::from_array(alloc, [lend_out(alloc, setup)?])?;
     let (exchange, mut locks) = Pool::new(rt, alloc, lent, workers + 1)?;
     let (published, mut seats) = Published::new(alloc, workers + 1)?;
     let (Some(lock), Some(seat)) = (locks.pop(), seats.pop()) else {
         unreachable!()
     };
-    let crew = gather(alloc, &pool, &exchange, &published, passes, locks, seats)?;
+    let crew = gather(alloc, &exchange, &published, locks, seats)?;
     let shared = Shared {
         exchange,
         fault: Mutex::new(None),
         ends: AtomicBool::new(false),
         looks: AtomicU64::new(0),
-        pool,
         published,
-        components,
     };
     let caller = Caller { lock, seat };
     Ok(Begun {
@@ -119,74 +114,86 @@ fn start<T: Turns, R: Wait>(
     })
 }
 
-// Each lease with a pace.
+// The exchange of a setup at its start, with its leases, as it waits in its pool.
+fn lend_out<T: Turns>(alloc: Global, setup: &Arc<Setup<T>>) -> Result<Lent<T>, NoMemory>
+    ensures { IfOk result (λ lent. lent.depot.value ≡ arc_value setup.now) }
+{
+    let (exchange, leases) = start_exchange(alloc, setup)?;
+    let components = exchange.setup().plan().components();
+    let places = first_places(alloc, leases.as_slice(), components)?;
+    let away = Places::new(alloc, components)?;
+    let paced = pace_all(alloc, exchange.setup(), leases)?;
+    let depot = Depot::new(exchange, paced, places, away);
+    let depot = Box::new(alloc, depot)?;
+    Ok(Lent { depot })
+}
+
+// The places of leases at the start.
+fn first_places<T: Turns>(
+    alloc: Global,
+    leases: &[Lease<T>],
+    components: u16,
+) -> Result<Places, NoMemory> {
+    let mut places = Places::new(alloc, components)?;
+    for lease in leases {
+        places.wait(lease.number(), lease.next());
+    }
+    Ok(places)
+}
+
+// Each lease of a setup with a pace.
 fn pace_all<T: Turns>(
     alloc: Global,
+    setup: &Setup<T>,
     leases: Vec<Lease<T>>,
-    budget: u32,
-) -> Result<Vec<Paced<T>>, NoMemory>
-    ensures { IfOk result (λ paced. map lease_in paced.items ≡ leases.items) }
+) -> Result<Vec<Option<Handed<T>>>, NoMemory>
+    requires { All (λ lease. setup_of lease ≡ setup.now) leases.items }
+    ensures { IfOk result (λ paced. All (IsAwayOrOf setup.now) paced.items) }
 {
+    let _ = setup;
     let mut paced = Vec::with_capacity(alloc, leases.len())?;
     for lease in leases {
-        let pace = Pace::new(budget);
-        let lease = Box::new(alloc, lease)?;
-        paced.push(Paced { lease, pace })?;
+        let pace = Pace::new();
+        let handed = Handed {
+            paced: Box::new(alloc, Paced { lease, pace })?,
+        };
+        paced.push(Some(handed))?;
     }
     Ok(paced)
 }
 
-// The exchange, as it waits in its pool.
-fn lend_out<T: Turns>(alloc: Global, exchange: Exchange<T>) -> Result<Lent<T>, NoMemory>
-    ensures { IfOk result (λ lent. lent.exchange.value ≡ exchange) }
-{
-    let exchange = Box::new(alloc, exchange)?;
-    Ok(Lent {
-        exchange,
-        spare: EventList::new(),
-    })
-}
-
-// The exchange of a setup at its start, with its leases, of which no two have one number.
+// The exchange of a setup at its start, with its leases.
 fn start_exchange<T: Turns>(
     alloc: Global,
     setup: &Arc<Setup<T>>,
 ) -> Result<(Exchange<T>, Vec<Lease<T>>), NoMemory>
-    ensures once { IfOk result (λ both. AreOnce (map number_of both.1.items)) }
     ensures leases { IfOk result (λ both. All (λ lease. setup_of lease ≡ arc_value setup.now) both.1.items) }
     ensures exchange { IfOk result (λ both. both.0.setup ≡ arc_value setup.now) }
 {
-    distinct_numbers_law::<T>();
     Ok(Exchange::new(alloc, Arc::try_clone(setup)?)?)
 }
 
-// A worker for each pass of the leases, with a pass of the exchange and a seat for each.
+// A worker for each pass of the exchange, with a seat for each.
 fn gather<T: Turns>(
     alloc: Global,
-    pool: &Pool<Paced<T>, Setup<T>>,
     exchange: &Pool<Lent<T>, Setup<T>>,
     published: &Published,
-    passes: Vec<Pass<Paced<T>, Setup<T>>>,
-    mut locks: Vec<Pass<Lent<T>, Setup<T>>>,
+    locks: Vec<Pass<Lent<T>, Setup<T>>>,
     mut seats: Vec<Seat>,
 ) -> Result<Vec<Worker<T>>, NoMemory>
-    requires passes { All (λ pass. IsOfPool pool.now pass) passes.items }
     requires locks { All (λ lock. IsOfPool exchange.now lock) locks.items }
-    requires setups { All (λ lock. All (λ pass. AreOfOne (holding lock).kind (holding pass).kind) passes.items) locks.items }
     requires seats { All (λ seat. IsSeatOf published.now seat) seats.items }
-    requires many_locks { length passes.items ≤ length locks.items }
-    requires many_seats { length passes.items ≤ length seats.items }
-    ensures { IfOk result (λ crew. All (IsOfAll pool.now exchange.now published.now) crew.items) }
+    requires many_seats { length locks.items ≤ length seats.items }
+    ensures { IfOk result (λ crew. All (IsOfAll exchange.now published.now) crew.items) }
 {
-    let mut crew = Vec::with_capacity(alloc, passes.len())?;
+    let mut crew = Vec::with_capacity(alloc, locks.len())?;
     let mut number = 0u16;
-    for pass in passes {
-        let (Some(lock), Some(seat)) = (locks.pop(), seats.pop()) else {
+    for lock in locks {
+        let Some(seat) = seats.pop() else {
             unreachable!()
         };
         crew.push(Worker {
             number,
-            pass,
             lock,
             seat,
             spare: EventList::new(),

@@ -3,7 +3,7 @@ ghost use Rattle.std.specs.Prelude.{◌≡◌};
 ghost use Rattle.pools.specs.Passes.{holding, IsOf};
 ghost use Rattle.workers.specs.Crews.{HasExchange};
 
-use crate::crew::{Lent, Paced};
+use crate::crew::Lent;
 use crate::fault::WorkFault;
 use crossbeam_utils::Backoff;
 use gvt::Published;
@@ -14,17 +14,15 @@ use std::thread::Parker;
 use std::time::Duration;
 use task_seed::{Setup, Turns};
 
-// The exchange, which one thread at a time has, the first fault, whether a worker has ended, how often the calling thread looked for turns, the
-// leases that wait for a worker, the count of committed turns, and how many components there are.
+// The exchange with the leases that wait, which one thread at a time has, the first fault, whether a worker has ended, how often the calling thread
+// looked for turns, and the count of committed turns.
 #[derive(Drop)]
 pub(crate) struct Shared<T: Turns> {
     pub(crate) exchange: Pool<Lent<T>, Setup<T>>,
     pub(crate) fault: Mutex<Option<WorkFault>>,
     pub(crate) ends: AtomicBool,
     pub(crate) looks: AtomicU64,
-    pub(crate) pool: Pool<Paced<T>, Setup<T>>,
     pub(crate) published: Published,
-    pub(crate) components: usize,
 }
 
 // Waits for the exchange by looking again and again: who has it gives it back shortly, and a thread that slept would come late. The looks that

@@ -9,6 +9,7 @@ ghost use Rattle.workers.specs.Runs.{WroteAll, WroteSome};
 
 use crate::crew::Caller;
 use crate::fault::{RunFault, WorkFault, run_fault};
+use crate::policy::POLICY;
 use crate::running::Summary;
 use crate::shared::{Shared, ends, hold, nap, note_look, noted};
 use event_keys::Turned;
@@ -20,14 +21,6 @@ use std::io::Write;
 use std::sync::Wait;
 use task_seed::{Setup, Turns};
 use trace::{Counted, Lines, WriteFault, append_turns};
-
-// How many microseconds the calling thread sleeps between two looks at what was committed.
-const LEAST_PAUSE: u64 = 10;
-
-const MOST_PAUSE: u64 = 200;
-
-// How many turns are worth a look.
-const MANY_TURNS: u64 = 256;
 
 // Turns that no chunk has given before, how many were given before them and with them, and whether they are the last ones.
 #[derive(Drop)]
@@ -80,8 +73,8 @@ fn next_portion<T: Turns, R: Wait>(
     }
     let mut looks = 0;
     let mut lent = hold(rt, shared, &mut caller.lock, &mut looks);
-    let portion = take_portion(&mut *lent.exchange);
-    lent.spare.append_all(spare);
+    let portion = lent.depot.take_portion();
+    lent.depot.add_spare(spare);
     shared.exchange.give_back(rt, &mut caller.lock, lent);
     Ok(Some(portion))
 }
@@ -110,10 +103,10 @@ fn rest<T: Turns, R: Wait>(rt: &R, shared: &Shared<T>, pause: u64) {
 
 // How long to sleep next time, where so many turns came: longer where they were few.
 fn next_pause(pause: u64, turns: u64) -> u64 {
-    if turns < MANY_TURNS {
-        pause.saturating_mul(2).min(MOST_PAUSE)
+    if turns < POLICY.many_turns {
+        pause.saturating_mul(2).min(POLICY.most_pause)
     } else {
-        (pause / 2).max(LEAST_PAUSE)
+        (pause / 2).max(POLICY.least_pause)
     }
 }
 
@@ -133,7 +126,7 @@ pub(crate) fn write_all<T: Turns, W: Write, R: Wait>(
     turns_are_schedule(own);
     let mut written = 0;
     let mut bytes = 0;
-    let mut pause = LEAST_PAUSE;
+    let mut pause = POLICY.least_pause;
     let mut spare = EventList::new();
     for _ in rt.forever() {
         let mut portion = match next_portion(rt, shared, own, caller, written, &mut spare) {

@@ -1,4 +1,4 @@
-use Rattle.std.proofs.Common.{◌≡◌, All, Some, ap, sym, subst, ◌∙◌}
+use Rattle.std.proofs.Common.{◌≡◌, All, Some, ap, subst, ◌∙◌}
 use Rattle.std.specs.Prelude.{IfSome, Option, map}
 use Rattle.std.specs.Arc.{arc_value}
 use Rattle.std.proofs.lemmas.List.Elements.{All-pop, All-weaker}
@@ -9,46 +9,28 @@ use Rattle.pools.specs.declared.places.Pass.{Pass}
 use Rattle.pools.specs.Passes.{holding, IsOf, IsEmptyOf}
 use Rattle.pools.specs.Places.{common}
 use Rattle.workers.specs.declared.crew.Lent.{Lent}
-use Rattle.workers.specs.Crews.{AreOfOne, lent_number, lent_setup, paced_setup}
-use Rattle.workers.proofs.Started.{paced_once, paced_alike, paced_of_one, passes_of_one}
+use Rattle.workers.specs.Crews.{lent_number, lent_setup}
 use Rattle.workers.proofs.running.start.Goals as goal
-
-pub new-requires-clause-once : goal.new-requires-clause-once
-new-requires-clause-once g c = paced_once c.in_ok-pace_all.field-0.items c.in_ok-exchange.leases.items c.in_ok-pace_all.ensures c.in_ok-exchange.ensures.once
-
-pub new-requires-clause-alike : goal.new-requires-clause-alike
-new-requires-clause-alike g c = paced_alike (arc_value c.args.setup.now) c.in_ok-pace_all.field-0.items c.in_ok-exchange.leases.items c.in_ok-pace_all.ensures c.in_ok-exchange.ensures.leases
 
 pub gather-requires-clause-locks : goal.gather-requires-clause-locks
 gather-requires-clause-locks g c κs within =
-    let L : Pass (Lent g.row.T.Denot) (Setup g.row.T.Denot) → Type 0 = IsOf c.in_ok-exchange-2.exchange in
-    let E : Pass (Lent g.row.T.Denot) (Setup g.row.T.Denot) → Type 0 = IsEmptyOf c.in_ok-exchange-2.exchange (map lent_number c.in_ok-lent.lent.items) in
-    let each : All L c.in_ok-exchange-2.locks.items = All-weaker E L (λ p h. h.0) c.in_ok-exchange-2.locks.items c.in_ok-exchange-2.ensures.passes in
-    (All-pop L c.in_ok-exchange-2.locks.items c.pop.new.self.items c.pop.result c.pop.ensures.items each).0
-
-pub gather-requires-clause-setups : goal.gather-requires-clause-setups
-gather-requires-clause-setups g c κs within =
-    let setup = arc_value c.args.setup.now in
-    let one : Option (Setup g.row.T.Denot) = common lent_setup c.in_ok-lent.lent.items in
-    let other : Option (Setup g.row.T.Denot) = common paced_setup c.in_ok-pace_all.field-0.items in
-    let K : Pass (Lent g.row.T.Denot) (Setup g.row.T.Denot) → Type 0 = λ lock. (holding lock).kind ≡ one in
-    let is : one ≡ Some setup = ap (common lent_setup) c.in_ok-lent.ensures.items ∙ ap (λ e. Some e.setup) c.in_ok-lend_out.ensures ∙ ap Some c.in_ok-exchange.ensures.exchange in
-    let same : AreOfOne one other = subst (λ o. AreOfOne o other) (sym is) (paced_of_one setup c.in_ok-pace_all.field-0.items c.in_ok-exchange.leases.items c.in_ok-pace_all.ensures c.in_ok-exchange.ensures.leases) in
-    passes_of_one c.pop.new.self.items c.in_ok-pool.passes.items one other
-    (All-pop K c.in_ok-exchange-2.locks.items c.pop.new.self.items c.pop.result c.pop.ensures.items c.in_ok-exchange-2.ensures.kind).0 c.in_ok-pool.ensures.kind same
+    let L : Pass (Lent g.row.T.Denot) (Setup g.row.T.Denot) → Type 0 = IsOf c.in_ok-exchange.exchange in
+    let E : Pass (Lent g.row.T.Denot) (Setup g.row.T.Denot) → Type 0 = IsEmptyOf c.in_ok-exchange.exchange (map lent_number c.in_ok-lent.lent.items) in
+    let each : All L c.in_ok-exchange.locks.items = All-weaker E L (λ p h. h.0) c.in_ok-exchange.locks.items c.in_ok-exchange.ensures.passes in
+    (All-pop L c.in_ok-exchange.locks.items c.pop.new.self.items c.pop.result c.pop.ensures.items each).0
 
 pub returns-clause-caller : goal.returns-clause-caller
 returns-clause-caller g c =
     let setup = arc_value c.args.setup.now in
     let one : Option (Setup g.row.T.Denot) = common lent_setup c.in_ok-lent.lent.items in
-    let is : one ≡ Some setup = ap (common lent_setup) c.in_ok-lent.ensures.items ∙ ap (λ e. Some e.setup) c.in_ok-lend_out.ensures ∙ ap Some c.in_ok-exchange.ensures.exchange in
-    let L : Pass (Lent g.row.T.Denot) (Setup g.row.T.Denot) → Type 0 = IsOf c.in_ok-exchange-2.exchange in
-    let E : Pass (Lent g.row.T.Denot) (Setup g.row.T.Denot) → Type 0 = IsEmptyOf c.in_ok-exchange-2.exchange (map lent_number c.in_ok-lent.lent.items) in
+    let is : one ≡ Some setup = ap (common lent_setup) c.in_ok-lent.ensures.items ∙ ap Some c.in_ok-lend_out.ensures in
+    let L : Pass (Lent g.row.T.Denot) (Setup g.row.T.Denot) → Type 0 = IsOf c.in_ok-exchange.exchange in
+    let E : Pass (Lent g.row.T.Denot) (Setup g.row.T.Denot) → Type 0 = IsEmptyOf c.in_ok-exchange.exchange (map lent_number c.in_ok-lent.lent.items) in
     let K : Pass (Lent g.row.T.Denot) (Setup g.row.T.Denot) → Type 0 = λ lock. (holding lock).kind ≡ one in
     let S : Seat → Type 0 = IsSeatOf c.in_ok-published.published in
-    let each : All L c.in_ok-exchange-2.locks.items = All-weaker E L (λ p h. h.0) c.in_ok-exchange-2.locks.items c.in_ok-exchange-2.ensures.passes in
-    let locks = (All-pop L c.in_ok-exchange-2.locks.items c.pop.new.self.items c.pop.result c.pop.ensures.items each).1 in
-    let kinds = (All-pop K c.in_ok-exchange-2.locks.items c.pop.new.self.items c.pop.result c.pop.ensures.items c.in_ok-exchange-2.ensures.kind).1 in
+    let each : All L c.in_ok-exchange.locks.items = All-weaker E L (λ p h. h.0) c.in_ok-exchange.locks.items c.in_ok-exchange.ensures.passes in
+    let locks = (All-pop L c.in_ok-exchange.locks.items c.pop.new.self.items c.pop.result c.pop.ensures.items each).1 in
+    let kinds = (All-pop K c.in_ok-exchange.locks.items c.pop.new.self.items c.pop.result c.pop.ensures.items c.in_ok-exchange.ensures.kind).1 in
     let F : Seat → Type 0 = λ seat. IsSeatOf c.in_ok-published.published seat × (knowledge seat ≡ record { published = 0; read = 0 }) in
     let of_published : All S c.in_ok-published.seats.items = All-weaker F S (λ seat h. h.0) c.in_ok-published.seats.items c.in_ok-published.ensures.seats in
     let seats = (All-pop S c.in_ok-published.seats.items c.pop-2.new.self.items c.pop-2.result c.pop-2.ensures.items of_published).1 in

@@ -2,7 +2,7 @@ use Rattle.std.proofs.Common.{◌≡◌, All, sym, subst}
 use Rattle.std.specs.Arc.{arc_value}
 use Rattle.exchange.specs.LeaseView.{LeaseView}
 use Rattle.task_seed.specs.declared.setup.Setup.{Setup}
-use Rattle.workers.specs.Crews.{setup_of}
+use Rattle.workers.specs.Leases.{setup_of}
 use Rattle.workers.proofs.Started.{started_setup}
 use Rattle.workers.proofs.running.start_exchange.Goals as goal
 

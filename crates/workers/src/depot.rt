@@ -1,0 +1,443 @@
+//! What the lock protects: the exchange, and the leases that wait for a worker.
+ghost use Rattle.std.specs.Prelude.{◌≡◌, IfOk, IfSome, All};
+ghost use Rattle.task_seed.specs.Setups.{system};
+ghost use Rattle.workers.specs.Leases.{IsAwayOrOf, handed_setup, paced_setup};
+ghost use Rattle.workers.specs.Portions.{IsPortion};
+
+use crate::crew::{Handed, Paced};
+use crate::places::{Least, Places};
+use crate::policy::POLICY;
+use crate::rounds::Rounds;
+use crate::writing::{Portion, take_portion};
+use event_keys::{Bound, Key, Turned};
+use exchange::{Exchange, Lease, MeetRefused};
+use raw_events::EventList;
+use std::marker::Model;
+use task_seed::Turns;
+
+// No key is below it.
+const FIRST: Bound = Bound::At(Key {
+    tick: 0,
+    component: 0,
+    number: 0,
+});
+
+// How far a lease is to run.
+#[derive(Clone, Copy)]
+pub(crate) struct Reach {
+    // All that is below comes before what the others that wait have to do, but for those that are parked.
+    pub(crate) horizon: Bound,
+    // Whether all others that wait are parked.
+    pub(crate) is_alone: bool,
+    // Whether it was parked itself, and nobody has anything else to do.
+    pub(crate) was_parked: bool,
+    // How many entries it does whatever the horizon is.
+    pub(crate) least: u32,
+}
+
+// A lease to work on, and how far.
+#[derive(Drop)]
+pub(crate) struct Visit<T: Turns> {
+    pub(crate) handed: Handed<T>,
+    pub(crate) reach: Reach,
+}
+
+// The exchange, with the leases that wait for a worker, each at the place of what it has to do next. They are all of the exchange's setup.
+#[derive(Drop)]
+pub(crate) struct Depot<T: Turns> {
+    exchange: Exchange<T>,
+    // The lease of each component, unless a worker has it.
+    leases: Vec<Option<Handed<T>>>,
+    places: Places,
+    // At which visit those were taken that workers have.
+    away: Places,
+    rounds: Rounds,
+    // The bound at which all that waited met the exchange, since there was nothing else to do.
+    settled: Bound,
+    // How many turns are below the bound.
+    count: u64,
+    // Cells of turns that were written; they serve again.
+    spare: EventList<Turned>,
+}
+
+impl<T: Turns> Model for Depot<T> {
+    ghost use Rattle.std.specs.Prelude.{◌≡◌, All};
+    ghost use Rattle.task_seed.specs.declared.setup.Setup.{Setup};
+    ghost use Rattle.workers.specs.Leases.{IsAwayOrOf};
+    ghost use Rattle.std.specs.Coded.{codes};
+    ghost use Rattle.terms.specs.Datum.{datum_code};
+    ghost use Rattle.terms.specs.contracts.scalar.Shape as shape;
+    ghost use Rattle.terms.specs.contracts.term.Term as term;
+    ghost use Rattle.terms.specs.contracts.effect.Effect as effect;
+
+    ghost Value = { Setup T };
+
+    ghost coded = { Prim.hlevel (codes, shape.the_row.coded, term.the_row.coded, effect.the_row.coded, datum_code) };
+
+    ghost view = { λ d. d.exchange.setup };
+
+    ghost invariant = { λ d. All (IsAwayOrOf d.exchange.setup) d.leases.items };
+}
+
+impl<T: Turns> Depot<T> {
+    // The exchange with all its leases, of which none is away.
+    pub(crate) fn new(
+        exchange: Exchange<T>,
+        leases: Vec<Option<Handed<T>>>,
+        places: Places,
+        away: Places,
+    ) -> Depot<T>
+        requires { All (IsAwayOrOf exchange.setup) leases.items }
+        ensures { result ≡ exchange.setup }
+    {
+        let components = exchange.setup().plan().components();
+        let settled = exchange.bound();
+        Depot {
+            exchange,
+            leases,
+            places,
+            away,
+            rounds: Rounds::new(components),
+            settled,
+            count: 0,
+            spare: EventList::new(),
+        }
+    }
+
+    fn components(&self) -> u16 {
+        self.exchange.setup().plan().components()
+    }
+
+    // How many turns are below the bound.
+    pub(crate) fn count(&self) -> u64 {
+        self.count
+    }
+
+    // Whether all turns that there are lie below the bases.
+    pub(crate) fn finished(&self) -> bool {
+        self.exchange.finished()
+    }
+
+    // Adds the cells of turns that were written.
+    pub(crate) fn add_spare(&mut self, spare: &mut EventList<Turned>)
+        ensures { self.new ≡ self.old }
+    {
+        self.spare.append_all(spare);
+    }
+
+    // Moves all such cells to others.
+    pub(crate) fn take_spare(&mut self, spare: &mut EventList<Turned>)
+        ensures { self.new ≡ self.old }
+    {
+        spare.append_all(&mut self.spare);
+    }
+
+    // The next turns that no portion has had.
+    pub(crate) fn take_portion(&mut self) -> Portion
+        ensures portion { IsPortion (system T.turn_of self.old) result }
+        ensures same { self.new ≡ self.old }
+    {
+        take_portion(&mut self.exchange)
+    }
+
+    // Raises the bound.
+    fn commit(&mut self)
+        ensures { self.new ≡ self.old }
+    {
+        self.count = self.exchange.commit();
+        self.rounds.commit();
+    }
+
+    // Whether a lease waits.
+    fn is_here(&self, number: u16) -> bool {
+        match self.leases.get(usize::from(number)) {
+            Some(Some(_)) => true,
+            _ => false,
+        }
+    }
+
+    // Takes a lease, if it is here.
+    fn take_out(&mut self, number: u16) -> Option<Handed<T>>
+        ensures same { self.new ≡ self.old }
+        ensures own { IfSome result (λ handed. handed_setup handed ≡ self.old) }
+    {
+        let at = usize::from(number);
+        if at >= self.leases.len() {
+            return None;
+        }
+        let taken = self.leases[at].take();
+        if taken.is_some() {
+            self.places.leave(number);
+            self.away.wait_for(number, self.rounds.visits());
+        }
+        taken
+    }
+
+    // A lease waits at the place of what it has to do next.
+    fn put_back(&mut self, handed: Handed<T>)
+        requires { handed_setup handed ≡ self.old }
+        ensures { self.new ≡ self.old }
+    {
+        place(&mut self.places, &*handed.paced);
+        let number = handed.paced.lease.number();
+        self.away.leave(number);
+        let at = usize::from(number);
+        if at < self.leases.len() {
+            self.leases[at] = Some(handed);
+        }
+    }
+
+    // A lease tells what was done of it, if anybody wants to know, and waits.
+    pub(crate) fn share(
+        &mut self,
+        mut handed: Handed<T>,
+        spare: &mut EventList<Turned>,
+    ) -> Result<(), MeetRefused>
+        requires { handed_setup handed ≡ self.old }
+        ensures { self.new ≡ self.old }
+    {
+        if self.is_due_to_meet(&*handed.paced) {
+            meet(&mut self.exchange, &mut *handed.paced, self.rounds.pass())?;
+        }
+        take_spare(&mut handed.paced.lease, spare);
+        self.put_back(handed);
+        self.call_receivers();
+        Ok(())
+    }
+
+    // Whether a lease has something for others, or others have something for it, or it hasn't met the exchange in this pass.
+    fn is_due_to_meet(&self, paced: &Paced<T>) -> bool {
+        let lease = &paced.lease;
+        lease.is_sending()
+            || !paced.pace.has_met(self.rounds.pass())
+            || lease.next() == Bound::End
+            || self.exchange.has_mail(lease.number())
+    }
+
+    // Those to whom something came go on at once, if they wait for it.
+    fn call_receivers(&mut self)
+        ensures { self.new ≡ self.old }
+    {
+        for _ in 0..self.components() {
+            let Some(number) = self.exchange.take_receiver() else {
+                return;
+            };
+            if self.is_here(number) {
+                self.places.call(number);
+            }
+        }
+    }
+
+    // How far the lease is to run that was just taken.
+    fn reach(&self, least: u32, was_parked: bool) -> Reach {
+        match self.places.least() {
+            Some(other) if !other.is_parked => Reach {
+                horizon: other.bound(),
+                is_alone: false,
+                was_parked,
+                least,
+            },
+            _ => Reach {
+                horizon: FIRST,
+                is_alone: true,
+                was_parked,
+                least,
+            },
+        }
+    }
+
+    // Whether a lease waits that hasn't met the exchange for long.
+    fn is_stale(&self, number: u16) -> bool {
+        match self.leases.get(usize::from(number)) {
+            Some(Some(handed)) => handed.paced.pace.is_stale(self.rounds.pass()),
+            _ => false,
+        }
+    }
+
+    // A lease meets the exchange, and is taken if it has something to do.
+    fn refresh(
+        &mut self,
+        number: u16,
+        spare: &mut EventList<Turned>,
+    ) -> Result<Option<Visit<T>>, MeetRefused>
+        ensures same { self.new ≡ self.old }
+        ensures own { IfOk result (λ visit. IfSome visit (λ it. handed_setup it.handed ≡ self.old)) }
+    {
+        let Some(mut handed) = self.take_out(number) else {
+            return Ok(None);
+        };
+        handed.paced.lease.swap_spare(spare);
+        meet(&mut self.exchange, &mut *handed.paced, self.rounds.pass())?;
+        let reach = self.reach(0, false);
+        if has_work(&handed.paced.lease, reach.horizon) {
+            return Ok(Some(Visit { handed, reach }));
+        }
+        take_spare(&mut handed.paced.lease, spare);
+        self.put_back(handed);
+        Ok(None)
+    }
+
+    // The next lease of the pass that has something to do.
+    fn take_stale(&mut self, spare: &mut EventList<Turned>) -> Result<Option<Visit<T>>, MeetRefused>
+        ensures same { self.new ≡ self.old }
+        ensures own { IfOk result (λ visit. IfSome visit (λ it. handed_setup it.handed ≡ self.old)) }
+    {
+        let components = self.components();
+        for _ in 0..components {
+            let Some(number) = self.rounds.next(components) else {
+                return Ok(None);
+            };
+            if !self.is_stale(number) {
+                continue;
+            }
+            let visit = self.refresh(number, spare)?;
+            if visit.is_some() {
+                return Ok(visit);
+            }
+        }
+        Ok(None)
+    }
+
+    // Whether the least lease may be taken while others are away. A parked one may wait for them, and one that lost something lately would only lose
+    // more if another has been away for long, whose worker may not be running.
+    fn may_take(&self, least: Least) -> bool {
+        let Some(oldest) = self.away.least() else {
+            return true;
+        };
+        if least.is_parked {
+            return false;
+        }
+        let since = self.rounds.visits().saturating_sub(oldest.tick);
+        since < POLICY.visits_ahead || !self.is_careful(least.number)
+    }
+
+    fn is_careful(&self, number: u16) -> bool {
+        match self.leases.get(usize::from(number)) {
+            Some(Some(handed)) => handed.paced.pace.is_careful(),
+            _ => false,
+        }
+    }
+
+    // The lease with the least to do, if it may be taken.
+    fn take_least(&mut self, spare: &mut EventList<Turned>) -> Result<Option<Visit<T>>, MeetRefused>
+        ensures same { self.new ≡ self.old }
+        ensures own { IfOk result (λ visit. IfSome visit (λ it. handed_setup it.handed ≡ self.old)) }
+    {
+        let Some(least) = self.places.least() else {
+            return Ok(None);
+        };
+        if !self.may_take(least) {
+            return Ok(None);
+        }
+        let Some(mut handed) = self.take_out(least.number) else {
+            return Ok(None);
+        };
+        handed.paced.lease.swap_spare(spare);
+        self.rounds.visit();
+        if self.exchange.has_mail(least.number) {
+            meet(&mut self.exchange, &mut *handed.paced, self.rounds.pass())?;
+        }
+        let reach = self.reach(1, least.is_parked);
+        Ok(Some(Visit { handed, reach }))
+    }
+
+    // All that wait meet the exchange.
+    fn settle(&mut self, spare: &mut EventList<Turned>) -> Result<(), MeetRefused>
+        ensures { self.new ≡ self.old }
+    {
+        for number in 0..self.components() {
+            let Some(mut handed) = self.take_out(number) else {
+                continue;
+            };
+            handed.paced.lease.swap_spare(spare);
+            meet(&mut self.exchange, &mut *handed.paced, self.rounds.pass())?;
+            take_spare(&mut handed.paced.lease, spare);
+            self.put_back(handed);
+        }
+        Ok(())
+    }
+
+    // Where none has anything to do and none is away, and the bound has risen since it was so last, all that wait give up what is below it.
+    fn wind_up(&mut self, spare: &mut EventList<Turned>) -> Result<(), MeetRefused>
+        ensures { self.new ≡ self.old }
+    {
+        self.commit();
+        let bound = self.exchange.bound();
+        if bound == self.settled {
+            return Ok(());
+        }
+        self.settled = bound;
+        self.settle(spare)?;
+        self.commit();
+        Ok(())
+    }
+
+    // The lease that is visited next, if any is worth it, with the spare cells.
+    pub(crate) fn take_next(
+        &mut self,
+        spare: &mut EventList<Turned>,
+    ) -> Result<Option<Visit<T>>, MeetRefused>
+        ensures same { self.new ≡ self.old }
+        ensures own { IfOk result (λ visit. IfSome visit (λ it. handed_setup it.handed ≡ self.old)) }
+    {
+        let components = self.components();
+        if self.rounds.begin(components) {
+            let stale = self.take_stale(spare)?;
+            if stale.is_some() {
+                return Ok(stale);
+            }
+        }
+        if self.rounds.is_to_commit(components) {
+            self.commit();
+        }
+        let visit = self.take_least(spare)?;
+        if visit.is_none() && self.away.least().is_none() {
+            self.wind_up(spare)?;
+        }
+        Ok(visit)
+    }
+}
+
+// Where a lease waits, by what it has to do next.
+fn place<T: Turns>(places: &mut Places, paced: &Paced<T>) {
+    let lease = &paced.lease;
+    let number = lease.number();
+    let next = lease.next();
+    let coming = lease.least_coming();
+    if coming < next {
+        places.wait(number, coming);
+    } else if paced.pace.waits() {
+        places.park(number, next);
+    } else {
+        places.wait(number, next);
+    }
+}
+
+// Whether something came to a lease, or it has something to do below a horizon.
+fn has_work<T: Turns>(lease: &Lease<T>, horizon: Bound) -> bool {
+    lease.least_coming() != Bound::End || lease.next() < horizon
+}
+
+// Takes the spare cells that a lease had for its visit.
+fn take_spare<T: Turns>(lease: &mut Lease<T>, spare: &mut EventList<Turned>)
+    ensures { lease.new ≡ lease.old }
+{
+    let mut own = EventList::new();
+    lease.swap_spare(&mut own);
+    spare.append_all(&mut own);
+}
+
+// A lease meets the exchange in a pass: each that comes back is still that of its component.
+fn meet<T: Turns>(
+    exchange: &mut Exchange<T>,
+    paced: &mut Paced<T>,
+    pass: u64,
+) -> Result<(), MeetRefused>
+    requires { paced_setup paced.old ≡ exchange.old.setup }
+    ensures setup { paced_setup paced.new ≡ paced_setup paced.old }
+    ensures exchange { exchange.new.setup ≡ exchange.old.setup }
+{
+    exchange.meet_own(&mut paced.lease)?;
+    paced.pace.meet(pass);
+    Ok(())
+}
