@@ -31,8 +31,10 @@ use Rattle.task_seed.specs.Taken.{turns_of}
 use Rattle.exchange.specs.declared.stub.Stub.{Stub}
 use Rattle.exchange.specs.LeaseView.{LeaseView, IsValidLease, lease_of, part_of}
 use Rattle.exchange.specs.Moving.{among, HasCome, IsArrived, IsPassedOn}
+use Rattle.exchange.specs.Held.{put_all, AreInOrder, HasPut}
 use Rattle.exchange.specs.ExchangeView.{ExchangeView, IsValidExchange, IsStub, stub_of, stub_or_start, exchange_of}
 use Rattle.exchange.proofs.Committing.{slice_get_none}
+use Rattle.exchange.proofs.Lists.{length_set, order_at, put_at}
 use Rattle.exchange.proofs.Receiving.{none_else, to_alone, To}
 
 abbrev pub AppendedLaw : Type 0
@@ -354,15 +356,15 @@ module _ {P Q : Type 0} (s : System) (law : Lawful (machine s)) (e : ExchangeVie
   kept_base : rank_of_bound passed.kept.base ≡ g
   kept_base = ap (λ (x : Stub). rank_of_bound x.base) passed.is_kept.rest
 
-  module _ (history : Record (List Datum) Named) (held turns : List Turned) (appended : AppendedLaw) where
+  module _ (history : Record (List Datum) Named) (held : List (List Turned)) (turns : List Turned) (appended : AppendedLaw) where
     abbrev pub after : ExchangeView P
     after = record e { stubs = stubs; held = held }
 
     abbrev pub settled : LeaseView Q
     settled = record h { component = record h.component { base = e.bound; history = history }; tray = tray; out = []; copies = record { of_sender = []; of_receiver = [] }; floor = floor }
 
-    pub moved : history ≡ cut_of m i g h.component.history → IsFloor m i (rank_of_bound floor) (part_of i history tray) → Falls (turns_of held)
-        → ((k : ℕ) → outcome_at k (turns_of held) ≡ option_or (outcome_at k (turns_among (below g h.component.history.done))) (outcome_at k (turns_of e.held)))
+    pub moved : history ≡ cut_of m i g h.component.history → IsFloor m i (rank_of_bound floor) (part_of i history tray) → Falls (put_all held)
+        → ((k : ℕ) → outcome_at k (put_all held) ≡ option_or (outcome_at k (turns_among (below g h.component.history.done))) (outcome_at k (put_all e.held)))
         → IsMoved m i (exchange_of m e) (lease_of h) (exchange_of m after) (lease_of settled)
     moved cut lowest falls outcomes =
         record {
@@ -406,8 +408,8 @@ module _ {P Q : Type 0} (s : System) (law : Lawful (machine s)) (e : ExchangeVie
     quiet j past = let many = is.many in ap (λ o. (stub_or_start m j o).plus) (slice_get_past e.stubs j (omega (arith, past, many)))
 
     -- the exchange by its type
-    pub shared_kept : IsSound m (length s.composition) (exchange_of m after) → IsValidExchange s after
-    shared_kept sound = record { sound = sound; many = passed.many ∙ is.many; stubs = λ j stub q. each j stub q (cases_eq j i) }
+    pub shared_kept : IsSound m (length s.composition) (exchange_of m after) → length held ≡ length e.held → AreInOrder held → IsValidExchange s after
+    shared_kept sound lists order = record { sound = sound; many = passed.many ∙ is.many; lists = lists ∙ is.lists; order = order; stubs = λ j stub q. each j stub q (cases_eq j i) }
       where
         own : IsStub s g i (record passed.kept { floor = floor })
         own = record {
@@ -466,17 +468,21 @@ module _ {P Q : Type 0} (s : System) (law : Lawful (machine s)) (e : ExchangeVie
     taken_in = turns_among (below g h.component.history.done)
 
     pub accepted : Matches m i (stub_or_start m i (slice_get e.stubs i)) (lease_of h) → MetLaw m → SoundLaw m → FallsLaw m → ApartLaw m → MergedFalls → MergedOutcomes
-        → history ≡ cut_of m i g h.component.history → IsFloor m i (rank_of_bound floor) (part_of i history tray) → turns_of turns ≡ taken_in → turns_of held ≡ put_turns (turns_of turns) (turns_of e.held) → To i tray → IsAccepted
-    accepted match met_law sound_law falls_law apart_law merged_falls merged_outcomes cut lowest turns_are held_is arrived_all =
+        → history ≡ cut_of m i g h.component.history → IsFloor m i (rank_of_bound floor) (part_of i history tray) → turns_of turns ≡ taken_in → HasPut i turns e.held held → To i tray → IsAccepted
+    accepted match met_law sound_law falls_law apart_law merged_falls merged_outcomes cut lowest turns_are is_put arrived_all =
         let n = length s.composition in
         let x = exchange_of m e in
         let l = lease_of h in
         let falls = falls_law n i x l law is.sound holds.lease match in
         let apart = apart_law n i x l law is.sound holds.lease match in
         let held_falls = is.sound.held.1.falls in
-        let both : turns_of held ≡ put_turns taken_in (turns_of e.held) = held_is ∙ ap (λ ts. put_turns ts (turns_of e.held)) turns_are in
-        let all = moved cut lowest (subst Falls (sym both) (merged_falls taken_in (turns_of e.held) falls held_falls apart))
-        (λ k. ap (outcome_at k) both ∙ merged_outcomes taken_in (turns_of e.held) falls held_falls apart k) in
+        let merged : Falls (put_turns (turns_of turns) (put_all e.held)) = subst (λ ts. Falls (put_turns ts (put_all e.held))) (sym turns_are) (merged_falls taken_in (put_all e.held) falls held_falls apart) in
+        let put = put_at e.held i is_put.before is_put.after (turns_of turns) is_put.there is_put.put merged in
+        let both : put_all held ≡ put_turns taken_in (put_all e.held) = ap put_all is_put.all ∙ put ∙ ap (λ ts. put_turns ts (put_all e.held)) turns_are in
+        let order : AreInOrder held = subst AreInOrder (sym is_put.all) (order_at e.held i is_put.before is_put.after (turns_of turns) is_put.there is_put.put merged is.order) in
+        let lists : length held ≡ length e.held = ap length is_put.all ∙ length_set e.held i is_put.after in
+        let all = moved cut lowest (subst Falls (sym both) (merged_falls taken_in (put_all e.held) falls held_falls apart))
+        (λ k. ap (outcome_at k) both ∙ merged_outcomes taken_in (put_all e.held) falls held_falls apart k) in
         let met = met_law n i x (exchange_of m after) l (lease_of settled) law is.sound holds.lease match quiet (holds.inside Plus) all in
         let sound = sound_law n i x (exchange_of m after) l (lease_of settled) law is.sound holds.lease match met in
-        record { met = met; shared = shared_kept sound.0; holding = holding_kept sound.1 met.matches arrived_all }
+        record { met = met; shared = shared_kept sound.0 lists order; holding = holding_kept sound.1 met.matches arrived_all }

@@ -1,99 +1,28 @@
 -- A chunk is the reference's next turns.
-use Rattle.std.proofs.Common.{◌≡◌, ℕ, zero, suc, ◌+◌, ◌*◌, ◌<◌, ◌≤◌, ◌^◌, ◌++◌, ◌⊎◌, inl, inr, Some, List, [], ◌∷◌, map, length, reverse, append-nil, refl, ap, sym, subst, ◌∙◌, arith}
-use Rattle.std.specs.Prelude.{if◌then◌else◌, nat_lt, slice_get, slice_index_or}
+use Rattle.std.proofs.Common.{◌≡◌, ℕ, zero, suc, ◌+◌, ◌*◌, ◌<◌, ◌≤◌, ◌^◌, ◌++◌, ◌⊎◌, inl, inr, Some, List, [], ◌∷◌, map, length, refl, ap, sym, subst, ◌∙◌, arith}
+use Rattle.std.specs.Prelude.{slice_get, slice_index_or}
 use Rattle.std.specs.List.{Contains}
-use Rattle.std.proofs.lemmas.Bool.{lt-ltb, le-ltb, cases_lt}
+use Rattle.std.proofs.lemmas.Bool.{cases_lt}
 use Rattle.std.proofs.lemmas.List.{length-map, length-append}
-use mathlib.Core.List.{reverse_aux}
 use Rattle.std.proofs.lemmas.Option.{slice_get_within}
 use Rattle.terms.specs.Datum.{Datum}
 use Rattle.terms.specs.Named.{Named}
 use Rattle.event_keys.specs.declared.key.Bound.{Bound}
 use Rattle.event_keys.specs.declared.key.Bound.TheVariants.{End}
-use Rattle.event_keys.specs.declared.outcome.Turned.{Turned}
-use Rattle.event_keys.specs.Ranks.{rank, rank_of_bound}
+use Rattle.event_keys.specs.Ranks.{rank_of_bound}
 use Rattle.virtual_time.specs.Machine.{Machine, HasCount}
-use Rattle.virtual_time.specs.Reference.{Turn, Falls, Point, point, reference_below, turns_of as taken_of}
+use Rattle.virtual_time.specs.Reference.{Falls, Point, point, reference_below, turns_of as taken_of}
 use Rattle.virtual_time.specs.Exchange.Stubs.{Stub as StubSeen, IsSound}
-use Rattle.virtual_time.specs.Exchange.Meetings.{IsChunk, turns_below, turns_from}
-use Rattle.raw_events.specs.Onto.{onto}
+use Rattle.virtual_time.specs.Exchange.Meetings.{IsChunk}
 use Rattle.gvt.specs.Least.{IsLeast}
 use Rattle.task_seed.specs.Turning.{System}
 use Rattle.task_seed.specs.Machines.{machine, end_rank, turn_rank}
-use Rattle.task_seed.specs.Taken.{turn_of, turns_of}
 use Rattle.exchange.specs.declared.stub.Stub.{Stub}
 use Rattle.exchange.specs.ExchangeView.{ExchangeView, IsValidExchange, stub_or_start, exchange_of}
-use Rattle.exchange.specs.Chunks.{base_of, first_below, first_from}
+use Rattle.exchange.specs.Chunks.{base_of, first_from}
+use Rattle.exchange.specs.Held.{put_all, all_below, all_from}
 use Rattle.exchange.proofs.Committing.{end_is}
-
--- the list turned round, and round again from its end
-pub onto_back : {X : Type 0} (before after : List X) → onto (onto before after) [] ≡ onto after before
-onto_back [] after = refl
-onto_back (x ∷ before) after = onto_back before (x ∷ after)
-
-falls_rest : (T : List (Turn Named)) (acc : List (Turn Named)) → Falls (onto T acc) → Falls acc
-falls_rest [] acc f = f
-falls_rest (t ∷ T) acc f = (falls_rest T (t ∷ acc) f).1
-
--- all keys are at least b
-abbrev AllAt : ℕ → List (Turn Named) → Type 0
-AllAt b [] = Unit {0}
-AllAt b (t ∷ ts) = (b ≤ t.key) × AllAt b ts
-
-rising : (b : ℕ) (t : Turn Named) (T acc : List (Turn Named)) → b ≤ t.key → Falls (onto T (t ∷ acc)) → AllAt b T
-rising b t [] acc l f = tt
-rising b t (u ∷ T) acc l f =
-    let under = (falls_rest T (u ∷ t ∷ acc) f).0.0 in
-    let low : b ≤ u.key = omega (arith, l, under) in
-    (low, rising b u T (t ∷ acc) low f)
-
-below_skips : (b : ℕ) (T acc : List (Turn Named)) → AllAt b T → turns_below b (onto T acc) ≡ turns_below b acc
-below_skips b [] acc all = refl
-below_skips b (t ∷ T) acc all = below_skips b T (t ∷ acc) all.1 ∙ rw (le-ltb t.key b all.0) refl
-
-from_keeps : (b : ℕ) (T acc kept : List (Turn Named)) → AllAt b T → turns_from b acc ≡ kept → turns_from b (onto T acc) ≡ onto T kept
-from_keeps b [] acc kept all e = e
-from_keeps b (t ∷ T) acc kept all e = from_keeps b T (t ∷ acc) (t ∷ kept) all.1 (rw (le-ltb t.key b all.0) (ap (λ l. t ∷ l) e))
-
-seen : List Turned → List (Turn Named)
-seen = map turn_of
-
-below_onto : (b : ℕ) (ts : List Turned) (acc : List (Turn Named)) → Falls (onto (map turn_of ts) acc) → turns_below b acc ≡ acc → turns_below b (onto (map turn_of ts) acc) ≡ onto (map turn_of (first_below b ts)) acc
-below_onto b [] acc f e = e
-below_onto b (t ∷ ts) acc f e = go (below_onto b ts (turn_of t ∷ acc) f) (cases_lt (rank t.key) b)
-  where
-    go : (turns_below b (turn_of t ∷ acc) ≡ turn_of t ∷ acc → turns_below b (onto (map turn_of ts) (turn_of t ∷ acc)) ≡ onto (map turn_of (first_below b ts)) (turn_of t ∷ acc))
-        → (rank t.key < b) ⊎ (b ≤ rank t.key) → turns_below b (onto (map turn_of ts) (turn_of t ∷ acc)) ≡ onto (map turn_of (if nat_lt (rank t.key) b then t ∷ first_below b ts else [])) acc
-    go ih (inl h) = ih (rw (lt-ltb (rank t.key) b h) refl) ∙ rw (lt-ltb (rank t.key) b h) refl
-    go ih (inr h) = below_skips b (map turn_of ts) (turn_of t ∷ acc) (rising b (turn_of t) (map turn_of ts) acc h f) ∙ rw (le-ltb (rank t.key) b h) e
-
-from_onto : (b : ℕ) (ts : List Turned) (acc : List (Turn Named)) → Falls (onto (map turn_of ts) acc) → turns_from b acc ≡ [] → turns_from b (onto (map turn_of ts) acc) ≡ onto (map turn_of (first_from b ts)) []
-from_onto b [] acc f e = e
-from_onto b (t ∷ ts) acc f e = go (from_onto b ts (turn_of t ∷ acc) f) (cases_lt (rank t.key) b)
-  where
-    go : (turns_from b (turn_of t ∷ acc) ≡ [] → turns_from b (onto (map turn_of ts) (turn_of t ∷ acc)) ≡ onto (map turn_of (first_from b ts)) [])
-        → (rank t.key < b) ⊎ (b ≤ rank t.key) → turns_from b (onto (map turn_of ts) (turn_of t ∷ acc)) ≡ onto (map turn_of (if nat_lt (rank t.key) b then first_from b ts else t ∷ ts)) []
-    go ih (inl h) = ih (rw (lt-ltb (rank t.key) b h) refl) ∙ rw (lt-ltb (rank t.key) b h) refl
-    go ih (inr h) = from_keeps b (map turn_of ts) (turn_of t ∷ acc) (turn_of t ∷ []) (rising b (turn_of t) (map turn_of ts) acc h f) (rw (le-ltb (rank t.key) b h) (ap (λ l. turn_of t ∷ l) e)) ∙ rw (le-ltb (rank t.key) b h) refl
-
-length_onto : {X : Type 0} (xs ys : List X) → length (onto xs ys) ≡ length xs + length ys
-length_onto [] ys = omega arith
-length_onto (x ∷ xs) ys = length_onto xs (x ∷ ys) ∙ omega arith
-
-onto_reverse : {X : Type 0} (xs ys : List X) → onto xs ys ≡ reverse_aux xs ys
-onto_reverse [] ys = refl
-onto_reverse (x ∷ xs) ys = onto_reverse xs (x ∷ ys)
-
-aux_back : {X : Type 0} (xs ys zs : List X) → reverse_aux (reverse_aux xs ys) zs ≡ reverse_aux ys (xs ++ zs)
-aux_back [] ys zs = refl
-aux_back (x ∷ xs) ys zs = aux_back xs (x ∷ ys) zs
-
--- turned round twice
-pub reversed_back : {X : Type 0} (xs : List X) → reverse (onto xs []) ++ [] ≡ xs
-reversed_back xs = append-nil (reverse (onto xs [])) ∙ ap reverse (onto_reverse xs []) ∙ aux_back xs [] [] ∙ append-nil xs
-
-length_turns : (ts : List Turned) → length (turns_of ts) ≡ length ts
-length_turns ts = length_onto (map turn_of ts) [] ∙ (let e = length-map ts turn_of in omega (arith, e))
+use Rattle.exchange.proofs.Lists.{all_left, all_taken, order_left, taken_falls}
 
 based_at : (xs : List Stub) (j : ℕ) (stub : Stub) (d : Bound) → slice_get xs j ≡ Some stub → slice_index_or (map base_of xs) j d ≡ stub.base
 based_at [] j stub d e = cc
@@ -117,7 +46,7 @@ module _ {P : Type 0} (s : System) (e : ExchangeView P) (is : IsValidExchange s 
   b = rank_of_bound bound
 
   abbrev pub after : ExchangeView P
-  after = record e { held = first_from b e.held; given = e.given + length (first_below b e.held) }
+  after = record e { held = all_from b e.held; given = e.given + length (put_all (all_below b e.held)) }
 
   low_stub : (j : ℕ) (stub : Stub) → slice_get e.stubs j ≡ Some stub → b ≤ rank_of_bound stub.base
   low_stub j stub h =
@@ -143,36 +72,37 @@ module _ {P : Type 0} (s : System) (e : ExchangeView P) (is : IsValidExchange s 
           let here : c ≤ rank_of_bound found.0.base = subst (λ (x : StubSeen Named). c ≤ x.base) (ap (stub_or_start m among.0) found.1) (h among.0 (omega (arith, inside, n, many))) in
           subst (λ x. c ≤ rank_of_bound x) (sym (based_at e.stubs among.0 found.0 bound found.1) ∙ among.2) here
 
-  pub chunk : IsChunk m (length s.composition) (exchange_of m e) b (exchange_of m after) (turns_of (first_below b e.held))
+  pub chunk : IsChunk m (length s.composition) (exchange_of m e) b (exchange_of m after) (put_all (all_below b e.held))
   chunk =
-      let falls = is.sound.held.1.falls in
       record {
         end = end;
         low = low;
         most = most;
-        turns = sym (below_onto b e.held [] falls refl);
+        turns = sym (all_taken b e.held is.order);
         rest = λ v. record {
           stub = (exchange_of m e).stub;
           bound = (exchange_of m e).bound;
-          held = sym (from_onto b e.held [] falls refl) v;
-          given = (ap (λ n. e.given + n) (sym (length_turns (first_below b e.held)))) v;
+          held = sym (all_left b e.held is.order) v;
+          given = e.given + length (put_all (all_below b e.held));
         };
       }
 
+  pub taken_in_order : Falls (put_all (all_below b e.held))
+  taken_in_order = taken_falls b e.held is.order is.sound.held.1.falls
+
   pub kept : IsSound m (length s.composition) (exchange_of m after) → IsValidExchange s after
-  kept sound = record { sound = sound; many = is.many; stubs = is.stubs }
+  kept sound = record { sound = sound; many = is.many; lists = length-map e.held (first_from b) ∙ is.lists; order = order_left b e.held is.order; stubs = is.stubs }
 
   -- what was given, with the chunk, has a number that fits
   pub few : HasCount m (length s.composition) → length s.composition < 65536
       → ((i n : ℕ) → n < (point m b).next i → turn_rank s i n < b) → ((i n : ℕ) → (point m (rank_of_bound e.bound)).next i ≤ n → rank_of_bound e.bound ≤ turn_rank s i n)
       → length (reference_below m b) ≡ taken_of (point m b) (length s.composition)
-      → (g : ℕ) → e.given ≡ length (reference_below m g) → reference_below m b ≡ turns_of (first_below b e.held) ++ reference_below m g
-      → e.given + length (first_below b e.held) < 2 ^ 64
+      → (g : ℕ) → e.given ≡ length (reference_below m g) → reference_below m b ≡ put_all (all_below b e.held) ++ reference_below m g
+      → e.given + length (put_all (all_below b e.held)) < 2 ^ 64
   few counted short before from sum g was next =
-      let all = ap length next ∙ length-append (turns_of (first_below b e.held)) (reference_below m g) in
-      let one = length_turns (first_below b e.held) in
+      let all = ap length next ∙ length-append (put_all (all_below b e.held)) (reference_below m g) in
       let most_turns = taken_few (point m b) (length s.composition) each in
-      omega (arith, all, one, was, sum, most_turns, short)
+      omega (arith, all, was, sum, most_turns, short)
     where
       each : (j : ℕ) → j < length s.composition → (point m b).next j ≤ 4294967296
       each j h =

@@ -4,7 +4,10 @@ mod Passing
 mod Walking
 mod Committing
 mod Starting
+mod Below
 mod Chunking
+mod Lists
+mod Together
 mod Knowing
 mod Lowest
 mod Receiving

@@ -1,6 +1,6 @@
 -- At the start all is sound, and each lease matches its stub.
-use Rattle.std.proofs.Common.{◌≡◌, ℕ, zero, suc, ◌+◌, ◌<◌, ◌≤◌, ◌⊎◌, inl, inr, Option, None, Some, List, [], map, length, refl, ap, sym, subst, ◌∙◌, arith}
-use Rattle.std.specs.Prelude.{slice_get, IfSome}
+use Rattle.std.proofs.Common.{◌≡◌, ℕ, zero, suc, ◌+◌, ◌<◌, ◌≤◌, ◌⊎◌, inl, inr, Option, None, Some, List, [], ◌∷◌, map, length, refl, ap, sym, subst, ◌∙◌, arith}
+use Rattle.std.specs.Prelude.{replicate, slice_get, IfSome}
 use Rattle.std.specs.List.{range_with_len}
 use Rattle.std.proofs.lemmas.List.FromFn.{length-map-range_with_len}
 use Rattle.event_keys.specs.declared.key.Key.{Key}
@@ -24,12 +24,12 @@ use Rattle.task_seed.specs.declared.turns.Turn.{Turn}
 use Rattle.task_seed.specs.Setups.{plan_of, system}
 use Rattle.task_seed.specs.Turning.{System, key_of}
 use Rattle.task_seed.specs.Machines.{machine, turn_rank}
-use Rattle.task_seed.specs.Taken.{turns_of}
 use Rattle.exchange.specs.declared.stub.Stub.{Stub}
 use Rattle.exchange.specs.LeaseView.{LeaseView, IsValidLease, lease_of}
 use Rattle.exchange.specs.ExchangeView.{ExchangeView, IsValidExchange, IsStub, stub_of, stub_or_start, exchange_of}
 use Rattle.exchange.specs.Core.{StandFor}
-use Rattle.exchange.specs.Start.{bound_at, first_bound, lease_or_start, leases_of, start_holding, start_shared, start_stub}
+use Rattle.exchange.specs.Held.{put_all, AreInOrder}
+use Rattle.exchange.specs.Start.{bound_at, number_of, first_bound, lease_or_start, leases_of, start_holding, start_shared, start_stub}
 use Rattle.exchange.proofs.Committing.{end_is}
 use Rattle.exchange.proofs.Passing.{number_is, rank_some, rank_none}
 
@@ -42,6 +42,19 @@ made_at {X} f a (suc n) (suc j) o e = go (made_at f (a + 1) n j o e)
     go : ((x : X) × (o ≡ Some x) × (j < n) × (x ≡ f (a + 1 + j))) ⊎ ((o ≡ None) × (n ≤ j)) → ((x : X) × (o ≡ Some x) × (suc j < suc n) × (x ≡ f (a + suc j))) ⊎ ((o ≡ None) × (suc n ≤ suc j))
     go (inl h) = let l = h.2 in inl (h.0, h.1, omega (arith, l), h.3 ∙ ap f (omega arith))
     go (inr h) = let l = h.1 in inr (h.0, omega (arith, l))
+
+-- nothing is held
+none_held : (n : ℕ) → put_all (replicate n []) ≡ []
+none_held zero = refl
+none_held (suc n) = none_held n
+
+none_order : (n : ℕ) → AreInOrder (replicate n [])
+none_order zero = tt
+none_order (suc n) = (tt, none_order n)
+
+length-replicate : {X : Type 0} (n : ℕ) (x : X) → length (replicate n x) ≡ n
+length-replicate zero x = refl
+length-replicate (suc n) x = ap suc (length-replicate n x)
 
 module _ (s : System) where
   floor_is : (i : ℕ) → i < length s.composition → rank_of_bound (first_bound s i) ≡ turn_rank s i 0
@@ -64,7 +77,7 @@ module _ (s : System) where
   stub_kept : (i : ℕ) → IsStub s 0 i (start_stub s i)
   stub_kept i = record { inbox = tt; order = record { sorted = tt; fits = tt }; apart = λ k a. inl refl; copied = λ k a. refl; passed = refl; ahead = refl; small = small i; few = omega arith }
 
-  module _ {P : Type 0} (e : ExchangeView P) (stubs : e.stubs ≡ map (start_stub s) (range_with_len 0 (length s.composition))) (bound : e.bound ≡ lowest_bound) (held : e.held ≡ []) (given : e.given ≡ 0) where
+  module _ {P : Type 0} (e : ExchangeView P) (stubs : e.stubs ≡ map (start_stub s) (range_with_len 0 (length s.composition))) (bound : e.bound ≡ lowest_bound) (held : e.held ≡ replicate (length s.composition) []) (given : e.given ≡ 0) where
     stub_at : (j : ℕ) → stub_or_start (machine s) j (slice_get e.stubs j) ≡ start_seen (machine s) j
     stub_at j = go (slice_get e.stubs j) (made_at (start_stub s) 0 (length s.composition) j (slice_get e.stubs j) (ap (λ l. slice_get l j) (sym stubs)))
       where
@@ -73,13 +86,15 @@ module _ (s : System) where
         go o (inr h) = ap (stub_or_start (machine s) j) h.0
 
     pub seen : exchange_of (machine s) e ≡ start_exchange (machine s)
-    seen = λ v. record { stub = λ j. stub_at j v; bound = (ap rank_of_bound bound) v; held = (ap turns_of held) v; given = given v }
+    seen = λ v. record { stub = λ j. stub_at j v; bound = (ap rank_of_bound bound) v; held = (ap put_all held ∙ none_held (length s.composition)) v; given = given v }
 
     pub shared_kept : IsSound (machine s) (length s.composition) (start_exchange (machine s)) → IsValidExchange s e
     shared_kept sound =
         record {
           sound = subst (IsSound (machine s) (length s.composition)) (sym seen) sound;
           many = ap length stubs ∙ length-map-range_with_len (start_stub s) 0 (length s.composition);
+          lists = ap length held ∙ length-replicate (length s.composition) [];
+          order = subst AreInOrder (sym held) (none_order (length s.composition));
           stubs = λ j stub h. each j stub h (made_at (start_stub s) 0 (length s.composition) j (slice_get e.stubs j) (ap (λ l. slice_get l j) (sym stubs)));
         }
       where
@@ -151,3 +166,7 @@ module _ {T : Type 0} (turn_of : T → ℕ → ℕ → Option Turn) (setup : Set
       let there : exchange_of m e ≡ start_exchange m = seen (system turn_of setup) e (ap (λ (x : ExchangeView _). x.stubs) e_is) (ap (λ (x : ExchangeView _). x.bound) e_is) (ap (λ (x : ExchangeView _). x.held) e_is) (ap (λ (x : ExchangeView _). x.given) e_is) in
       subst (λ x. StandFor m x (leases_of m hs) (start_world m)) (sym there)
       (subst (λ ls. StandFor m (start_exchange m) ls (start_world m)) (sym (leases_are hs hs_is)) (record { proper = λ j. (each j).0; match = λ j. (each j).1; whole = whole; world = world }))
+
+pub numbers_started : {T : Type 0} (turn_of : T → ℕ → ℕ → Option Turn) (setup : Setup T) (a n : ℕ) → map number_of (map (start_holding turn_of setup) (range_with_len a n)) ≡ range_with_len a n
+numbers_started turn_of setup a zero = refl
+numbers_started turn_of setup a (suc n) = ap (λ l. a ∷ l) (numbers_started turn_of setup (a + 1) n)

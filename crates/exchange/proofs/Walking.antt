@@ -30,16 +30,16 @@ module _ {T : Type 0} (stands : T → Walk → ℕ → ℕ → Type 0) (setup : 
           subst (λ k. StandsBeforeTurn stands setup k walk) (sym (at ∙ is)) (subst (λ (o : Option Walk). IfSome o (StandsBeforeTurn stands setup i)) same here)
       go j walk e (inr ne) = all.stand j walk (sym (get_set walks n new j short ∙ rw (ne_eqb j n ne) refl) ∙ e)
 
--- one more component whose turns nothing is read off
-pub none_more : (n : ℕ) → replicate n None ++ None ∷ [] ≡ replicate {A = Option Walk} (n + 1) None
-none_more n = go n ∙ ap (λ k. replicate k None) next
+-- one more of the same
+pub same_more : {X : Type 0} (x : X) (n : ℕ) → replicate n x ++ x ∷ [] ≡ replicate (n + 1) x
+same_more {X} x n = go n ∙ ap (λ k. replicate k x) next
   where
     next : suc n ≡ n + 1
     next = omega arith
 
-    go : (n : ℕ) → replicate n None ++ None ∷ [] ≡ replicate {A = Option Walk} (suc n) None
+    go : (n : ℕ) → replicate n x ++ x ∷ [] ≡ replicate (suc n) x
     go zero = refl
-    go (suc n) = ap (λ ws. None ∷ ws) (go n)
+    go (suc n) = ap (λ xs. x ∷ xs) (go n)
 
 -- at the start nothing is read off any
 pub none_walks : {T : Type 0} (stands : T → Walk → ℕ → ℕ → Type 0) (setup : Setup T) (walks : List (Option Walk)) (n : ℕ) → walks ≡ replicate n None → n ≡ length (composition (plan_of setup)) → AreWalks stands setup walks

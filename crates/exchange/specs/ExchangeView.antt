@@ -19,16 +19,16 @@ use Rattle.virtual_time.specs.Exchange.Stubs.{Stub as StubSeen, Exchange as Exch
 use Rattle.rollback.specs.Flight.{in_flight}
 use Rattle.task_seed.specs.Turning.{System, key_of}
 use Rattle.task_seed.specs.Machines.{machine, turn_rank}
-use Rattle.task_seed.specs.Taken.{turns_of}
 use Rattle.exchange.specs.declared.stub.Stub.{Stub}
+use Rattle.exchange.specs.Held.{put_all, AreInOrder}
 
--- a setup, a stub for each component, the committed bound, the turns taken in and not given in a chunk, the first one first,
--- and how many were given
+-- a setup, a stub for each component, the committed bound, for each component the turns taken in and not given in a chunk, the first one
+-- first, and how many were given
 pub record ExchangeView (P : Type 0) : Type 0 where
   pub setup : P
   pub stubs : List Stub
   pub bound : Bound
-  pub held : List Turned
+  pub held : List (List Turned)
   pub given : ℕ
 
 -- the stub of component j as the theory sees it
@@ -49,7 +49,7 @@ stub_or_start m j None = start_stub m j
 stub_or_start m j (Some s) = stub_of m j s
 
 abbrev pub exchange_of : {P : Type 0} → Machine (List Datum) Named → ExchangeView P → ExchangeSeen Named
-exchange_of m e = record { stub = λ j. stub_or_start m j (slice_get e.stubs j); bound = rank_of_bound e.bound; held = turns_of e.held; given = e.given }
+exchange_of m e = record { stub = λ j. stub_or_start m j (slice_get e.stubs j); bound = rank_of_bound e.bound; held = put_all e.held; given = e.given }
 
 -- the inbox of component i goes to it, holds no message with its antimessage, and has a copy of each message; its turns below the bound are counted, and the key of the one after them is there
 pub record IsStub (s : System) (bound i : ℕ) (stub : Stub) : Type 0 where
@@ -63,10 +63,12 @@ pub record IsStub (s : System) (bound i : ℕ) (stub : Stub) : Type 0 where
   pub small : IfSome stub.ahead (λ key. key.number < 4294967296)
   pub few : stub.passed ≤ 4294967296
 
--- sound, with a stub for each component
+-- sound, with a stub for each component, and a list of turns in the order of keys
 pub record IsValidExchange {P : Type 0} (s : System) (e : ExchangeView P) : Type 0 where
   pub sound : IsSound (machine s) (length s.composition) (exchange_of (machine s) e)
   pub many : length e.stubs ≡ length s.composition
+  pub lists : length e.held ≡ length s.composition
+  pub order : AreInOrder e.held
   pub stubs : (j : ℕ) (stub : Stub) → slice_get e.stubs j ≡ Some stub → IsStub s (rank_of_bound e.bound) j stub
 
 -- messages wait in the inbox of the stub, if there is one

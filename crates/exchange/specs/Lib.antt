@@ -2,6 +2,7 @@ pub mod LeaseView
 pub mod ExchangeView
 pub mod Start
 pub mod Chunks
+pub mod Held
 pub mod Known
 pub mod Moving
 pub mod Refusals

@@ -4,6 +4,7 @@ use Rattle.std.specs.Cmp.Lexicographic.{pointwise}
 use Rattle.event_keys.specs.contracts.key.BoundPartialEq.TheImpl as bound_eq
 use Rattle.event_keys.specs.contracts.outcome.TurnedPartialEq.TheImpl as turned_eq
 use Rattle.event_keys.specs.declared.message.Signed.{Signed}
+use Rattle.event_keys.specs.declared.outcome.Turned.{Turned}
 use Rattle.antimessage.specs.Counts.{is_same}
 use Rattle.rollback.specs.ComponentView.{ComponentView}
 use Rattle.exchange.specs.declared.stub.Stub.{Stub}
@@ -36,9 +37,13 @@ compared stub = record stub { copies = []; passed = 0; ahead = None }
 abbrev pub same_progress : {P : Type 0} → (P → P → Bool) → ExchangeView P → ExchangeView P → Bool
 same_progress eq a b = eq a.setup b.setup && (bound_eq.ghosts.eq a.bound b.bound && (a.given == b.given))
 
--- exchanges are equal where these are so, with the same turns held, and stubs that are equal one by one
+-- the same turns
+abbrev pub same_turns : List Turned → List Turned → Bool
+same_turns = pointwise turned_eq.ghosts.eq
+
+-- exchanges are equal where these are so, with the same turns held of each component, and stubs that are equal one by one
 abbrev pub same_exchange : {P : Type 0} → (P → P → Bool) → ExchangeView P → ExchangeView P → Bool
-same_exchange eq a b = same_progress eq a b && (pointwise turned_eq.ghosts.eq a.held b.held && pointwise same_stub a.stubs b.stubs)
+same_exchange eq a b = same_progress eq a b && (pointwise same_turns a.held b.held && pointwise same_stub a.stubs b.stubs)
 
 -- what equality tells of leases: equal components, and the same tray, outgoing messages and floor
 abbrev pub AreEqualLeases : {P : Type 0} → (ComponentView P → ComponentView P → Bool) → LeaseView P → LeaseView P → Type 0

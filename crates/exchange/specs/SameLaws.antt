@@ -22,7 +22,7 @@ use Rattle.rollback.specs.SameLaws.{bound_decides}
 use Rattle.exchange.specs.declared.stub.Stub.{Stub}
 use Rattle.exchange.specs.LeaseView.{LeaseView}
 use Rattle.exchange.specs.ExchangeView.{ExchangeView}
-use Rattle.exchange.specs.Same.{same_bag, same_lease, same_place, same_messages, same_stub, compared, same_progress, same_exchange}
+use Rattle.exchange.specs.Same.{same_bag, same_lease, same_place, same_messages, same_stub, same_turns, compared, same_progress, same_exchange}
 
 signed_decides : (a b : Signed) → Decides (signed_eq.ghosts.eq a b) (a ≡ b)
 signed_decides a b =
@@ -39,8 +39,8 @@ turned_decides a b =
 bags_decide : (xs ys : List Signed) → Decides (same_bag xs ys) (xs ≡ ys)
 bags_decide = pointwise_decides signed_decides
 
-held_decide : (xs ys : List Turned) → Decides (pointwise turned_eq.ghosts.eq xs ys) (xs ≡ ys)
-held_decide = pointwise_decides turned_decides
+held_decide : (xs ys : List (List Turned)) → Decides (pointwise same_turns xs ys) (xs ≡ ys)
+held_decide = pointwise_decides (pointwise_decides turned_decides)
 
 stub_is : (a b : Stub) → same_stub a b ≡ true → compared a ≡ compared b
 stub_is a b h =
@@ -108,7 +108,7 @@ pub same_exchange_equiv : {P : Type 0} {eq : P → P → Truth} → IsEquivalenc
 same_exchange_equiv laws =
     and_equiv
     (and_equiv (on_equiv (λ e. e.setup) laws) (and_equiv (on_equiv (λ e. e.bound) bounds_equiv) (on_equiv (λ e. e.given) nat_eq_equiv)))
-    (and_equiv (on_equiv (λ e. e.held) (decided (pointwise turned_eq.ghosts.eq) held_decide)) (on_equiv (λ e. e.stubs) (lists_equiv same_stub_equiv)))
+    (and_equiv (on_equiv (λ e. e.held) (decided (pointwise same_turns) held_decide)) (on_equiv (λ e. e.stubs) (lists_equiv same_stub_equiv)))
 
 -- equal leases have equal components, and all else but the copies is the same
 pub lease_decides : {P : Type 0} (eq : ComponentView P → ComponentView P → Truth) (a b : LeaseView P)
@@ -132,10 +132,10 @@ exchange_decides {P} eq a b = (there, back)
   where
     there : same_exchange eq a b ≡ true → (eq a.setup b.setup ≡ true) × (a.bound ≡ b.bound) × (a.held ≡ b.held) × (a.given ≡ b.given) × (map compared a.stubs ≡ map compared b.stubs)
     there h =
-        let parts = both_true (same_progress eq a b) (pointwise turned_eq.ghosts.eq a.held b.held && pointwise same_stub a.stubs b.stubs) h in
+        let parts = both_true (same_progress eq a b) (pointwise same_turns a.held b.held && pointwise same_stub a.stubs b.stubs) h in
         let own = both_true (eq a.setup b.setup) (bound_eq.ghosts.eq a.bound b.bound && nat_eq a.given b.given) parts.0 in
         let numbers = both_true (bound_eq.ghosts.eq a.bound b.bound) (nat_eq a.given b.given) own.1 in
-        let lists = both_true (pointwise turned_eq.ghosts.eq a.held b.held) (pointwise same_stub a.stubs b.stubs) parts.1 in
+        let lists = both_true (pointwise same_turns a.held b.held) (pointwise same_stub a.stubs b.stubs) parts.1 in
         (own.0, (bound_decides a.bound b.bound).0 numbers.0, (held_decide a.held b.held).0 lists.0, (unsigned_Decides a.given b.given).0 numbers.1, stubs_are a.stubs b.stubs lists.1)
 
     back : (eq a.setup b.setup ≡ true) × (a.bound ≡ b.bound) × (a.held ≡ b.held) × (a.given ≡ b.given) × (map compared a.stubs ≡ map compared b.stubs) → same_exchange eq a b ≡ true

@@ -1,5 +1,5 @@
 -- What workers share, and the leases, at the start.
-use Rattle.std.specs.Prelude.{ℕ, Option, None, Some, List, [], map, length, slice_get}
+use Rattle.std.specs.Prelude.{ℕ, Option, None, Some, List, [], map, length, replicate, slice_get}
 use Rattle.std.specs.List.{range_with_len}
 use Rattle.terms.specs.Datum.{Datum}
 use Rattle.terms.specs.Named.{Named}
@@ -41,16 +41,24 @@ first_bound s i = bound_at (key_of s i 0)
 abbrev pub start_stub : System → ℕ → Stub
 start_stub s i = record { base = lowest_bound; floor = first_bound s i; taken = []; standing = []; inbox = []; copies = []; passed = 0; ahead = key_of s i 0 }
 
+-- the component's number
+abbrev pub number_of : {P : Type 0} → LeaseView P → ℕ
+number_of lease = lease.component.number
+
+-- the numbers of the components
+abbrev pub numbers : {T : Type 0} → Setup T → List ℕ
+numbers setup = range_with_len 0 (length (composition (plan_of setup)))
+
 module _ {T : Type 0} (turn_of : T → ℕ → ℕ → Option Turn) (setup : Setup T) where
   abbrev pub start_holding : ℕ → LeaseView (Setup T)
   start_holding i = record { component = start_held turn_of setup i; tray = []; out = []; copies = record { of_sender = []; of_receiver = [] }; floor = first_bound (system turn_of setup) i }
 
   abbrev pub start_shared : ExchangeView (Setup T)
-  start_shared = record { setup = setup; stubs = map (start_stub (system turn_of setup)) (range_with_len 0 (length (composition (plan_of setup)))); bound = lowest_bound; held = []; given = 0 }
+  start_shared = record { setup = setup; stubs = map (start_stub (system turn_of setup)) (range_with_len 0 (length (composition (plan_of setup)))); bound = lowest_bound; held = replicate (length (composition (plan_of setup))) []; given = 0 }
 
   -- a lease for each component, in order
   abbrev pub start_leases : List (LeaseView (Setup T))
-  start_leases = map start_holding (range_with_len 0 (length (composition (plan_of setup))))
+  start_leases = map start_holding (numbers setup)
 
   -- an exchange and leases stand for the world at its start
   abbrev pub StandForStart : ExchangeView (Setup T) → List (LeaseView (Setup T)) → Type 0

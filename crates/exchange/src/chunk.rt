@@ -1,15 +1,13 @@
 //! Turns that are committed for good, on their way out.
 ghost use Rattle.std.specs.Prelude.{◌≡◌, ◌<◌, ◌+◌, ◌++◌, ◌^◌, ℕ, List, [], length, map};
-ghost use Rattle.event_keys.specs.Ranks.{rank_of_bound};
 ghost use Rattle.task_seed.specs.Taken.{turns_of};
-ghost use Rattle.raw_events.specs.Onto.{onto};
 ghost use Rattle.gvt.specs.Least.{IsLeast};
-ghost use Rattle.exchange.specs.Chunks.{base_of, is_first_below, first_below, first_from};
+ghost use Rattle.exchange.specs.Chunks.{base_of};
 ghost use Rattle.exchange.specs.Seen.{HasGiven, LeavesTheWorld};
 
 use crate::exchange::{Exchange, is_bounded};
+use crate::queue::take_all_below;
 use crate::stub::Stub;
-use event_keys::laws::bound_rank_law;
 use event_keys::{Bound, Turned};
 use gvt::least_bound;
 use raw_events::EventList;
@@ -28,13 +26,6 @@ pub struct Chunk {
     pub turns: EventList<Turned>,
 }
 
-// Turns, the last one nearest before the cursor, and their number.
-#[derive(Drop)]
-struct Taken {
-    turns: EventList<Turned>,
-    count: u64,
-}
-
 // A number of components fits its type.
 fn is_few(count: u16)
     ensures { count < 65536 }
@@ -48,43 +39,9 @@ fn least_base(stubs: &[Stub]) -> Bound
     least_bound(stubs.iter().map(|stub| stub.base))
 }
 
-fn is_first_below(held: &EventList<Turned>, bound: Bound) -> bool
-    ensures { result ≡ is_first_below (rank_of_bound bound) held.now.after }
-{
-    match held.peek_next() {
-        None => false,
-        Some(turned) => {
-            bound_rank_law(Bound::At(turned.key), bound);
-            Bound::At(turned.key) < bound
-        }
-    }
-}
-
-// Takes the first turns, as long as they are below a bound.
-fn take_below(held: &mut EventList<Turned>, bound: Bound) -> Taken
-    requires front { held.old.before ≡ [] }
-    requires few { length (first_below (rank_of_bound bound) held.old.after) < 2 ^ 64 }
-    ensures rest { held.new ≡ record { before = []; after = first_from (rank_of_bound bound) held.old.after } }
-    ensures turns { result.turns ≡ record { before = onto (first_below (rank_of_bound bound) held.old.after) []; after = [] } }
-    ensures count { result.count ≡ length (first_below (rank_of_bound bound) held.old.after) }
-{
-    let mut taken = Taken {
-        turns: EventList::new(),
-        count: 0,
-    };
-    while is_first_below(held, bound) {
-        let Some(cell) = held.take_first() else {
-            unreachable!();
-        };
-        taken.turns.push_last(cell);
-        taken.count += 1;
-    }
-    taken
-}
-
 impl<T: Turns> Exchange<T> {
     /// Gives the turns below the least base that no chunk has given yet, in the order of keys. It takes no memory; its time grows with
-    /// the number of these turns and of the components.
+    /// the number of the components, and with that of these turns times its logarithm.
     ///
     /// Nothing in the whole world that the exchange and its leases stand for changes.
     pub fn take_chunk(&mut self) -> Chunk
@@ -108,13 +65,15 @@ impl<T: Turns> Exchange<T> {
         exchange_is_sound::<State, Action>();
         reference_is_counted::<State, Action>();
         is_few(self.setup.plan().components());
+        self.notes.tally.give();
         let bound = least_base(&self.stubs);
         is_bounded(bound);
         let first = self.given;
-        let mut taken = take_below(&mut self.held, bound);
+        let taken = take_all_below(&mut self.held, bound);
         self.given += taken.count;
-        let mut turns = EventList::new();
-        turns.append_all(&mut taken.turns);
-        Chunk { first, turns }
+        Chunk {
+            first,
+            turns: taken.turns.into_turns(),
+        }
     }
 }

@@ -20,12 +20,13 @@ ghost use Rattle.exchange.specs.Walks.{AreWalks};
 ghost use Rattle.std.specs.List.{list_all};
 ghost use Rattle.exchange.specs.Seen.{HasCommitted, IsOneCommit, IsSoundExchange};
 
-use crate::receivers::Receivers;
+use crate::notes::Notes;
+use crate::queue::Queue;
 use crate::stub::Stub;
+use crate::tally::Tally;
+use event_keys::Bound;
 use event_keys::laws::rank_law;
-use event_keys::{Bound, Turned};
 use gvt::least_bound;
-use raw_events::EventList;
 use std::marker::Model;
 use std::sync::Arc;
 use task_seed::laws::machine_is_lawful;
@@ -42,14 +43,13 @@ pub struct Exchange<T: Turns> {
     // For each component what its turns are read off as they are committed.
     pub(crate) walks: Vec<Option<Walk>>,
     pub(crate) bound: Bound,
-    // All after the cursor, in the order of keys.
-    pub(crate) held: EventList<Turned>,
+    // For each component its turns that were taken in and not given.
+    pub(crate) held: Vec<Queue>,
     pub(crate) given: u64,
-    pub(crate) receivers: Receivers,
+    pub(crate) notes: Notes,
 }
 
 impl<T: Turns> Model for Exchange<T> {
-    ghost use Rattle.std.specs.Prelude.{◌≡◌, []};
     ghost use Rattle.std.specs.Arc.{arc_value};
     ghost use Rattle.task_seed.specs.declared.setup.Setup.{Setup};
     ghost use Rattle.task_seed.specs.Setups.{system};
@@ -65,9 +65,9 @@ impl<T: Turns> Model for Exchange<T> {
 
     ghost coded = { Prim.hlevel (codes, shape.the_row.coded, term.the_row.coded, effect.the_row.coded, datum_code) };
 
-    ghost view = { λ e. record { setup = arc_value e.setup; stubs = e.stubs.items; bound = e.bound; held = e.held.after; given = e.given } };
+    ghost view = { λ e. record { setup = arc_value e.setup; stubs = e.stubs.items; bound = e.bound; held = e.held.items; given = e.given } };
 
-    ghost invariant = { λ e. ((e.held.before ≡ []) × AreWalks T.stands (arc_value e.setup) e.walks.items) × IsValidExchange (system T.turn_of (arc_value e.setup)) (record { setup = arc_value e.setup; stubs = e.stubs.items; bound = e.bound; held = e.held.after; given = e.given }) };
+    ghost invariant = { λ e. AreWalks T.stands (arc_value e.setup) e.walks.items × IsValidExchange (system T.turn_of (arc_value e.setup)) (record { setup = arc_value e.setup; stubs = e.stubs.items; bound = e.bound; held = e.held.items; given = e.given }) };
 }
 
 impl<T: Turns> Exchange<T> {
@@ -117,7 +117,12 @@ impl<T: Turns> Exchange<T> {
     pub fn take_receiver(&mut self) -> Option<u16>
         ensures { self.new ≡ self.old }
     {
-        self.receivers.take()
+        self.notes.receivers.take()
+    }
+
+    /// What happened since the start, counted.
+    pub fn tally(&self) -> Tally {
+        self.notes.tally
     }
 
     /// Whether every base is the end: then all turns that there are lie below the bases.
@@ -154,6 +159,7 @@ impl<T: Turns> Exchange<T> {
         machine_is_lawful(&self.setup);
         exchange_is_sound::<State, Action>();
         reference_is_counted::<State, Action>();
+        self.notes.tally.commit();
         let bound = least_clear(&self.stubs);
         is_bounded(bound);
         let count = pass_all(&self.setup, &mut self.stubs, &mut self.walks, bound);

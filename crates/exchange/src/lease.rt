@@ -11,6 +11,7 @@ ghost use Rattle.virtual_time.specs.Worlds.{Process};
 ghost use Rattle.exchange.specs.Seen.{HasDelivered, IsSoundLease, MovesBy};
 ghost use Rattle.rollback.specs.Stepped.{HasNextKey, IsNextSent, next_entry};
 
+use crate::tally::Effort;
 use antimessage::Bag;
 use event_keys::{Bound, Key, Signed, Turned};
 use raw_events::EventList;
@@ -18,6 +19,7 @@ use rollback::laws::run_law;
 use rollback::{Component, Copies, ProcessRefused};
 use std::alloc::Global;
 use std::marker::Model;
+use std::mem::replace;
 use task_seed::laws::machine_is_lawful;
 use task_seed::{Setup, Turns};
 use terms::{Action, NoMemory, State};
@@ -33,6 +35,7 @@ pub struct Lease<T: Turns> {
     pub(crate) out: Bag,
     pub(crate) copies: Copies,
     pub(crate) floor: Bound,
+    pub(crate) effort: Effort,
 }
 
 impl<T: Turns> Model for Lease<T> {
@@ -121,6 +124,13 @@ impl<T: Turns> Lease<T> {
         ensures { self.new ≡ self.old }
     {
         self.component.swap_spare(spare);
+    }
+
+    /// What was done since this was last asked, counted.
+    pub fn take_effort(&mut self) -> Effort
+        ensures { self.new ≡ self.old }
+    {
+        replace(&mut self.effort, Effort::default())
     }
 
     // Adds spare cells of messages to the component's.
@@ -217,7 +227,9 @@ impl<T: Turns> Lease<T> {
         let Some(cell) = self.tray.take(self.component.number()) else {
             return false;
         };
-        self.component.deliver(cell, &mut self.out);
+        let sign = cell.value().sign;
+        let taken_back = self.component.deliver(cell, &mut self.out);
+        self.effort.deliver(sign, taken_back);
         true
     }
 
@@ -236,6 +248,7 @@ impl<T: Turns> Lease<T> {
         let key = self
             .component
             .process_copied(alloc, &mut self.out, &mut self.copies)?;
+        self.effort.process();
         Ok(key)
     }
 }

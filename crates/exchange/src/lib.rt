@@ -7,13 +7,16 @@ pub mod judging;
 pub mod laws;
 pub mod lease;
 mod meeting;
-mod receivers;
+mod notes;
+mod queue;
 mod same;
 mod start;
 pub mod stub;
+pub mod tally;
 
 pub use chunk::Chunk;
 pub use exchange::Exchange;
 pub use judging::MeetRefused;
 pub use lease::Lease;
 pub use stub::Stub;
+pub use tally::{Effort, Tally};

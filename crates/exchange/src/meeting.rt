@@ -13,7 +13,8 @@ ghost use Rattle.exchange.specs.Seen.{HaveMet, IsFloorOf, Knows, OnlyMeets, is_o
 use crate::exchange::Exchange;
 use crate::judging::MeetRefused;
 use crate::lease::Lease;
-use crate::receivers::Receivers;
+use crate::notes::Notes;
+use crate::queue::put_into;
 use crate::stub::{Stub, earlier};
 use antimessage::Bag;
 use antimessage::laws::order_law;
@@ -26,7 +27,6 @@ use std::mem::swap;
 use task_seed::laws::machine_is_lawful;
 use task_seed::{Setup, Turns};
 use terms::{Action, State};
-use turn_lists::merge;
 use virtual_time::exchanges::{exchange_is_core, exchange_is_sound, meeting_law};
 use virtual_time::merging::merging_law;
 
@@ -80,8 +80,8 @@ impl Stub {
         order_law(&self.standing);
     }
 
-    // Signed messages come, and copies of the messages: of a message and its antimessage only one is left.
-    fn arrive(&mut self, mut came: Bag, mut copies: Bag)
+    // Signed messages come, and copies of the messages: of a message and its antimessage only one is left. The answer is how many pairs met.
+    fn arrive(&mut self, mut came: Bag, mut copies: Bag) -> u64
         ensures { IsArrived came copies self.old self.new }
     {
         flight_law();
@@ -91,18 +91,19 @@ impl Stub {
         order_law(&self.copies);
         self.copies.cancel(&self.inbox);
         order_law(&self.copies);
-        self.inbox.meet_all();
+        let pairs = self.inbox.meet_all();
         order_law(&self.inbox);
+        pairs
     }
 
     // Signed messages come, and copies of the messages. A stub to which nothing comes stays as it is.
-    fn come(&mut self, came: Bag, copies: Bag)
+    fn come(&mut self, came: Bag, copies: Bag) -> u64
         ensures { HasCome came copies self.old self.new }
     {
         if came.is_empty() && copies.is_empty() {
-            return;
+            return 0;
         }
-        self.arrive(came, copies);
+        self.arrive(came, copies)
     }
 
     // The inbox goes into the tray: its messages are taken, and its antimessages take theirs out.
@@ -154,16 +155,18 @@ fn next_receiver(out: &Bag, copies: &Bag) -> Option<u16>
 
 // Signed messages come to the stub of a component, if there is one, and copies of the messages. It stays a call, since most meetings send nothing.
 #[inline(never)]
-fn bring(stubs: &mut [Stub], to: u16, came: Bag, copies: Bag)
+fn bring(stubs: &mut [Stub], to: u16, came: Bag, copies: Bag) -> u64
     ensures { IsBrought to came copies stubs.old stubs.new }
 {
     if usize::from(to) < stubs.len() {
-        stubs[usize::from(to)].come(came, copies);
+        stubs[usize::from(to)].come(came, copies)
+    } else {
+        0
     }
 }
 
 // All that is outgoing comes to the stubs, each message to its receiver's. Only the receivers are gone through, not all stubs.
-fn spread(stubs: &mut [Stub], out: &mut Bag, copies: &mut Bag, receivers: &mut Receivers)
+fn spread(stubs: &mut [Stub], out: &mut Bag, copies: &mut Bag, notes: &mut Notes)
     ensures many { length stubs.new ≡ length stubs.old }
     ensures each { (j : ℕ) (stub : StubValue) → slice_get stubs.new j ≡ Some stub → IsReached out.old copies.old stubs.old j stub }
     ensures out { out.new ≡ [] }
@@ -171,8 +174,10 @@ fn spread(stubs: &mut [Stub], out: &mut Bag, copies: &mut Bag, receivers: &mut R
 {
     while let Some(to) = next_receiver(out, copies) {
         let came = out.split_to(to);
-        bring(stubs, to, came, copies.split_to(to));
-        receivers.note(to);
+        notes.tally.send(&came);
+        let pairs = bring(stubs, to, came, copies.split_to(to));
+        notes.tally.annihilate(pairs);
+        notes.receivers.note(to);
     }
 }
 
@@ -195,7 +200,7 @@ fn pass_on<T: Turns>(
     tray: &mut Bag,
     out: &mut Bag,
     copies: &mut Copies,
-    receivers: &mut Receivers,
+    notes: &mut Notes,
     cells: &mut EventList<Signed>,
 ) -> Bound
     requires many { length stubs.old ≡ length (composition (plan_of component.now.setup)) }
@@ -211,7 +216,7 @@ fn pass_on<T: Turns>(
     machine_is_lawful(component.setup());
     let i = usize::from(component.number());
     stubs[i].send(&mut copies.of_sender, out);
-    spread(stubs, out, &mut copies.of_receiver, receivers);
+    spread(stubs, out, &mut copies.of_receiver, notes);
     let own = &mut stubs[i];
     own.hand_over(tray);
     own.forget_below(bound, cells);
@@ -277,6 +282,7 @@ impl<T: Turns> Exchange<T> {
         ensures rest { self.new ≡ record self.old { stubs = self.new.stubs; held = self.new.held } }
         ensures same { KeepsComponent lease.old lease.new }
     {
+        self.notes.tally.meet();
         let mut cells = EventList::new();
         let bound = self.join(lease, &mut cells);
         lease.add_spare_messages(&mut cells);
@@ -297,7 +303,8 @@ impl<T: Turns> Exchange<T> {
         meeting_law::<State, Action>();
         exchange_is_sound::<State, Action>();
         merging_law::<Action>();
-        merge(&mut self.held, lease.component.drop_below(self.bound));
+        let turns = lease.component.drop_below(self.bound);
+        put_into(&mut self.held, lease.component.number(), turns);
         lease.floor = pass_on(
             &mut self.stubs,
             self.bound,
@@ -305,7 +312,7 @@ impl<T: Turns> Exchange<T> {
             &mut lease.tray,
             &mut lease.out,
             &mut lease.copies,
-            &mut self.receivers,
+            &mut self.notes,
             cells,
         );
         self.bound

@@ -12,7 +12,7 @@ use rollback::Component;
 use task_seed::{Setup, Turns};
 
 /// Two leases are equal where their components are, and their trays, outgoing messages and floors. The copies of what is outgoing
-/// aren't looked at: there are always two of each message.
+/// aren't looked at: there are always two of each message. Nor is what was counted.
 impl<T: Turns> PartialEq for Lease<T> {
     ghost eq = { same_lease ⟦<Component<T> as PartialEq>⟧.eq };
 

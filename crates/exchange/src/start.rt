@@ -1,17 +1,18 @@
 //! The exchange and its leases at the start.
-ghost use Rattle.std.specs.Prelude.{◌≡◌, ◌<◌, IfOk, length};
+ghost use Rattle.std.specs.Prelude.{◌≡◌, ◌<◌, IfOk, length, map};
 ghost use Rattle.std.specs.Arc.{arc_value};
 ghost use Rattle.plans.specs.Plans.{composition};
 ghost use Rattle.task_seed.specs.Setups.{system, plan_of};
-ghost use Rattle.exchange.specs.Start.{StandForStart, first_bound, start_stub, start_holding, start_leases, start_shared};
+ghost use Rattle.exchange.specs.Start.{StandForStart, first_bound, number_of, numbers, start_stub, start_holding, start_leases, start_shared};
 
 use crate::exchange::Exchange;
 use crate::lease::Lease;
-use crate::receivers::Receivers;
+use crate::notes::{Notes, Receivers};
+use crate::queue::Queue;
 use crate::stub::Stub;
+use crate::tally::{Effort, Tally};
 use antimessage::Bag;
 use event_keys::{Bound, Key};
-use raw_events::EventList;
 use rollback::{Component, Copies};
 use std::alloc::Global;
 use std::sync::Arc;
@@ -67,19 +68,21 @@ fn start_lease<T: Turns>(alloc: Global, setup: Arc<Setup<T>>, i: u16) -> Result<
         out: Bag::new(),
         copies: Copies::new(),
         floor,
+        effort: Effort::default(),
     })
 }
 
 impl<T: Turns> Exchange<T> {
     /// The exchange of a setup at its start, with a lease for each component, in order.
     ///
-    /// They stand for the world at its start.
+    /// They stand for the world at its start. No two leases have one number, since each has that of its place.
     pub fn new(
         alloc: Global,
         setup: Arc<Setup<T>>,
     ) -> Result<(Exchange<T>, Vec<Lease<T>>), NoMemory>
         ensures exchange { IfOk result (λ both. both.0 ≡ start_shared T.turn_of (arc_value setup)) }
         ensures leases { IfOk result (λ both. both.1.items ≡ start_leases T.turn_of (arc_value setup)) }
+        ensures numbers { IfOk result (λ both. map number_of both.1.items ≡ numbers (arc_value setup)) }
         ensures start { IfOk result (λ both. StandForStart T.turn_of (arc_value setup) both.0 both.1.items) }
     {
         machine_is_lawful(&setup);
@@ -98,21 +101,26 @@ impl<T: Turns> Exchange<T> {
         exchange_is_sound::<State, Action>();
         let mut stubs = Vec::new(alloc);
         let mut walks = Vec::new(alloc);
+        let mut held = Vec::new(alloc);
         let mut leases = Vec::new(alloc);
         for i in 0..setup.plan().components() {
             stubs.push(start_stub(&setup, i))?;
             walks.push(None)?;
+            held.push(Queue::empty())?;
             leases.push(start_lease(alloc, Arc::try_clone(&setup)?, i)?)?;
         }
-        let receivers = Receivers::none(alloc, setup.plan().components())?;
+        let notes = Notes {
+            receivers: Receivers::none(alloc, setup.plan().components())?,
+            tally: Tally::default(),
+        };
         let exchange = Exchange {
             setup,
             stubs,
             walks,
             bound: FIRST,
-            held: EventList::new(),
+            held,
             given: 0,
-            receivers,
+            notes,
         };
         Ok((exchange, leases))
     }

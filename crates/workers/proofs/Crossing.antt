@@ -23,7 +23,10 @@ use Rattle.pools.proofs.places.Pass.TheSendSync as pass
 use Rattle.workers.proofs.pace.Pace.TheSendSync as pace
 use Rattle.workers.proofs.places.Places.TheSendSync as places
 use Rattle.workers.proofs.rounds.Rounds.TheSendSync as rounds
-use Rattle.exchange.proofs.receivers.Receivers.TheSendSync as receivers
+use Rattle.workers.proofs.stats.Visits.TheSendSync as visits
+use Rattle.exchange.proofs.notes.Notes.TheSendSync as notes
+use Rattle.exchange.proofs.queue.Queue.TheSendSync as queue
+use Rattle.exchange.proofs.tally.Effort.TheSendSync as effort
 use Rattle.pools.proofs.places.Pool.TheSendSync as pool
 use Rattle.antimessage.proofs.bag.Bag.TheSendSync as bag
 use Rattle.event_keys.proofs.key.Bound.TheSendSync as bound
@@ -65,10 +68,10 @@ module _ (T : RattleType) (g : turns.Ghosts T.Denot) (e : equal.Ghosts T.Denot) 
   Component-send s y = search (Setup-send, Setup-sync, crossing.Arc-send, spares.the_field_send, option.the_field_send, bound.the_field_send, key.the_send, signed.the_send, event_list.the_send, done.the_send, arc.the_send, vec.the_send, vec_deque.the_send, scalar.the_send, crossing.crosses, value.crosses, effect.crosses, shape.crosses, term.crosses, sendable) depth 60 fits 20000
 
   pub Lease-send : IsSend T → IsSync T → IsSend (Lease.the_row T g e)
-  Lease-send s y = search (Component-send, bag.the_send, bound.the_field_send, copies.the_field_send, crossing.crosses, value.crosses, effect.crosses, shape.crosses, term.crosses, sendable) depth 60 fits 20000
+  Lease-send s y = search (Component-send, bag.the_send, bound.the_field_send, copies.the_field_send, effort.the_field_send, crossing.crosses, value.crosses, effect.crosses, shape.crosses, term.crosses, sendable) depth 60 fits 20000
 
   pub Exchange-send : IsSend T → IsSync T → IsSend (Exchange.the_row T g e)
-  Exchange-send s y = search (Setup-send, Setup-sync, receivers.the_field_send, crossing.Arc-send, bound.the_field_send, turned.the_send, stub.the_send, event_list.the_send, arc.the_send, vec.the_send, crossing.crosses, effect.crosses, shape.crosses, term.crosses, sendable) depth 60 fits 20000
+  Exchange-send s y = search (Setup-send, Setup-sync, notes.the_field_send, queue.the_send, crossing.Arc-send, bound.the_field_send, turned.the_send, stub.the_send, event_list.the_send, arc.the_send, vec.the_send, crossing.crosses, effect.crosses, shape.crosses, term.crosses, sendable) depth 60 fits 20000
 
   pub Paced-send : IsSend T → IsSync T → IsSend (Paced.the_row T g e)
   Paced-send s y = search (Lease-send, pace.the_field_send, crossing.crosses, value.crosses, effect.crosses, shape.crosses, term.crosses, sendable) depth 60 fits 20000
@@ -77,7 +80,7 @@ module _ (T : RattleType) (g : turns.Ghosts T.Denot) (e : equal.Ghosts T.Denot) 
   Handed-send s y = search (Paced-send, crossing.crosses, value.crosses, effect.crosses, shape.crosses, term.crosses, sendable) depth 60 fits 20000
 
   pub Depot-send : IsSend T → IsSync T → IsSend (Depot.the_row T g e)
-  Depot-send s y = search (Exchange-send, Handed-send, places.the_send, rounds.the_field_send, bound.the_field_send, option.the_field_send, option.the_send, turned.the_send, event_list.the_send, vec.the_send, crossing.crosses, value.crosses, effect.crosses, shape.crosses, term.crosses, sendable) depth 60 fits 20000
+  Depot-send s y = search (Exchange-send, Handed-send, places.the_send, rounds.the_field_send, visits.the_field_send, bound.the_field_send, option.the_field_send, option.the_send, turned.the_send, event_list.the_send, vec.the_send, crossing.crosses, value.crosses, effect.crosses, shape.crosses, term.crosses, sendable) depth 60 fits 20000
 
   pub Lent-send : IsSend T → IsSync T → IsSend (Lent.the_row T g e)
   Lent-send s y = search (Depot-send, crossing.crosses, effect.crosses, shape.crosses, term.crosses, sendable) depth 60 fits 20000

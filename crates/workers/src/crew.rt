@@ -3,6 +3,7 @@ ghost use Rattle.std.specs.Prelude.{◌≡◌};
 
 use crate::depot::Depot;
 use crate::pace::Pace;
+use crate::stats::Activity;
 use event_keys::Turned;
 use exchange::Lease;
 use gvt::Seat;
@@ -45,9 +46,10 @@ pub(crate) struct Worker<T: Turns> {
     pub(crate) spare: EventList<Turned>,
 }
 
-// The calling thread's pass of the exchange, and its seat of the published count.
+// The calling thread's pass of the exchange, its seat of the published count, and what was counted when it took turns last.
 #[derive(Drop)]
 pub(crate) struct Caller<T: Turns> {
     pub(crate) lock: Pass<Lent<T>, Setup<T>>,
     pub(crate) seat: Seat,
+    pub(crate) activity: Activity,
 }

@@ -8,19 +8,13 @@ use crate::crew::{Handed, Paced};
 use crate::places::{Least, Places};
 use crate::policy::POLICY;
 use crate::rounds::Rounds;
+use crate::stats::{Activity, Visits};
 use crate::writing::{Portion, take_portion};
-use event_keys::{Bound, Key, Turned};
+use event_keys::{Bound, Turned};
 use exchange::{Exchange, Lease, MeetRefused};
 use raw_events::EventList;
 use std::marker::Model;
 use task_seed::Turns;
-
-// No key is below it.
-const FIRST: Bound = Bound::At(Key {
-    tick: 0,
-    component: 0,
-    number: 0,
-});
 
 // How far a lease is to run.
 #[derive(Clone, Copy)]
@@ -58,6 +52,8 @@ pub(crate) struct Depot<T: Turns> {
     count: u64,
     // Cells of turns that were written; they serve again.
     spare: EventList<Turned>,
+    // What workers told of their visits.
+    visits: Visits,
 }
 
 impl<T: Turns> Model for Depot<T> {
@@ -101,6 +97,7 @@ impl<T: Turns> Depot<T> {
             settled,
             count: 0,
             spare: EventList::new(),
+            visits: Visits::default(),
         }
     }
 
@@ -116,6 +113,21 @@ impl<T: Turns> Depot<T> {
     // Whether all turns that there are lie below the bases.
     pub(crate) fn finished(&self) -> bool {
         self.exchange.finished()
+    }
+
+    // What workers told, and what the exchange counted.
+    pub(crate) fn activity(&self) -> Activity {
+        Activity {
+            visits: self.visits,
+            tally: self.exchange.tally(),
+        }
+    }
+
+    // A worker slept for so many microseconds.
+    pub(crate) fn note_wait(&mut self, micros: u64)
+        ensures { self.new ≡ self.old }
+    {
+        self.visits.wait(micros);
     }
 
     // Adds the cells of turns that were written.
@@ -148,11 +160,11 @@ impl<T: Turns> Depot<T> {
         self.rounds.commit();
     }
 
-    // Whether a lease waits.
-    fn is_here(&self, number: u16) -> bool {
+    // A lease that waits, if this one does.
+    fn waiting(&self, number: u16) -> Option<&Paced<T>> {
         match self.leases.get(usize::from(number)) {
-            Some(Some(_)) => true,
-            _ => false,
+            Some(Some(handed)) => Some(&*handed.paced),
+            _ => None,
         }
     }
 
@@ -196,6 +208,7 @@ impl<T: Turns> Depot<T> {
         requires { handed_setup handed ≡ self.old }
         ensures { self.new ≡ self.old }
     {
+        self.visits.end_one(handed.paced.lease.take_effort());
         if self.is_due_to_meet(&*handed.paced) {
             meet(&mut self.exchange, &mut *handed.paced, self.rounds.pass())?;
         }
@@ -222,7 +235,7 @@ impl<T: Turns> Depot<T> {
             let Some(number) = self.exchange.take_receiver() else {
                 return;
             };
-            if self.is_here(number) {
+            if self.waiting(number).is_some() {
                 self.places.call(number);
             }
         }
@@ -238,7 +251,7 @@ impl<T: Turns> Depot<T> {
                 least,
             },
             _ => Reach {
-                horizon: FIRST,
+                horizon: self.exchange.bound(),
                 is_alone: true,
                 was_parked,
                 least,
@@ -248,9 +261,9 @@ impl<T: Turns> Depot<T> {
 
     // Whether a lease waits that hasn't met the exchange for long.
     fn is_stale(&self, number: u16) -> bool {
-        match self.leases.get(usize::from(number)) {
-            Some(Some(handed)) => handed.paced.pace.is_stale(self.rounds.pass()),
-            _ => false,
+        match self.waiting(number) {
+            None => false,
+            Some(paced) => paced.pace.is_stale(self.rounds.pass()),
         }
     }
 
@@ -311,10 +324,11 @@ impl<T: Turns> Depot<T> {
         since < POLICY.visits_ahead || !self.is_careful(least.number)
     }
 
+    // Whether a lease waits whose component lost something lately.
     fn is_careful(&self, number: u16) -> bool {
-        match self.leases.get(usize::from(number)) {
-            Some(Some(handed)) => handed.paced.pace.is_careful(),
-            _ => false,
+        match self.waiting(number) {
+            None => false,
+            Some(paced) => paced.pace.is_careful(),
         }
     }
 

@@ -12,10 +12,12 @@ mod policy;
 mod rounds;
 pub mod running;
 mod shared;
+pub mod stats;
 mod working;
 mod writing;
 
 pub use fault::RunFault;
 pub use gate::{Gate, Unheld};
 pub use pools::{Hand, Numbered, Pass, Pool};
-pub use running::{Summary, run};
+pub use running::{Summary, run, run_with_stats};
+pub use stats::Stats;

@@ -23,6 +23,8 @@ pub(crate) struct Patience {
     published: u64,
     // How many are now.
     count: u64,
+    // How many microseconds it napped since it told so.
+    waited: u64,
 }
 
 impl Patience {
@@ -37,6 +39,7 @@ impl Patience {
             caller_looks: 0,
             published: 0,
             count: 0,
+            waited: 0,
         }
     }
 
@@ -46,8 +49,20 @@ impl Patience {
             return false;
         }
         self.naps -= 1;
-        nap(rt, self.nap);
+        self.nap_for(rt, self.nap);
         true
+    }
+
+    fn nap_for<R: Wait>(&mut self, rt: &R, micros: u64) {
+        self.waited = self.waited.saturating_add(micros);
+        nap(rt, micros);
+    }
+
+    // How many microseconds it napped since this was last asked.
+    pub(crate) fn take_waited(&mut self) -> u64 {
+        let waited = self.waited;
+        self.waited = 0;
+        waited
     }
 
     // So many turns are below the bound.
@@ -64,7 +79,7 @@ impl Patience {
         if self.count.saturating_sub(self.published) <= POLICY.most_unseen {
             return false;
         }
-        nap(rt, POLICY.nap);
+        self.nap_for(rt, POLICY.nap);
         true
     }
 
@@ -120,7 +135,7 @@ impl Patience {
             self.vain = self.vain.saturating_add(1);
             thread::yield_now();
         } else {
-            nap(rt, POLICY.nap);
+            self.nap_for(rt, POLICY.nap);
         }
     }
 }

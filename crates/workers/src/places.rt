@@ -60,14 +60,14 @@ impl Places {
         self.move_to(number, place_of(next, number));
     }
 
-    // A lease waits for this tick.
-    pub(crate) fn wait_for(&mut self, number: u16, tick: u64) {
-        self.move_to(number, place_at(tick, number));
-    }
-
     // The same of one that comes behind all others.
     pub(crate) fn park(&mut self, number: u16, next: Bound) {
         self.move_to(number, place_of(next, number).saturating_add(PARKED));
+    }
+
+    // A lease waits at this tick, or visit.
+    pub(crate) fn wait_for(&mut self, number: u16, tick: u64) {
+        self.move_to(number, place_at(tick, number));
     }
 
     // A lease goes away, or has nothing to do.

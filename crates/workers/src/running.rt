@@ -14,6 +14,7 @@ use crate::gate::Gate;
 use crate::pace::Pace;
 use crate::places::Places;
 use crate::shared::{Shared, end, note};
+use crate::stats::{Activity, Stats};
 use crate::working::work;
 use crate::writing::write_all;
 use core::mem::replace_with;
@@ -66,6 +67,28 @@ pub fn run<T: Turns, W: Write + Drop, G: Gate<T>, R: Threads + Wait + Sync>(
     ensures whole { IfOk result (λ summary. WroteAll T.turn_of W.contents (arc_value setup) lines out.old out.new summary.turns) }
     ensures unfinished { IfErr result (WroteSome T.turn_of W.contents (arc_value setup) lines out.old out.new) }
 {
+    match run_with_stats(rt, alloc, setup, workers, budget, gate, lines, out) {
+        Ok(stats) => Ok(Summary { turns: stats.turns }),
+        Err(fault) => Err(fault),
+    }
+}
+
+/// Does the same as [`run`], with the same faults, and answers what the workers did too.
+pub fn run_with_stats<T: Turns, W: Write + Drop, G: Gate<T>, R: Threads + Wait + Sync>(
+    rt: &R,
+    alloc: Global,
+    setup: Arc<Setup<T>>,
+    workers: u16,
+    budget: u32,
+    gate: &G,
+    lines: Lines,
+    out: &mut Counted<W>,
+) -> Result<Stats, RunFault>
+    requires workers { (1 ≤ workers) × (workers ≤ 64) }
+    requires budget { (1 ≤ budget) × (budget ≤ 65535) }
+    ensures whole { IfOk result (λ stats. WroteAll T.turn_of W.contents (arc_value setup) lines out.old out.new stats.turns) }
+    ensures unfinished { IfErr result (WroteSome T.turn_of W.contents (arc_value setup) lines out.old out.new) }
+{
     turns_are_schedule(&setup);
     match start(rt, alloc, &setup, workers) {
         Ok(begun) => run_begun(rt, alloc, &setup, begun, budget, gate, lines, out),
@@ -106,7 +129,12 @@ fn start<T: Turns, R: Wait>(
         looks: AtomicU64::new(0),
         published,
     };
-    let caller = Caller { lock, seat };
+    let activity = Activity::default();
+    let caller = Caller {
+        lock,
+        seat,
+        activity,
+    };
     Ok(Begun {
         shared,
         crew,
@@ -213,10 +241,10 @@ fn run_begun<T: Turns, W: Write + Drop, G: Gate<T>, R: Threads + Wait + Sync>(
     gate: &G,
     lines: Lines,
     out: &mut Counted<W>,
-) -> Result<Summary, RunFault>
+) -> Result<Stats, RunFault>
     requires crew { All (IsOf begun.shared) begun.crew.items }
     requires caller { IsCallerOf begun.shared own.now begun.caller }
-    ensures whole { IfOk result (λ summary. WroteAll T.turn_of W.contents own.now lines out.old out.new summary.turns) }
+    ensures whole { IfOk result (λ stats. WroteAll T.turn_of W.contents own.now lines out.old out.new stats.turns) }
     ensures unfinished { IfErr result (WroteSome T.turn_of W.contents own.now lines out.old out.new) }
 {
     let Begun {
@@ -241,10 +269,10 @@ fn lend<'x, T: Turns, W: Write + Drop, G: Gate<T>, R: Threads + Wait + Sync>(
     gate: &'x G,
     lines: Lines,
     out: &mut Counted<W>,
-) -> Result<Summary, RunFault>
+) -> Result<Stats, RunFault>
     requires crew { All (IsOf shared.now) crew.items }
     requires caller { IsCallerOf shared.now own.now caller }
-    ensures whole { IfOk result (λ summary. WroteAll T.turn_of W.contents own.now lines out.old out.new summary.turns) }
+    ensures whole { IfOk result (λ stats. WroteAll T.turn_of W.contents own.now lines out.old out.new stats.turns) }
     ensures unfinished { IfErr result (WroteSome T.turn_of W.contents own.now lines out.old out.new) }
 {
     replace_with(
@@ -252,10 +280,10 @@ fn lend<'x, T: Turns, W: Write + Drop, G: Gate<T>, R: Threads + Wait + Sync>(
         (crew, caller),
         move |lent: Counted<W>, hands: (Vec<Worker<T>>, Caller<T>)| -> (
             Counted<W>,
-            Result<Summary, RunFault>,
+            Result<Stats, RunFault>,
         )
             requires { All (IsOf shared.now) hands.0.items × IsCallerOf shared.now own.now hands.1 }
-            ensures whole { IfOk result.1 (λ summary. WroteAll T.turn_of W.contents own.entry.now lines lent result.0 summary.turns) }
+            ensures whole { IfOk result.1 (λ stats. WroteAll T.turn_of W.contents own.entry.now lines lent result.0 stats.turns) }
             ensures unfinished { IfErr result.1 (WroteSome T.turn_of W.contents own.entry.now lines lent result.0) }
         {
             in_scope(
@@ -277,18 +305,18 @@ fn in_scope<'x, T: Turns, W: Write + Drop, G: Gate<T>, R: Threads + Wait + Sync>
     gate: &'x G,
     lines: Lines,
     out: Counted<W>,
-) -> (Counted<W>, Result<Summary, RunFault>)
+) -> (Counted<W>, Result<Stats, RunFault>)
     requires crew { All (IsOf shared.now) crew.items }
     requires caller { IsCallerOf shared.now own.now caller }
-    ensures whole { IfOk result.1 (λ summary. WroteAll T.turn_of W.contents own.now lines out result.0 summary.turns) }
+    ensures whole { IfOk result.1 (λ stats. WroteAll T.turn_of W.contents own.now lines out result.0 stats.turns) }
     ensures unfinished { IfErr result.1 (WroteSome T.turn_of W.contents own.now lines out result.0) }
 {
     thread::scope(
         thread::scope_env(),
         rt,
-        move |scope| -> (Counted<W>, Result<Summary, RunFault>)
+        move |scope| -> (Counted<W>, Result<Stats, RunFault>)
             requires { All (IsOf shared.now) crew.items × IsCallerOf shared.now own.now caller }
-            ensures whole { IfOk result.1 (λ summary. WroteAll T.turn_of W.contents own.entry.now lines out result.0 summary.turns) }
+            ensures whole { IfOk result.1 (λ stats. WroteAll T.turn_of W.contents own.entry.now lines out result.0 stats.turns) }
             ensures unfinished { IfErr result.1 (WroteSome T.turn_of W.contents own.entry.now lines out result.0) }
         {
             for worker in crew {

@@ -75,6 +75,7 @@ fn change<T: Turns, R: Wait>(
     let mut looks = 0;
     let mut lent = hold(rt, shared, &mut worker.lock, &mut looks);
     let rests = patience.note(looks);
+    lent.depot.note_wait(patience.take_waited());
     lent.depot.take_spare(&mut worker.spare);
     let visit = go_round(shared, &mut *lent.depot, worker, done, rests);
     patience.see(lent.depot.count());

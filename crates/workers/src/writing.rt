@@ -10,8 +10,8 @@ ghost use Rattle.workers.specs.Runs.{WroteAll, WroteSome};
 use crate::crew::Caller;
 use crate::fault::{RunFault, WorkFault, run_fault};
 use crate::policy::POLICY;
-use crate::running::Summary;
 use crate::shared::{Shared, ends, hold, nap, note_look, noted};
+use crate::stats::Stats;
 use event_keys::Turned;
 use exchange::Exchange;
 use plans::Plan;
@@ -74,6 +74,7 @@ fn next_portion<T: Turns, R: Wait>(
     let mut looks = 0;
     let mut lent = hold(rt, shared, &mut caller.lock, &mut looks);
     let portion = lent.depot.take_portion();
+    caller.activity = lent.depot.activity();
     lent.depot.add_spare(spare);
     shared.exchange.give_back(rt, &mut caller.lock, lent);
     Ok(Some(portion))
@@ -118,9 +119,9 @@ pub(crate) fn write_all<T: Turns, W: Write, R: Wait>(
     caller: &mut Caller<T>,
     lines: Lines,
     out: &mut Counted<W>,
-) -> Result<Summary, RunFault>
+) -> Result<Stats, RunFault>
     requires { IsCallerOf shared.now own.now caller.old }
-    ensures whole { IfOk result (λ summary. WroteAll T.turn_of W.contents own.now lines out.old out.new summary.turns) }
+    ensures whole { IfOk result (λ stats. WroteAll T.turn_of W.contents own.now lines out.old out.new stats.turns) }
     ensures unfinished { IfErr result (WroteSome T.turn_of W.contents own.now lines out.old out.new) }
 {
     turns_are_schedule(own);
@@ -148,7 +149,7 @@ pub(crate) fn write_all<T: Turns, W: Write, R: Wait>(
         let turns = portion.given.saturating_sub(written);
         written = portion.given;
         if portion.is_last {
-            return Ok(Summary { turns: written });
+            return Ok(caller.activity.stats(written));
         }
         pause = next_pause(pause, turns);
         rest(rt, shared, pause);

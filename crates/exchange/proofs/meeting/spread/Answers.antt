@@ -15,10 +15,10 @@ loop-to-preserved c =
     let l = c.loop-to in
     let to = c.in-Some.to in
     let first : first_receiver (l.out ++ l.copies) ≡ Some to = search rules in
-    let brought : IsBrought to (filter (is_to to) l.out) (filter (is_to to) l.copies) l.stubs c.bring.new.stubs
-    = subst₂ (λ came copies. IsBrought to came copies l.stubs c.bring.new.stubs) c.split_to-came.ensures.taken c.split_to.ensures.taken c.bring.ensures in
-    subst₂ (λ out copies. IsSpreading c.args.out.now c.args.copies.now c.args.stubs.now out copies c.bring.new.stubs) (sym c.split_to-came.ensures.rest) (sym c.split_to.ensures.rest)
-    (spreading_steps c.args.out.now c.args.copies.now c.args.stubs.now l.out l.copies l.stubs l.invariant to c.bring.new.stubs first brought)
+    let brought : IsBrought to (filter (is_to to) l.out) (filter (is_to to) l.copies) l.stubs c.bring-pairs.new.stubs
+    = subst₂ (λ came copies. IsBrought to came copies l.stubs c.bring-pairs.new.stubs) c.split_to-came.ensures.taken c.split_to.ensures.taken c.bring-pairs.ensures in
+    subst₂ (λ out copies. IsSpreading c.args.out.now c.args.copies.now c.args.stubs.now out copies c.bring-pairs.new.stubs) (sym c.split_to-came.ensures.rest) (sym c.split_to.ensures.rest)
+    (spreading_steps c.args.out.now c.args.copies.now c.args.stubs.now l.out l.copies l.stubs l.invariant to c.bring-pairs.new.stubs first brought)
 
 pub returns-clause-each : goal.returns-clause-each
 returns-clause-each c =

@@ -1,4 +1,4 @@
-use Rattle.std.proofs.Common.{◌≡◌, sym, subst, arith}
+use Rattle.std.proofs.Common.{◌≡◌, ℕ, sym, subst, arith}
 use Rattle.std.specs.Prelude.{Option, Some}
 use Rattle.task_seed.specs.Turning.{System}
 use Rattle.task_seed.specs.Setups.{plan_of, system}
@@ -8,7 +8,7 @@ use Rattle.trace.specs.Lines.{text_of}
 use Rattle.plans.specs.declared.plan.Plan.{Plan}
 use Rattle.trace.specs.Puts.{Puts}
 use Rattle.workers.specs.declared.fault.RunFault.{RunFault}
-use Rattle.workers.specs.Runs.{IsUnfinished}
+use Rattle.workers.specs.Runs.{IsUnfinished, IsWhole}
 use Rattle.workers.proofs.Written.{begun, cut, last, more, starts, unfinished}
 use Rattle.workers.specs.declared.writing.Portion.{Portion}
 use Rattle.workers.specs.Portions.{IsPortion, IsDuePortion}
@@ -44,7 +44,9 @@ returns-then-portion-clause-whole g c =
     let is = (due c.in-Ok-Some.portion c.in-Ok-Some.field-0 c.in-Ok-Some.field-0-is c.in-Ok-Some.ensures.portion) in
     let first : portion.first ≡ c.loop.written = omega arith in
     let puts = subst (λ (p : Plan). Puts known c.loop.out c.put_portion.new.out c.loop.bytes c.in-Ok.after (text_of p c.args.lines portion.turns.after)) c.plan.ensures c.in-Ok.ensures.ok in
-    last c.turns_are_schedule.ensures.below portion c.loop.invariant.sofar is first puts (is.last c.if-portion.true)
+    let own = c.args.own.now in
+    let whole = last c.turns_are_schedule.ensures.below portion c.loop.invariant.sofar is first puts (is.last c.if-portion.true) in
+    subst (λ (n : ℕ). IsWhole (plan_of own) (system g.T.Turns.turn_of own) c.args.lines (IsWritten known c.args.out.now c.put_portion.new.out) n) (sym c.stats.ensures) whole
 
 pub loop-preserved : goal.loop-preserved
 loop-preserved g c =

@@ -22,7 +22,7 @@ pass_all-count-requires-clause-passing g c = λ _ _.
     let t = g.T.Turns.turn_of in
     let f = c.self.inside in
     let s = system t (arc_value f.setup) in
-    let e : ExchangeView _ = record { setup = arc_value f.setup; stubs = f.stubs.items; bound = f.bound; held = f.held.after; given = f.given } in
+    let e : ExchangeView _ = record { setup = arc_value f.setup; stubs = f.stubs.items; bound = f.bound; held = f.held.items; given = f.given } in
     let law : Lawful (machine s) = subst (λ p. Lawful (machine (system t p))) c.deref.ensures c.machine_is_lawful.ensures.lawful in
     let counted : HasCount (machine s) (length s.composition) = subst (λ p. HasCount (machine (system t p)) (length (composition (plan_of p)))) c.deref.ensures c.machine_is_lawful.ensures.counted in
     let least : IsLeast (map clear_until f.stubs.items) c.least_clear-bound.result = subst (λ l. IsLeast (map clear_until l) c.least_clear-bound.result) c.deref-2.ensures.value c.least_clear-bound.ensures in
@@ -36,7 +36,7 @@ invariant_of-self g c =
     let f = c.self.inside in
     let s = system t (arc_value f.setup) in
     let bound = c.least_clear-bound.result in
-    let e : ExchangeView _ = record { setup = arc_value f.setup; stubs = f.stubs.items; bound = f.bound; held = f.held.after; given = f.given } in
+    let e : ExchangeView _ = record { setup = arc_value f.setup; stubs = f.stubs.items; bound = f.bound; held = f.held.items; given = f.given } in
     let law : Lawful (machine s) = subst (λ p. Lawful (machine (system t p))) c.deref.ensures c.machine_is_lawful.ensures.lawful in
     let counted : HasCount (machine s) (length s.composition) = subst (λ p. HasCount (machine (system t p)) (length (composition (plan_of p)))) c.deref.ensures c.machine_is_lawful.ensures.counted in
     let least : IsLeast (map clear_until f.stubs.items) bound = subst (λ l. IsLeast (map clear_until l) bound) c.deref-2.ensures.value c.least_clear-bound.ensures in
@@ -53,7 +53,7 @@ invariant_of-self g c =
     let read : AreWalks g.T.Turns.stands (arc_value f.setup) (with_items f.walks all.new.walks).items
     = subst (λ l. AreWalks g.T.Turns.stands (arc_value f.setup) l) (sym (with_items_is f.walks all.new.walks (all.ensures.items ∙ c.deref_mut-2.ensures.len)))
     (subst (λ p. AreWalks g.T.Turns.stands p all.new.walks) c.deref-3.ensures all.ensures.walks) in
-    ((c.self.invariant.0.0, read), subst (λ l. IsValidExchange s (record e { bound = bound; stubs = l })) (sym items) (kept s e c.self.invariant.1 counted bound least c.is_bounded.ensures all.new.stubs passed sound many passing_all))
+    (read, subst (λ l. IsValidExchange s (record e { bound = bound; stubs = l })) (sym items) (kept s e c.self.invariant.1 counted bound least c.is_bounded.ensures all.new.stubs passed sound many passing_all))
 
 pub returns-clause-commit : goal.returns-clause-commit
 returns-clause-commit g c =
@@ -61,7 +61,7 @@ returns-clause-commit g c =
     let f = c.self.inside in
     let s = system t (arc_value f.setup) in
     let bound = c.least_clear-bound.result in
-    let e : ExchangeView _ = record { setup = arc_value f.setup; stubs = f.stubs.items; bound = f.bound; held = f.held.after; given = f.given } in
+    let e : ExchangeView _ = record { setup = arc_value f.setup; stubs = f.stubs.items; bound = f.bound; held = f.held.items; given = f.given } in
     let law : Lawful (machine s) = subst (λ p. Lawful (machine (system t p))) c.deref.ensures c.machine_is_lawful.ensures.lawful in
     let counted : HasCount (machine s) (length s.composition) = subst (λ p. HasCount (machine (system t p)) (length (composition (plan_of p)))) c.deref.ensures c.machine_is_lawful.ensures.counted in
     let least : IsLeast (map clear_until f.stubs.items) bound = subst (λ l. IsLeast (map clear_until l) bound) c.deref-2.ensures.value c.least_clear-bound.ensures in

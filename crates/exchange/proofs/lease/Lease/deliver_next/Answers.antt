@@ -28,8 +28,8 @@ returns-in_default-clause-none g c = λ no.
     let left : c.take.new.self ≡ f.tray = c.in_default.ensures.rest ∙ ap (without_where (is_to c.number.result)) empty ∙ sym empty in
     (ap (λ (h : LeaseView _). h.tray) (sym c.self.view_is) ∙ empty, ap (λ t. record { component = f.component; tray = t; out = f.out; copies = f.copies; floor = f.floor }) left ∙ c.self.view_is)
 
-pub deliver-requires-after_bounds : goal.deliver-requires-after_bounds
-deliver-requires-after_bounds g c = λ _ _.
+pub deliver-taken_back-requires-after_bounds : goal.deliver-taken_back-requires-after_bounds
+deliver-taken_back-requires-after_bounds g c = λ _ _.
     let f = c.self.inside in
     let i = f.component.number in
     let s = c.in-Some.cell in
@@ -50,10 +50,10 @@ invariant_of-self-2 g c =
     let there : f.tray ≡ s ∷ without_where (is_to i) f.tray
     = first_to i f.tray s c.self.invariant.arrived (ap (λ n. first_where (is_to n) f.tray) (sym c.number.ensures.number) ∙ sym c.in-Some.ensures.taken) in
     let left : c.take.new.self ≡ without_where (is_to i) f.tray = c.in-Some.ensures.rest ∙ ap (λ n. without_where (is_to n) f.tray) c.number.ensures.number in
-    subst (λ (x : ComponentView _). IsValidLease (machine_of t x.setup) (length (composition (plan_of x.setup))) (record { component = x; tray = c.take.new.self; out = c.deliver.new.out; copies = f.copies; floor = f.floor })) (sym c.deliver.ensures.record)
-    (subst (λ tray. IsValidLease m n (record { component = record f.component { history = comes m s.sign (item_of s) f.component.history }; tray = tray; out = c.deliver.new.out; copies = f.copies; floor = f.floor })) (sym left)
-    (deliver_kept m law n counted (record { component = f.component; tray = f.tray; out = f.out; copies = f.copies; floor = f.floor }) c.self.invariant (c.exchange_is_sound.ensures.alone m) (c.lease_law.ensures.message m) (c.lease_law.ensures.antimessage m) s (without_where (is_to i) f.tray) there s.sign refl c.deliver.new.out
-    c.deliver.ensures.sent))
+    subst (λ (x : ComponentView _). IsValidLease (machine_of t x.setup) (length (composition (plan_of x.setup))) (record { component = x; tray = c.take.new.self; out = c.deliver-taken_back.new.out; copies = f.copies; floor = f.floor })) (sym c.deliver-taken_back.ensures.record)
+    (subst (λ tray. IsValidLease m n (record { component = record f.component { history = comes m s.sign (item_of s) f.component.history }; tray = tray; out = c.deliver-taken_back.new.out; copies = f.copies; floor = f.floor })) (sym left)
+    (deliver_kept m law n counted (record { component = f.component; tray = f.tray; out = f.out; copies = f.copies; floor = f.floor }) c.self.invariant (c.exchange_is_sound.ensures.alone m) (c.lease_law.ensures.message m) (c.lease_law.ensures.antimessage m) s (without_where (is_to i) f.tray) there s.sign refl c.deliver-taken_back.new.out
+    c.deliver-taken_back.ensures.sent))
 
 pub returns-clause-delivered : goal.returns-clause-delivered
 returns-clause-delivered g c = λ yes.
@@ -65,13 +65,13 @@ returns-clause-delivered g c = λ yes.
     let there : f.tray ≡ s ∷ without_where (is_to i) f.tray
     = first_to i f.tray s c.self.invariant.arrived (ap (λ n. first_where (is_to n) f.tray) (sym c.number.ensures.number) ∙ sym c.in-Some.ensures.taken) in
     let left : c.take.new.self ≡ without_where (is_to i) f.tray = c.in-Some.ensures.rest ∙ ap (λ n. without_where (is_to n) f.tray) c.number.ensures.number in
-    let came : c.deliver.new.self.history ≡ comes m s.sign (item_of s) f.component.history = ap (λ (x : ComponentView _). x.history) c.deliver.ensures.record in
-    subst (λ (old : LeaseView _). (x : Signed) × IsDelivered (machine_of t old.component.setup) old (record { component = c.deliver.new.self; tray = c.take.new.self; out = c.deliver.new.out; copies = f.copies; floor = f.floor }) x) c.self.view_is (
+    let came : c.deliver-taken_back.new.self.history ≡ comes m s.sign (item_of s) f.component.history = ap (λ (x : ComponentView _). x.history) c.deliver-taken_back.ensures.record in
+    subst (λ (old : LeaseView _). (x : Signed) × IsDelivered (machine_of t old.component.setup) old (record { component = c.deliver-taken_back.new.self; tray = c.take.new.self; out = c.deliver-taken_back.new.out; copies = f.copies; floor = f.floor }) x) c.self.view_is (
       s,
       record {
         tray = there ∙ ap (λ l. s ∷ l) (sym left);
         history = came;
-        sent = c.deliver.ensures.sent;
-        rest = ap (λ x. record { component = x; tray = c.take.new.self; out = c.deliver.new.out; copies = f.copies; floor = f.floor }) (c.deliver.ensures.record ∙ sym (ap (λ q. record f.component { history = q }) came));
+        sent = c.deliver-taken_back.ensures.sent;
+        rest = ap (λ x. record { component = x; tray = c.take.new.self; out = c.deliver-taken_back.new.out; copies = f.copies; floor = f.floor }) (c.deliver-taken_back.ensures.record ∙ sym (ap (λ q. record f.component { history = q }) came));
       },
     )

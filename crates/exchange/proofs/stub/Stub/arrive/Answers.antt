@@ -10,12 +10,12 @@ returns c =
     = λ s sign j k a. ap (λ xs. among s sign j xs k a) c.move_all.ensures.all ∙ law.appended s sign j k a c.args.came c.args.self.now.inbox in
     record {
       messages = λ s j k a.
-          let met = law.messages_met s j k a c.move_all.new.bag c.meet_all.new.self c.order_law.ensures c.order_law-4.ensures c.meet_all.ensures.left in
+          let met = law.messages_met s j k a c.move_all.new.bag c.meet_all-pairs.new.self c.order_law.ensures c.order_law-4.ensures c.meet_all-pairs.ensures.left in
           let plus = all s Plus j k a in
           let minus = all s Minus j k a in
           omega (arith, met, plus, minus);
       antimessages = λ s j k a.
-          let met = law.antimessages_met s j k a c.move_all.new.bag c.meet_all.new.self c.order_law.ensures c.order_law-4.ensures c.meet_all.ensures.left in
+          let met = law.antimessages_met s j k a c.move_all.new.bag c.meet_all-pairs.new.self c.order_law.ensures c.order_law-4.ensures c.meet_all-pairs.ensures.left in
           let plus = all s Plus j k a in
           let minus = all s Minus j k a in
           omega (arith, met, plus, minus);

@@ -1,6 +1,14 @@
-//! To whom something came.
+//! What the exchange notes for those who ask.
+use crate::tally::Tally;
 use std::alloc::Global;
 use terms::NoMemory;
+
+// To whom something came, and how often. No promise rests on it.
+#[derive(Drop)]
+pub(crate) struct Notes {
+    pub(crate) receivers: Receivers,
+    pub(crate) tally: Tally,
+}
 
 // Not the number of a component.
 const NOBODY: u16 = u16::MAX;

@@ -3,7 +3,7 @@ use Rattle.task_seed.specs.declared.setup.Setup.{Setup}
 use Rattle.task_seed.specs.Setups.{plan_of, system}
 use Rattle.reference.specs.Schedules.{HasSchedulesBelow}
 use Rattle.workers.proofs.Written.{begun, starts}
-use Rattle.workers.proofs.running.run.Goals as goal
+use Rattle.workers.proofs.running.run_with_stats.Goals as goal
 
 pub returns-clause-unfinished : goal.returns-clause-unfinished
 returns-clause-unfinished g c =
