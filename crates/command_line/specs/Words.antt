@@ -40,8 +40,9 @@ number_rule name default parser = record (new_rule name) { long = Some name; def
 abbrev pub table_rule : Rule
 table_rule = record (new_rule (codes "table")) { long = Some (codes "table"); value_names = 1 }
 
-abbrev pub trace_rule : Rule
-trace_rule = record (new_rule (codes "trace")) { long = Some (codes "trace"); action = Some SetTrue }
+-- what is asked for by its name alone
+abbrev pub flag_rule : Text → Rule
+flag_rule name = record (new_rule name) { long = Some name; action = Some SetTrue }
 
 abbrev pub whole : ValueParser
 whole = Unsigned 0 18446744073709551615
@@ -50,14 +51,16 @@ whole = Unsigned 0 18446744073709551615
 abbrev pub simulating : App → App
 simulating app =
     with_rule (with_rule (with_rule (with_rule (with_rule (with_rule app (number_rule (codes "seed") (codes "1") whole)) (number_rule (codes "stream") (codes "0") whole))
-    (number_rule (codes "gap") (codes "8") (Unsigned 1 65535))) (number_rule (codes "ticks") (codes "1000") (Unsigned 0 4294967296))) table_rule) trace_rule
+    (number_rule (codes "gap") (codes "8") (Unsigned 1 65535))) (number_rule (codes "ticks") (codes "1000") (Unsigned 0 4294967296))) table_rule) (flag_rule (codes "trace"))
 
 abbrev pub reference_app : App
 reference_app = simulating (of_file (codes "reference") (codes "F"))
 
 -- a subcommand that workers carry out
 abbrev pub manned : App → App
-manned app = with_rule (with_rule app (number_rule (codes "workers") (codes "2") (Unsigned 1 64))) (number_rule (codes "budget") (codes "64") (Unsigned 1 65535))
+manned app =
+    with_rule (with_rule (with_rule app (number_rule (codes "workers") (codes "2") (Unsigned 1 64))) (number_rule (codes "budget") (codes "64") (Unsigned 1 65535)))
+    (flag_rule (codes "stats"))
 
 abbrev pub run_app : App
 run_app = manned (simulating (of_file (codes "run") (codes "F")))
@@ -95,10 +98,11 @@ pub record HasOptions (rows : List Row) (options : Options) : Type 0 where
   pub table : option_map (λ s. s.now) options.table ≡ first_of (codes "table") rows
   pub trace : IsFlag (first_of (codes "trace") rows) options.trace
 
--- the workers, and how far each runs ahead, as they were entered
+-- the workers, how far each runs ahead, and whether they tell what they did, as they were entered
 pub record HasCrew (rows : List Row) (crew : Crew) : Type 0 where
   pub workers : IsNumber rows (codes "workers") 1 64 crew.workers
   pub budget : IsNumber rows (codes "budget") 1 65535 crew.budget
+  pub stats : IsFlag (first_of (codes "stats") rows) crew.stats
 
 -- what was entered is this subcommand, with this file and these options
 pub record Simulates (entered : Option (Text × List Row)) (subcommand source : Text) (options : Options) : Type 0 where

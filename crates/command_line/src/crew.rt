@@ -1,13 +1,15 @@
 //! The workers of a simulation.
 ghost use Rattle.std.specs.Prelude.{◌≤◌};
 
-/// By how many workers a composition is simulated, and how far each runs ahead at a time.
+/// By how many workers a composition is simulated, how far each runs ahead at a time, and whether they tell what they did.
 #[derive(Clone, Copy, Debug, PartialEq, Eq)]
 pub struct Crew {
     /// How many workers, 1 to 64.
     pub workers: u16,
     /// The most entries that a worker processes of a component before it shares what it did, 1 to 65,535.
     pub budget: u32,
+    /// What they did is told after all else.
+    pub stats: bool,
     pub ghost some_workers: { 1 ≤ workers },
     pub ghost few_workers: { workers ≤ 64 },
     pub ghost some_budget: { 1 ≤ budget },

@@ -6,7 +6,7 @@ ghost use Rattle.clap.specs.Words.{app_of, first_of, found_of, kind_of, rows_of,
 ghost use Rattle.command_line.specs.declared.Asked.{Asked as AskedValue};
 ghost use Rattle.command_line.specs.declared.crew.Crew.{Crew as CrewValue};
 ghost use Rattle.command_line.specs.declared.Options.{Options as OptionsValue};
-ghost use Rattle.command_line.specs.Words.{version_text, warp, file_rule, number_rule, table_rule, trace_rule, simulating, manned, print_app, reference_app, run_app, check_app, drive_app, HasCrew, HasOptions, IsAsked, IsFlag, IsNamed, IsNumber, IsRefused, IsTold};
+ghost use Rattle.command_line.specs.Words.{version_text, warp, file_rule, flag_rule, number_rule, table_rule, simulating, manned, print_app, reference_app, run_app, check_app, drive_app, HasCrew, HasOptions, IsAsked, IsFlag, IsNamed, IsNumber, IsRefused, IsTold};
 ghost use Rattle.command_line.specs.declared.Refused.TheVariants.{NoMemory};
 
 mod crew;
@@ -211,7 +211,7 @@ fn with_options<'a>(alloc: Global, command: Command<'a>) -> Result<Command<'a>, 
         ))?
         .arg(number(alloc, "ticks", "1000", ticks, "The last tick"))?
         .arg(table(alloc))?
-        .arg(trace(alloc))
+        .arg(flag(alloc, "trace", "Write only turns with an external action"))
 }
 
 // The options of what workers simulate.
@@ -234,6 +234,11 @@ fn with_crew<'a>(alloc: Global, command: Command<'a>) -> Result<Command<'a>, All
             "64",
             budgets,
             "How many entries a worker processes of a component at a time",
+        ))?
+        .arg(flag(
+            alloc,
+            "stats",
+            "Tell on standard error what the workers did",
         ))
 }
 
@@ -264,14 +269,14 @@ fn table<'a>(alloc: Global) -> Arg<'a>
         .help("The file of a table of turns; seed, stream and gap are then not used")
 }
 
-fn trace<'a>(alloc: Global) -> Arg<'a>
-    ensures rule { rule_of result ≡ trace_rule }
+fn flag<'a>(alloc: Global, name: &'a str, help: &'a str) -> Arg<'a>
+    ensures rule { rule_of result ≡ flag_rule name.now }
     ensures local { result.global ≡ false }
 {
-    Arg::new(alloc, "trace")
-        .long("trace")
+    Arg::new(alloc, name)
+        .long(name)
         .action(ArgAction::SetTrue)
-        .help("Write only turns with an external action")
+        .help(help)
 }
 
 fn file<'a>(alloc: Global, name: &'a str, help: &'a str) -> Arg<'a>
@@ -341,7 +346,7 @@ fn options_of<'a>(found: &ArgMatches<'a>) -> Option<Options<'a>>
     })
 }
 
-// The workers and how far each runs ahead, each number in its range.
+// The workers, each number in its range.
 fn crew_of(found: &ArgMatches) -> Option<Crew>
     ensures { MatchOption result ((c : CrewValue) → HasCrew (rows_of (found_of found.now)) c → ⊥) (HasCrew (rows_of (found_of found.now))) }
 {
@@ -350,6 +355,7 @@ fn crew_of(found: &ArgMatches) -> Option<Crew>
     Some(Crew {
         workers: workers as u16,
         budget: budget as u32,
+        stats: is_set(found, "stats"),
     })
 }
 

@@ -10,7 +10,7 @@ use Rattle.commands.specs.declared.fault.CheckFault.TheVariants as fault
 use Rattle.commands.specs.Judged.{IsJudged, IsUnjudged}
 use Rattle.commands.specs.Refusals.{check_number, check_place}
 use Rattle.service.specs.declared.report.Report.{Report}
-use Rattle.service.specs.declared.report.Report.TheVariants.{Done, No, Driven, Refused, Fault, Misused}
+use Rattle.service.specs.declared.report.Report.TheVariants.{Done, No, Driven, Ran, Refused, Fault, Misused}
 use Rattle.service.specs.Checks.{HasBoth, IsCheckReport, IsNo, IsVerdictOn, IsYes, verdict_report}
 use Rattle.service.specs.Compositions.{HasNoPlan, HasPlan}
 use Rattle.service.specs.Reports.{report_of}
@@ -22,6 +22,7 @@ module _ (has : List ℕ → List ℕ → Type 0) (lacks : List ℕ → Type 0) 
   unchecked_whole Done k h = absurd h
   unchecked_whole No k h = absurd h
   unchecked_whole (Driven refused) k h = absurd h
+  unchecked_whole (Ran stats) k h = absurd h
   unchecked_whole (Refused n p) k h = (inl h, k)
   unchecked_whole (Fault n) k h = inl (inl h, k)
   unchecked_whole Misused k h = absurd h

@@ -1,6 +1,6 @@
 -- Reports on runs by workers, put together.
 use Rattle.std.proofs.Common.{◌≡◌, ◌⊎◌, inl, inr, ℕ, List, refl}
-use Rattle.std.specs.Prelude.{Option, None}
+use Rattle.std.specs.Prelude.{Bool, true, false, Option, None}
 use Rattle.plans.specs.declared.plan.Plan.{Plan}
 use Rattle.plans.specs.Plans.{composition}
 use Rattle.task_seed.specs.Turning.{System}
@@ -13,30 +13,39 @@ use Rattle.command_line.specs.declared.Options.{Options}
 use Rattle.workers.specs.declared.fault.RunFault.{RunFault}
 use Rattle.workers.specs.declared.fault.RunFault.TheVariants as fault
 use Rattle.workers.specs.Refusals.{run_number}
-use Rattle.workers.specs.Runs.{IsUnfinished}
+use Rattle.workers.specs.declared.stats.Stats.{Stats}
+use Rattle.workers.specs.Runs.{IsUnfinished, IsWhole}
 use Rattle.service.specs.declared.report.Report.{Report}
 use Rattle.service.specs.declared.report.Report.TheVariants.{Misused}
-use Rattle.service.specs.Crews.{IsCrewReport, IsRunFileReport}
+use Rattle.service.specs.Crews.{IsCrewReport, IsRunFileReport, done}
 use Rattle.service.specs.Drives.{IsTurnsReport}
 use Rattle.service.specs.Parts.{IsMemory}
 use Rattle.service.specs.Reports.{report_of}
 use Rattle.service.specs.Simulations.{HasBadTable, HasTurns, LacksTable, lines_for, table_of}
 
-module _ (has : List ℕ → List ℕ → Type 0) (lacks : List ℕ → Type 0) (source : List ℕ) (options : Options) (kept : Type 0) (wrote : List ℕ → Type 0) (cut : List ℕ → ℕ → Type 0) where
+module _ (has : List ℕ → List ℕ → Type 0) (lacks : List ℕ → Type 0) (source : List ℕ) (options : Options) (stats : Bool) (kept : Type 0) (wrote : List ℕ → Type 0) (cut : List ℕ → ℕ → Type 0) where
   abbrev ends : Plan → System → Report → Type 0
-  ends p s = IsCrewReport p s (lines_for options.trace) kept wrote cut
+  ends p s = IsCrewReport p s (lines_for options.trace) stats kept wrote cut
 
   -- what is asked for isn't a misuse of words
-  pub run_not_misused : IsRunFileReport has lacks source options kept wrote cut Misused → ⊥
+  pub run_not_misused : IsRunFileReport has lacks source options stats kept wrote cut Misused → ⊥
   run_not_misused (inl h) = absurd h.0
   run_not_misused (inr h) = go h.holds where
     go : IsTurnsReport (HasTurns has (composition h.plan) options (table_of options)) (HasBadTable has (composition h.plan) options) (λ n. IsMemory n ⊎ LacksTable has lacks options n) options kept (ends h.plan) Misused → ⊥
     go (inl given) = absurd given.holds
     go (inr none) = absurd none.0
 
-module _ {W : Type 0} (known : W → Option (List ℕ)) (old new : Counted W) (plan : Plan) (system : System) (lines : Lines) (kept : Type 0) where
+module _ {W : Type 0} (known : W → Option (List ℕ)) (old new : Counted W) (plan : Plan) (system : System) (lines : Lines) (stats : Bool) (kept : Type 0) where
+  -- a run that is done
+  pub done_reported : (counts : Stats) → IsWhole plan system lines (IsWritten known old new) counts.turns → IsCrewReport plan system lines stats kept (IsWritten known old new) (IsStopped known old new) (done stats counts)
+  done_reported counts whole = go stats refl
+    where
+      go : (b : Bool) → stats ≡ b → IsCrewReport plan system lines stats kept (IsWritten known old new) (IsStopped known old new) (done b counts)
+      go true is = (is, whole)
+      go false is = (is, record { count = counts.turns; whole = whole })
+
   -- a run that ended early
-  pub unfinished_reported : (e : RunFault) → IsUnfinished plan system lines (IsWritten known old new) (Stops known old new 0) e → IsCrewReport plan system lines kept (IsWritten known old new) (IsStopped known old new) (report_of (run_number e) None)
+  pub unfinished_reported : (e : RunFault) → IsUnfinished plan system lines (IsWritten known old new) (Stops known old new 0) e → IsCrewReport plan system lines stats kept (IsWritten known old new) (IsStopped known old new) (report_of (run_number e) None)
   unfinished_reported fault.NoMemory left = inl (inl refl, inr left)
   unfinished_reported (fault.Meeting OtherSetup) left = inl (inr (inl refl), inr left)
   unfinished_reported (fault.Meeting Stranger) left = inl (inr (inr (inl refl)), inr left)

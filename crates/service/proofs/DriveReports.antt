@@ -25,7 +25,7 @@ use Rattle.commands.specs.declared.fault.DriveFault.TheVariants as fault
 use Rattle.commands.specs.Driven.{IsDriven, IsUndriven}
 use Rattle.commands.specs.Refusals.{drive_number}
 use Rattle.service.specs.declared.report.Report.{Report}
-use Rattle.service.specs.declared.report.Report.TheVariants.{Done, No, Driven, Refused, Fault, Misused}
+use Rattle.service.specs.declared.report.Report.TheVariants.{Misused}
 use Rattle.service.specs.Compositions.{HasPlan}
 use Rattle.service.specs.Drives.{HasPlanWith, IsDrivenBy, IsDriveReport, IsStepsReport, IsTurnsReport}
 use Rattle.service.specs.Parts.{IsMemory}

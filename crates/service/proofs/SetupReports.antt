@@ -29,7 +29,7 @@ use Rattle.task_seed.specs.declared.table_turns.TableTurnsError.TheVariants as t
 use Rattle.task_seed.specs.declared.turns.Turn.{Turn}
 use Rattle.command_line.specs.declared.Options.{Options}
 use Rattle.service.specs.declared.report.Report.{Report}
-use Rattle.service.specs.declared.report.Report.TheVariants.{Done, No, Driven, Refused, Fault, Misused}
+use Rattle.service.specs.declared.report.Report.TheVariants.{Done, No, Driven, Ran, Refused, Fault, Misused}
 use Rattle.service.specs.Drives.{HasNoTurns}
 use Rattle.service.specs.Parts.{IsMemory}
 use Rattle.service.specs.Reports.{report_of}
@@ -62,6 +62,7 @@ pub refusal_otherwise : (Bad Other : ℕ → Option ℕ → Type 0) (Lacks Wants
 refusal_otherwise Bad Other Lacks Wants f g Done r = absurd r
 refusal_otherwise Bad Other Lacks Wants f g No r = absurd r
 refusal_otherwise Bad Other Lacks Wants f g (Driven refused) r = absurd r
+refusal_otherwise Bad Other Lacks Wants f g (Ran stats) r = absurd r
 refusal_otherwise Bad Other Lacks Wants f g (Refused n p) r = f n p r
 refusal_otherwise Bad Other Lacks Wants f g (Fault n) r = g n r
 refusal_otherwise Bad Other Lacks Wants f g Misused r = absurd r
@@ -168,6 +169,7 @@ module _ (has : List ℕ → List ℕ → Type 0) (lacks : List ℕ → Type 0) 
   no_setup Done r = absurd r
   no_setup No r = absurd r
   no_setup (Driven refused) r = absurd r
+  no_setup (Ran stats) r = absurd r
   no_setup (Refused n p) (inl bad) = go (table_of options) refl bad where
     go : (t : Option (List ℕ)) → table_of options ≡ t → AreRefused has parts options t n p → HasBadTable has parts options n p ⊎ IsBadOption options n p
     go None none gap = inr (gap.place_is, inl (gap.number_is, gap.outside))

@@ -10,7 +10,7 @@ use Rattle.task_seed.specs.declared.setup.Setup.{Setup}
 use Rattle.trace.specs.declared.lines.Lines.{Lines}
 use Rattle.command_line.specs.declared.Options.{Options}
 use Rattle.service.specs.declared.report.Report.{Report}
-use Rattle.service.specs.declared.report.Report.TheVariants.{Done, No, Driven, Refused, Fault, Misused}
+use Rattle.service.specs.declared.report.Report.TheVariants.{Done, No, Driven, Ran, Refused, Fault, Misused}
 use Rattle.service.specs.Compositions.{HasNoPlan, HasPlan}
 use Rattle.service.specs.Drives.{HasNoTurns}
 use Rattle.service.specs.Parts.{IsMemory, IsSimulationReport}
@@ -24,6 +24,7 @@ module _ (has : List ℕ → List ℕ → Type 0) (lacks : List ℕ → Type 0) 
   unsimulated_whole Done k h = absurd h
   unsimulated_whole No k h = absurd h
   unsimulated_whole (Driven refused) k h = absurd h
+  unsimulated_whole (Ran stats) k h = absurd h
   unsimulated_whole (Refused n p) k h = (inl h, k)
   unsimulated_whole (Fault n) k h = inl (inl h, k)
   unsimulated_whole Misused k h = absurd h
@@ -34,6 +35,7 @@ module _ (has : List ℕ → List ℕ → Type 0) (lacks : List ℕ → Type 0) 
     unturned_whole Done k h = absurd h
     unturned_whole No k h = absurd h
     unturned_whole (Driven refused) k h = absurd h
+    unturned_whole (Ran stats) k h = absurd h
     unturned_whole (Refused n p) k (inl bad) = (inr (inl (record { plan = plan; meant = meant; holds = bad })), k)
     unturned_whole (Refused n p) k (inr bad) = (inr (inr bad), k)
     unturned_whole (Fault n) k (inl one) = inl (inl (inl one), k)
@@ -48,6 +50,7 @@ module _ (has : List ℕ → List ℕ → Type 0) (lacks : List ℕ → Type 0) 
     turned_whole s turns Done r = record { plan = plan; meant = meant; system = s; turns = turns; simulated = r }
     turned_whole s turns No r = absurd r
     turned_whole s turns (Driven refused) r = absurd r
+    turned_whole s turns (Ran stats) r = absurd r
     turned_whole s turns (Refused n p) r = absurd r
     turned_whole s turns (Fault n) (inl one) = inr (inl (record { number_is = one.0; plan = plan; meant = meant; system = s; turns = turns; begun = one.1 }))
     turned_whole s turns (Fault n) (inr r) = inr (inr (record { number_is = r.number_is; written = r.written; stopped = record { plan = plan; meant = meant; system = s; turns = turns; simulated = r.stopped } }))

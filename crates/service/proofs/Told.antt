@@ -5,7 +5,7 @@ use Rattle.command_line.specs.declared.Asked.{Asked}
 use Rattle.command_line.specs.declared.Asked.TheVariants as asked
 use Rattle.trace.specs.declared.counted.Counted.{Counted}
 use Rattle.service.specs.declared.report.Report.{Report}
-use Rattle.service.specs.declared.report.Report.TheVariants.{Done, No, Driven, Refused, Fault, Misused}
+use Rattle.service.specs.declared.report.Report.TheVariants.{Done, No, Driven, Ran, Refused, Fault, Misused}
 use Rattle.service.specs.Reports.{IsReportOn, line_of}
 use Rattle.service.specs.Told.{IsTold, IsWarned}
 use Rattle.service.proofs.CrewReports.{run_not_misused}
@@ -19,11 +19,12 @@ module _ {E : Type 0} (known : E → Option (List ℕ)) where
   asked_not_warned has lacks kept wrote cut old what Done on = refl
   asked_not_warned has lacks kept wrote cut old what No on = refl
   asked_not_warned has lacks kept wrote cut old what (Driven refused) on = refl
+  asked_not_warned has lacks kept wrote cut old what (Ran stats) on = refl
   asked_not_warned has lacks kept wrote cut old what (Refused number place) on = refl
   asked_not_warned has lacks kept wrote cut old what (Fault number) on = refl
   asked_not_warned has lacks kept wrote cut old (asked.Print source) Misused on = absurd on
   asked_not_warned has lacks kept wrote cut old (asked.Reference source options) Misused on = absurd on
-  asked_not_warned has lacks kept wrote cut old (asked.Run source options crew) Misused on = absurd (run_not_misused has lacks source.now options kept wrote cut on)
+  asked_not_warned has lacks kept wrote cut old (asked.Run source options crew) Misused on = absurd (run_not_misused has lacks source.now options crew.stats kept wrote cut on)
   asked_not_warned has lacks kept wrote cut old (asked.Check source trace) Misused on = absurd on
   asked_not_warned has lacks kept wrote cut old (asked.Drive source steps options) Misused on = absurd (drive_not_misused has lacks source.now steps.now options kept wrote cut on)
 
@@ -33,6 +34,7 @@ module _ {E : Type 0} (known : E → Option (List ℕ)) where
   told old between new Done warned said quiet = quiet (inl refl) ∙ warned
   told old between new No warned said quiet = quiet (inr (inl refl)) ∙ warned
   told old between new (Driven refused) warned said quiet = subst (λ (c : Counted E). IsSaid known c new (line_of (Driven refused))) warned said
+  told old between new (Ran stats) warned said quiet = subst (λ (c : Counted E). IsSaid known c new (line_of (Ran stats))) warned said
   told old between new (Refused number place) warned said quiet = subst (λ (c : Counted E). IsSaid known c new (line_of (Refused number place))) warned said
   told old between new (Fault number) warned said quiet = subst (λ (c : Counted E). IsSaid known c new (line_of (Fault number))) warned said
   told old between new Misused warned said quiet = record { text = warned.text; some = warned.some; became = subst (λ (c : Counted E). IsSaid known old c warned.text) (sym (quiet (inr (inr refl)))) warned.became }

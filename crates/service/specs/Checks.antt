@@ -8,7 +8,7 @@ use Rattle.trace.specs.Refusals.{trace_number, trace_place}
 use Rattle.trace.specs.TraceFile.{IsTraceFault}
 use Rattle.commands.specs.Judged.{IsJudged}
 use Rattle.service.specs.declared.report.Report.{Report}
-use Rattle.service.specs.declared.report.Report.TheVariants.{Done, No, Driven, Refused, Fault, Misused}
+use Rattle.service.specs.declared.report.Report.TheVariants.{Done, No, Driven, Ran, Refused, Fault, Misused}
 use Rattle.service.specs.Compositions.{HasBadSource, HasPlan}
 use Rattle.service.specs.Unread.{HasSmall, IsFileFault, IsUnread}
 
@@ -68,6 +68,7 @@ abbrev pub IsCheckReport : (List ℕ → List ℕ → Type 0) → (List ℕ → 
 IsCheckReport has lacks source trace kept wrote cut Done = HasBoth has source trace (IsVerdictOn IsYes wrote)
 IsCheckReport has lacks source trace kept wrote cut No = HasBoth has source trace (IsVerdictOn IsNo wrote)
 IsCheckReport has lacks source trace kept wrote cut (Driven refused) = ⊥
+IsCheckReport has lacks source trace kept wrote cut (Ran stats) = ⊥
 IsCheckReport has lacks source trace kept wrote cut (Refused number place) = (HasBadSource (has source) number place ⊎ HasBoth has source trace (HasBadLine IsTraceFault number place)) × kept
 IsCheckReport has lacks source trace kept wrote cut (Fault number) = ((IsUnread (lacks source) number ⊎ LacksTrace has lacks source trace number) × kept) ⊎ IsCheckCut has source trace cut number
 IsCheckReport has lacks source trace kept wrote cut Misused = ⊥

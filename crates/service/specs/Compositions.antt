@@ -5,7 +5,7 @@ use Rattle.compose.specs.declared.source_error.SourceError.{SourceError}
 use Rattle.compose.specs.Composed.{IsComposed, IsRefused}
 use Rattle.compose.specs.Refusals.{source_number, source_place}
 use Rattle.service.specs.declared.report.Report.{Report}
-use Rattle.service.specs.declared.report.Report.TheVariants.{Done, No, Driven, Refused, Fault, Misused}
+use Rattle.service.specs.declared.report.Report.TheVariants.{Done, No, Driven, Ran, Refused, Fault, Misused}
 use Rattle.service.specs.Unread.{IsUnread}
 
 -- the file has a source that means this plan
@@ -29,6 +29,7 @@ abbrev pub HasNoPlan : (List ℕ → Type 0) → Type 0 → Report → Type 0
 HasNoPlan has lacks Done = ⊥
 HasNoPlan has lacks No = ⊥
 HasNoPlan has lacks (Driven refused) = ⊥
+HasNoPlan has lacks (Ran stats) = ⊥
 HasNoPlan has lacks (Refused number place) = HasBadSource has number place
 HasNoPlan has lacks (Fault number) = IsUnread lacks number
 HasNoPlan has lacks Misused = ⊥

@@ -11,7 +11,7 @@ use Rattle.command_line.specs.declared.Options.{Options}
 use Rattle.commands.specs.declared.driving.RefusedStep.{RefusedStep}
 use Rattle.commands.specs.Driven.{IsDriven}
 use Rattle.service.specs.declared.report.Report.{Report}
-use Rattle.service.specs.declared.report.Report.TheVariants.{Done, No, Driven, Refused, Fault, Misused}
+use Rattle.service.specs.declared.report.Report.TheVariants.{Done, No, Driven, Ran, Refused, Fault, Misused}
 use Rattle.service.specs.Checks.{HasBadLine}
 use Rattle.service.specs.Compositions.{HasNoPlan, HasPlan}
 use Rattle.service.specs.Parts.{IsMemory}
@@ -40,6 +40,7 @@ abbrev pub IsStepsReport : (List ℕ → Type 0) → Type 0 → Plan → System 
 IsStepsReport has lacks plan system lines kept wrote cut Done = ⊥
 IsStepsReport has lacks plan system lines kept wrote cut No = ⊥
 IsStepsReport has lacks plan system lines kept wrote cut (Driven refused) = HasSmall has (IsDrivenBy plan system lines wrote refused.items)
+IsStepsReport has lacks plan system lines kept wrote cut (Ran stats) = ⊥
 IsStepsReport has lacks plan system lines kept wrote cut (Refused number place) = HasSmall has (HasBadLine IsStepsFault number place plan) × kept
 IsStepsReport has lacks plan system lines kept wrote cut (Fault number) = (IsFileFault has lacks number × kept) ⊎ IsDriveCut has plan system lines cut number
 IsStepsReport has lacks plan system lines kept wrote cut Misused = ⊥
@@ -55,6 +56,7 @@ abbrev pub HasNoTurns : (ℕ → Option ℕ → Type 0) → (ℕ → Type 0) →
 HasNoTurns Bad Lacks options Done = ⊥
 HasNoTurns Bad Lacks options No = ⊥
 HasNoTurns Bad Lacks options (Driven refused) = ⊥
+HasNoTurns Bad Lacks options (Ran stats) = ⊥
 HasNoTurns Bad Lacks options (Refused number place) = Bad number place ⊎ IsBadOption options number place
 HasNoTurns Bad Lacks options (Fault number) = Lacks number
 HasNoTurns Bad Lacks options Misused = ⊥

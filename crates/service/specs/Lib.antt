@@ -1,5 +1,6 @@
 pub mod Checks
 pub mod Compositions
+pub mod Counts
 pub mod Crews
 pub mod Drives
 pub mod Parts

@@ -5,7 +5,7 @@ use Rattle.task_seed.specs.Turning.{System}
 use Rattle.trace.specs.declared.lines.Lines.{Lines}
 use Rattle.commands.specs.Simulated.{IsSimulated, IsSimulatedInPart}
 use Rattle.service.specs.declared.report.Report.{Report}
-use Rattle.service.specs.declared.report.Report.TheVariants.{Done, No, Driven, Refused, Fault, Misused}
+use Rattle.service.specs.declared.report.Report.TheVariants.{Done, No, Driven, Ran, Refused, Fault, Misused}
 
 -- want of memory alone
 abbrev pub IsMemory : ℕ → Type 0
@@ -25,6 +25,7 @@ abbrev pub IsSimulationReport : Plan → System → Lines → (List ℕ → Type
 IsSimulationReport plan system lines wrote cut Done = IsSimulated plan system lines wrote
 IsSimulationReport plan system lines wrote cut No = ⊥
 IsSimulationReport plan system lines wrote cut (Driven refused) = ⊥
+IsSimulationReport plan system lines wrote cut (Ran stats) = ⊥
 IsSimulationReport plan system lines wrote cut (Refused number place) = ⊥
 IsSimulationReport plan system lines wrote cut (Fault number) =
     (IsMemory number × IsSimulatedInPart plan system lines wrote)

@@ -5,9 +5,10 @@ use Rattle.command_line.specs.declared.Asked.{Asked}
 use Rattle.command_line.specs.declared.Asked.TheVariants as asked
 use Rattle.command_line.specs.Words.{AskNothing, HasFault, IsAsked, IsWrong, version_text}
 use Rattle.service.specs.declared.report.Report.{Report}
-use Rattle.service.specs.declared.report.Report.TheVariants.{Done, No, Driven, Refused, Fault, Misused}
+use Rattle.service.specs.declared.report.Report.TheVariants.{Done, No, Driven, Ran, Refused, Fault, Misused}
 use Rattle.commands.specs.declared.driving.RefusedStep.{RefusedStep}
 use Rattle.service.specs.Checks.{IsCheckReport}
+use Rattle.service.specs.Counts.{stats_text}
 use Rattle.service.specs.Crews.{IsRunFileReport}
 use Rattle.service.specs.Drives.{IsDriveReport}
 use Rattle.service.specs.Unread.{IsUnread}
@@ -19,6 +20,7 @@ abbrev pub status_of : Report → ℕ
 status_of Done = 0
 status_of No = 4
 status_of (Driven refused) = 0
+status_of (Ran stats) = 0
 status_of (Refused number place) = 1
 status_of (Fault number) = 3
 status_of Misused = 2
@@ -27,11 +29,12 @@ status_of Misused = 2
 abbrev pub refused_line : RefusedStep → List ℕ
 refused_line refused = codes "step " ++ decimal refused.step ++ codes " refused " ++ decimal refused.number ++ codes "\n"
 
--- the line on standard error, with its line feed; a line for each refused step; nothing where all is done, and nothing after what was said of wrong words
+-- the line on standard error, with its line feed; a line for each refused step, and for each count of what workers did; nothing where all is done, and nothing after what was said of wrong words
 abbrev pub line_of : Report → List ℕ
 line_of Done = []
 line_of No = []
 line_of (Driven refused) = flat_map refused_line refused.items
+line_of (Ran stats) = stats_text stats
 line_of (Refused number None) = codes "refused " ++ decimal number ++ codes "\n"
 line_of (Refused number (Some place)) = codes "refused " ++ decimal number ++ codes " at " ++ decimal place ++ codes "\n"
 line_of (Fault number) = codes "fault " ++ decimal number ++ codes "\n"
@@ -61,6 +64,7 @@ abbrev pub IsPrintReport : (List ℕ → Type 0) → Type 0 → Type 0 → (List
 IsPrintReport has lacks kept wrote cut Done = IsSourceWith has (λ source. IsPrinted source wrote)
 IsPrintReport has lacks kept wrote cut No = ⊥
 IsPrintReport has lacks kept wrote cut (Driven refused) = ⊥
+IsPrintReport has lacks kept wrote cut (Ran stats) = ⊥
 IsPrintReport has lacks kept wrote cut (Refused number place) = IsSourceWith has (λ source. IsRefusedSource source number place) × kept
 IsPrintReport has lacks kept wrote cut (Fault number) = (IsUnread lacks number × kept) ⊎ IsPrintCut has cut number
 IsPrintReport has lacks kept wrote cut Misused = ⊥
@@ -69,7 +73,7 @@ IsPrintReport has lacks kept wrote cut Misused = ⊥
 abbrev pub IsReportOn : Asked → (List ℕ → List ℕ → Type 0) → (List ℕ → Type 0) → Type 0 → (List ℕ → Type 0) → (List ℕ → ℕ → Type 0) → Report → Type 0
 IsReportOn (asked.Print source) has lacks = IsPrintReport (has source.now) (lacks source.now)
 IsReportOn (asked.Reference source options) has lacks = IsSimulateReport has lacks source.now options
-IsReportOn (asked.Run source options crew) has lacks = IsRunFileReport has lacks source.now options
+IsReportOn (asked.Run source options crew) has lacks = IsRunFileReport has lacks source.now options crew.stats
 IsReportOn (asked.Check source trace) has lacks = IsCheckReport has lacks source.now trace.now
 IsReportOn (asked.Drive source steps options) has lacks = IsDriveReport has lacks source.now steps.now options
 
@@ -105,6 +109,7 @@ abbrev pub IsUnserved : List (List ℕ) → Type 0 → (List ℕ → Type 0) →
 IsUnserved words kept wrote cut Done = IsInformed words wrote
 IsUnserved words kept wrote cut No = ⊥
 IsUnserved words kept wrote cut (Driven refused) = ⊥
+IsUnserved words kept wrote cut (Ran stats) = ⊥
 IsUnserved words kept wrote cut (Refused number place) = ⊥
 IsUnserved words kept wrote cut (Fault number) = ((number ≡ 1) × kept) ⊎ IsInformedCut words cut number
 IsUnserved words kept wrote cut Misused = (IsWrong words ⊎ AskNothing words) × kept

@@ -12,7 +12,7 @@ use Rattle.task_seed.specs.Setups.{plan_of, system}
 use Rattle.task_seed.specs.Turning.{System}
 use Rattle.command_line.specs.declared.Options.{Options}
 use Rattle.service.specs.declared.report.Report.{Report}
-use Rattle.service.specs.declared.report.Report.TheVariants.{Done, No, Driven, Refused, Fault, Misused}
+use Rattle.service.specs.declared.report.Report.TheVariants.{Done, No, Driven, Ran, Refused, Fault, Misused}
 use Rattle.service.specs.Simulations.{HasTurns, IsTabled, system_with, table_of}
 use Rattle.service.specs.Tables.{IsRefused}
 use Rattle.service.specs.Unread.{HasSmall, IsFileFault}
@@ -38,6 +38,7 @@ abbrev pub IsRefusal : (ℕ → Option ℕ → Type 0) → (ℕ → Type 0) → 
 IsRefusal Bad Lacks Done = ⊥
 IsRefusal Bad Lacks No = ⊥
 IsRefusal Bad Lacks (Driven refused) = ⊥
+IsRefusal Bad Lacks (Ran stats) = ⊥
 IsRefusal Bad Lacks (Refused number place) = Bad number place
 IsRefusal Bad Lacks (Fault number) = Lacks number
 IsRefusal Bad Lacks Misused = ⊥

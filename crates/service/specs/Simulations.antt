@@ -13,7 +13,7 @@ use Rattle.trace.specs.declared.lines.Lines.TheVariants.{All, Trace}
 use Rattle.command_line.specs.declared.Options.{Options}
 use Rattle.commands.specs.Simulated.{IsSimulated, IsSimulatedInPart}
 use Rattle.service.specs.declared.report.Report.{Report}
-use Rattle.service.specs.declared.report.Report.TheVariants.{Done, No, Driven, Refused, Fault, Misused}
+use Rattle.service.specs.declared.report.Report.TheVariants.{Done, No, Driven, Ran, Refused, Fault, Misused}
 use Rattle.service.specs.Compositions.{HasBadSource, HasPlan}
 use Rattle.service.specs.Unread.{HasSmall, IsFileFault, IsUnread}
 use Rattle.service.specs.Tables.{AreSound, IsRefused, Spells}
@@ -103,6 +103,7 @@ abbrev pub IsSimulateReport : (List ℕ → List ℕ → Type 0) → (List ℕ �
 IsSimulateReport has lacks source options kept wrote cut Done = Simulates has source options wrote
 IsSimulateReport has lacks source options kept wrote cut No = ⊥
 IsSimulateReport has lacks source options kept wrote cut (Driven refused) = ⊥
+IsSimulateReport has lacks source options kept wrote cut (Ran stats) = ⊥
 IsSimulateReport has lacks source options kept wrote cut (Refused number place) = (HasBadSource (has source) number place ⊎ (Means (has source) (λ c. HasBadTable has c options number place) ⊎ IsBadOption options number place)) × kept
 IsSimulateReport has lacks source options kept wrote cut (Fault number) =
     ((IsUnread (lacks source) number

@@ -1,6 +1,7 @@
 //! What the program `warp` answers to its words, over files and writers of any kind.
 #![tactic(auto)]
 
+mod counts;
 pub mod driving;
 pub mod fault;
 pub mod files;

@@ -4,11 +4,13 @@ ghost use Rattle.service.specs.Reports.{is_fault, line_of, refused_line, report_
 ghost use Rattle.trace.specs.Went.{IsWritten};
 ghost use Rattle.service.specs.Written.{IsCut, IsSaid};
 
+use crate::counts::write_stats;
 use crate::writing::{write_line, write_number};
 use commands::RefusedStep;
 use std::io::Write;
 use terms::Refusal;
 use trace::{Counted, WriteFault};
+use workers::Stats;
 
 /// How a call of the program ended.
 #[derive(Debug, PartialEq, Eq, Drop)]
@@ -19,6 +21,8 @@ pub enum Report {
     No,
     /// All steps of a file were done or refused, these ones refused, and the committed turns stand on standard output.
     Driven(Vec<RefusedStep>),
+    /// `run` is done, and what the workers did is told.
+    Ran(Stats),
     /// A file was refused, with the refusal's number and its place, where it has one.
     Refused(u8, Option<usize>),
     /// A run fault, or a file that couldn't be read: 1 for want of memory, 40 and 41 for a refused lease, 60 for a failed write, 61 for a
@@ -34,7 +38,7 @@ impl Report {
         ensures { result ≡ status_of self.now }
     {
         match self {
-            Report::Done | Report::Driven(_) => 0,
+            Report::Done | Report::Driven(_) | Report::Ran(_) => 0,
             Report::Refused(_, _) => 1,
             Report::Misused => 2,
             Report::Fault(_) => 3,
@@ -42,7 +46,7 @@ impl Report {
         }
     }
 
-    /// Writes the line of a report, if it has one, or one for each refused step, up to the first write that fails.
+    /// Writes the line of a report, if it has one, or one for each refused step or each count, up to the first write that fails.
     pub fn tell<E: Write>(&self, err: &mut Counted<E>)
         ensures said { IsSaid E.contents err.old err.new (line_of self.now) }
         ensures quiet { (self.now ≡ Report.Done) ⊎ ((self.now ≡ Report.No) ⊎ (self.now ≡ Report.Misused)) → err.new ≡ err.old }
@@ -51,6 +55,9 @@ impl Report {
             Report::Done | Report::No | Report::Misused => {}
             Report::Driven(refused) => {
                 let _ = write_steps(refused.as_slice(), err);
+            }
+            Report::Ran(stats) => {
+                let _ = write_stats(stats, err);
             }
             Report::Refused(number, Some(place)) => {
                 let _ = write_refused(u64::from(*number), *place as u64, err);

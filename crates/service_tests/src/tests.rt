@@ -132,7 +132,7 @@ const TURNS: &str = "1 1 0 idle\n2 0 0 pass(1)\n3 1 1 pass(0)\n4 0 1 pass(1)\n";
 const CUT: &str = "1 1 0 idle\n2 0 0 pass(1)\n3 1 1 pass(0)\n4 0 1 pass(1)";
 
 // Words on the ring and its table: runs, references and prints with little room, help and the version, also where these are cut.
-const SERVED: [Row; 26] = [
+const SERVED: [Row; 29] = [
     (
         "run source --table table --workers 3",
         53,
@@ -162,6 +162,28 @@ const SERVED: [Row; 26] = [
         3,
     ),
     ("run source --table table", 0, Is(""), Is("fault 60\n"), 3),
+    (
+        "run source --table table --stats",
+        53,
+        Is(TURNS),
+        Has("turns: 4\n"),
+        0,
+    ),
+    // Four turns, and a message of each of the three that passed.
+    (
+        "run source --stats --table table --workers 1",
+        53,
+        Is(TURNS),
+        Has("\nkept: 7\n"),
+        0,
+    ),
+    (
+        "run source --table table --stats",
+        52,
+        Is(CUT),
+        Is("fault 60\n"),
+        3,
+    ),
     ("reference source --table table", 53, Is(TURNS), Is(""), 0),
     (
         "reference source --table table",
@@ -210,7 +232,7 @@ const SERVED: [Row; 26] = [
 ];
 
 // Words that are wrong, and a part of what is said then.
-const REFUSED: [(&str, &str); 22] = [
+const REFUSED: [(&str, &str); 23] = [
     ("", "Usage: warp <COMMAND>"),
     ("run", "<F>"),
     ("print", "<F>"),
@@ -230,6 +252,7 @@ const REFUSED: [(&str, &str); 22] = [
     ("run a --workers 0", "--workers"),
     ("run a --budget 65536", "65536"),
     ("reference a --workers 2", "--workers"),
+    ("reference a --stats", "--stats"),
     ("-- print a", ""),
     ("drive a", "drive"),
     ("drive a b --gap 0", "--gap"),

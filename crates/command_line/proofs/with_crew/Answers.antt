@@ -13,4 +13,5 @@ returns c =
     let crew = c.number.ensures.rule ∙ ap (number_rule (codes "workers") (codes "2")) workers in
     let budget = c.number-2.ensures.rule ∙ ap (number_rule (codes "budget") (codes "64")) budgets in
     let one = c.in_ok-arg.ensures.shape c.number.ensures.local ∙ ap (with_rule bare) crew in
-    IfOk-weaker c.arg-2.result _ _ (λ made h. h.shape c.number-2.ensures.local ∙ (λ i. with_rule (one i) (budget i))) c.arg-2.ensures
+    let two = c.in_ok-arg-2.ensures.shape c.number-2.ensures.local ∙ (λ i. with_rule (one i) (budget i)) in
+    IfOk-weaker c.arg-3.result _ _ (λ made h. h.shape c.flag.ensures.local ∙ (λ i. with_rule (two i) (c.flag.ensures.rule i))) c.arg-3.ensures

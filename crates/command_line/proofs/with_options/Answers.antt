@@ -19,4 +19,4 @@ returns c =
     let three = c.in_ok-arg-3.ensures.shape c.number-3.ensures.local ∙ (λ i. with_rule (two i) (gap i)) in
     let four = c.in_ok-arg-4.ensures.shape c.number-4.ensures.local ∙ (λ i. with_rule (three i) (last i)) in
     let five = c.in_ok-arg-5.ensures.shape c.table.ensures.local ∙ (λ i. with_rule (four i) (c.table.ensures.rule i)) in
-    IfOk-weaker c.arg-6.result _ _ (λ made h. h.shape c.trace.ensures.local ∙ (λ i. with_rule (five i) (c.trace.ensures.rule i))) c.arg-6.ensures
+    IfOk-weaker c.arg-6.result _ _ (λ made h. h.shape c.flag.ensures.local ∙ (λ i. with_rule (five i) (c.flag.ensures.rule i))) c.arg-6.ensures
