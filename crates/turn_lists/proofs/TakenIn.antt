@@ -1,7 +1,7 @@
 -- Turns are put among those that are held.
-use Rattle.std.proofs.Common.{◌≡◌, ℕ, ◌<◌, ◌≤◌, Bool, true, false, None, Some, List, [], ◌∷◌, map, refl, ap, sym, subst, ◌∙◌, arith}
+use Rattle.std.proofs.Common.{◌≡◌, ℕ, ◌<◌, ◌≤◌, Bool, true, false, None, Some, List, [], ◌∷◌, ◌++◌, map, append_assoc, refl, ap, sym, subst, ◌∙◌, arith}
 use Rattle.std.specs.Prelude.{not, nat_lt}
-use Rattle.std.proofs.lemmas.Bool.{le-ltb, ltb-false}
+use Rattle.std.proofs.lemmas.Bool.{le-ltb, lt-ltb, ltb-false, ltb-true}
 use Rattle.terms.specs.Named.{Named}
 use Rattle.event_keys.specs.declared.outcome.Turned.{Turned}
 use Rattle.event_keys.specs.Ranks.{rank}
@@ -117,3 +117,79 @@ merging_next turns0 held0 t (x ∷ left) before after new_before new_after h p p
 pub merging_stops : (turns0 held0 : List (Turn Named)) (left before after : List Turned) → head left ≡ None → IsMerging turns0 held0 left before after → turns_of (onto before after) ≡ put_turns turns0 held0
 merging_stops turns0 held0 [] before after h p = merging_ends turns0 held0 before after p
 merging_stops turns0 held0 (x ∷ left) before after h p = cc
+
+-- no key is below k
+abbrev AllOver : ℕ → List (Turn Named) → Type 0
+AllOver k [] = Unit {0}
+AllOver k (u ∷ us) = (k ≤ u.key) × AllOver k us
+
+-- the first key, if there is one, is
+abbrev IsFirstUnder : ℕ → List (Turn Named) → Type 0
+IsFirstUnder k [] = Unit {0}
+IsFirstUnder k (u ∷ us) = u.key < k
+
+put_between : (t : Turn Named) (over us : List (Turn Named)) → AllOver t.key over → IsFirstUnder t.key us → put_turn t (over ++ us) ≡ over ++ (t ∷ us)
+put_between t [] [] o h = refl
+put_between t [] (u ∷ us) o h = rw (lt-ltb u.key t.key h) refl
+put_between t (a ∷ over) us o h = rw (le-ltb a.key t.key o.0) (ap (λ l. a ∷ l) (put_between t over us o.1 h))
+
+over_more : (k : ℕ) (t : Turn Named) (over : List (Turn Named)) → k ≤ t.key → AllOver k over → AllOver k (over ++ (t ∷ []))
+over_more k t [] l o = (l, tt)
+over_more k t (u ∷ over) l o = (o.0, over_more k t over l o.1)
+
+each_over : (t : Turn Named) (over left : List (Turn Named)) → AllBelow t.key left → Each (λ s. AllOver s.key over) left → Each (λ s. AllOver s.key (over ++ (t ∷ []))) left
+each_over t over [] f o = tt
+each_over t over (s ∷ left) f o = let low = f.0 in (over_more s.key t over (omega (arith, low)) o.0, each_over t over left f.1 o.1)
+
+puts_between : (left over us : List (Turn Named)) → Falls left → Each (λ t. AllOver t.key over) left → Each (λ t. IsFirstUnder t.key us) left → put_turns left (over ++ us) ≡ over ++ (left ++ us)
+puts_between [] over us f o h = refl
+puts_between (t ∷ left) over us f o h =
+    ap (put_turns left) (put_between t over us o.0 h.0 ∙ sym (append_assoc over (t ∷ []) us))
+    ∙ puts_between left (over ++ (t ∷ [])) us f.1 (each_over t over left f.0 o.1) h.1
+    ∙ append_assoc over (t ∷ []) (left ++ us)
+
+nothing_over : (ts : List (Turn Named)) → Each (λ t. AllOver t.key []) ts
+nothing_over [] = tt
+nothing_over (t ∷ ts) = (tt, nothing_over ts)
+
+falls_rest : (ts acc : List (Turn Named)) → Falls (onto ts acc) → Falls acc
+falls_rest [] acc f = f
+falls_rest (t ∷ ts) acc f = (falls_rest ts (t ∷ acc) f).1
+
+all_over : (k : ℕ) (ts : List (Turn Named)) (x : Turn Named) (acc : List (Turn Named)) → k ≤ x.key → AllOver k acc → Falls (onto ts (x ∷ acc)) → AllOver k (onto ts (x ∷ acc))
+all_over k [] x acc l o f = (l, o)
+all_over k (u ∷ ts) x acc l o f = let under = (falls_rest ts (u ∷ x ∷ acc) f).0.0 in all_over k ts u (x ∷ acc) (omega (arith, l, under)) (l, o) f
+
+higher : (k l : ℕ) (us : List (Turn Named)) → k ≤ l → IsFirstUnder k us → IsFirstUnder l us
+higher k l [] o h = tt
+higher k l (u ∷ us) o h = omega (arith, o, h)
+
+each_higher : (k : ℕ) (us left : List (Turn Named)) → IsFirstUnder k us → AllOver k left → Each (λ t. IsFirstUnder t.key us) left
+each_higher k us [] h o = tt
+each_higher k us (t ∷ left) h o = (higher k t.key us o.0 h, each_higher k us left h o.1)
+
+first_under : (k : ℕ) (xs : List Turned) → not (is_last_from k xs) ≡ true → IsFirstUnder k (map turn_of xs)
+first_under k [] h = tt
+first_under k (x ∷ xs) h = go (nat_lt (rank x.key) k) refl h
+  where
+    go : (b : Bool) → nat_lt (rank x.key) k ≡ b → not (not b) ≡ true → rank x.key < k
+    go true e n = ltb-true (rank x.key) k e
+    go false e n = cc
+
+onto_more : (xs ys zs : List (Turn Named)) → onto xs (ys ++ zs) ≡ onto xs ys ++ zs
+onto_more [] ys zs = refl
+onto_more (x ∷ xs) ys zs = onto_more xs (x ∷ ys) zs
+
+turned_more : (xs ys : List Turned) (acc : List (Turn Named)) → onto (map turn_of (xs ++ ys)) acc ≡ onto (map turn_of ys) (onto (map turn_of xs) acc)
+turned_more [] ys acc = refl
+turned_more (x ∷ xs) ys acc = turned_more xs ys (turn_of x ∷ acc)
+
+-- turns that are later than all that are held stand behind these
+pub later_stand : (first : Turned) (turns held : List Turned) → head turns ≡ Some first → not (is_last_from (rank first.key) (onto held [])) ≡ true → Falls (turns_of turns) → turns_of (held ++ turns) ≡ put_turns (turns_of turns) (turns_of held)
+later_stand first [] held there last falls = cc
+later_stand first (t ∷ ts) held there last falls =
+    let same : t ≡ first = cc in
+    let under : IsFirstUnder (rank t.key) (turns_of held) = subst (IsFirstUnder (rank t.key)) (map_onto held []) (first_under (rank t.key) (onto held []) (subst (λ (x : Turned). not (is_last_from (rank x.key) (onto held [])) ≡ true) (sym same) last)) in
+    let over : AllOver (rank t.key) (turns_of (t ∷ ts)) = all_over (rank t.key) (map turn_of ts) (turn_of t) [] (omega arith) tt falls in
+    turned_more held (t ∷ ts) [] ∙ onto_more (map turn_of (t ∷ ts)) [] (turns_of held)
+    ∙ sym (puts_between (turns_of (t ∷ ts)) [] (turns_of held) falls (nothing_over (turns_of (t ∷ ts))) (each_higher (rank t.key) (turns_of held) (turns_of (t ∷ ts)) under over))

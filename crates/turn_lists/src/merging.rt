@@ -1,5 +1,5 @@
 //! Two lists of turns, put together in the order of keys.
-ghost use Rattle.std.specs.Prelude.{◌≡◌, ◌≤◌, [], map};
+ghost use Rattle.std.specs.Prelude.{◌≡◌, ◌≤◌, [], map, not};
 ghost use Rattle.event_keys.specs.Ranks.{rank, rank_of_bound};
 ghost use Rattle.antimessage.specs.Counts.{Each};
 ghost use Rattle.virtual_time.specs.Reference.{Falls};
@@ -53,8 +53,20 @@ fn put(held: &mut EventList<Turned>, cell: EventCell<Turned>)
     held.pass_back();
 }
 
-/// Puts all turns among those that are held, from the last one on: the cursor goes to the end of both lists and back along them once, where
-/// there are any turns. No memory is taken.
+// Whether the last turn, if there is one, is below a bound. The cursor goes there and back.
+fn ends_below(turns: &mut EventList<Turned>, bound: Bound) -> bool
+    requires front { turns.old.before ≡ [] }
+    ensures same { turns.new ≡ turns.old }
+    ensures answer { result ≡ not (is_last_from (rank_of_bound bound) (onto turns.old.after [])) }
+{
+    pass_to_end(turns);
+    let is_from = is_last_from(turns, bound);
+    rewind(turns);
+    !is_from
+}
+
+/// Puts all turns among those that are held: behind them in one joining, where all are later, and else by going to the end of both lists and
+/// back along them once. No memory is taken.
 ///
 /// Both lists stand in the order of keys, all after the cursor.
 pub fn merge(held: &mut EventList<Turned>, mut turns: EventList<Turned>)
@@ -64,9 +76,24 @@ pub fn merge(held: &mut EventList<Turned>, mut turns: EventList<Turned>)
     ensures front { held.new.before ≡ [] }
     ensures all { turns_of held.new.after ≡ put_turns (turns_of turns.after) (turns_of held.old.after) }
 {
-    if turns.peek_next().is_none() {
+    let Some(first) = turns.peek_next() else {
         return;
+    };
+    if ends_below(held, Bound::At(first.key)) {
+        held.append_all(&mut turns);
+    } else {
+        merge_among(held, turns);
     }
+}
+
+// The same, wherever the turns belong.
+fn merge_among(held: &mut EventList<Turned>, mut turns: EventList<Turned>)
+    requires front { held.old.before ≡ [] }
+    requires turns_front { turns.before ≡ [] }
+    requires falls { Falls (turns_of turns.after) }
+    ensures front { held.new.before ≡ [] }
+    ensures all { turns_of held.new.after ≡ put_turns (turns_of turns.after) (turns_of held.old.after) }
+{
     pass_to_end(held);
     pass_to_end(&mut turns);
     while let Some(cell) = turns.take_last() {

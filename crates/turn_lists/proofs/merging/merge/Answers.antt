@@ -1,29 +1,23 @@
-use Rattle.std.proofs.Common.{◌≡◌, [], sym, ap, subst, subst₂, ◌∙◌}
-use Rattle.raw_events.specs.Around.{Around}
-use Rattle.raw_events.specs.Onto.{onto}
+use Rattle.std.proofs.Common.{◌≡◌, ◌++◌, append-nil, Some, [], true, reverse, sym, ap, ◌∙◌}
+use Rattle.std.specs.Prelude.{not}
 use Rattle.event_keys.specs.declared.outcome.Turned.{Turned}
+use Rattle.event_keys.specs.Ranks.{rank}
+use Rattle.raw_events.specs.Around.{Around, head}
+use Rattle.raw_events.specs.Onto.{onto}
 use Rattle.task_seed.specs.Taken.{turns_of}
-use Rattle.turn_lists.proofs.TakenIn.{IsMerging, merging_starts, merging_next, merging_stops}
+use Rattle.turn_lists.specs.Turns.{is_last_from}
+use Rattle.turn_lists.proofs.TakenIn.{later_stand}
 use Rattle.turn_lists.proofs.merging.merge.Goals as goal
 
-pub loop-cell-init : goal.loop-cell-init
-loop-cell-init c =
-    let t = c.args.turns.after in
-    let h = c.args.held.now.after in
-    let turns : c.pass_to_end-2.new.turns ≡ record { before = onto t []; after = [] } = c.pass_to_end-2.ensures ∙ ap (λ b. let a : Around Turned = record { before = onto t b; after = [] } in a) c.requires.turns_front in
-    let held : c.pass_to_end.new.turns ≡ record { before = onto h []; after = [] } = c.pass_to_end.ensures ∙ ap (λ b. let a : Around Turned = record { before = onto h b; after = [] } in a) c.requires.front in
-    subst₂ (λ (x y : Around Turned). IsMerging (turns_of t) (turns_of h) x.before y.before y.after) (sym turns) (sym held) (merging_starts t h c.requires.falls)
-
-pub loop-cell-preserved : goal.loop-cell-preserved
-loop-cell-preserved c =
-    let t = turns_of c.args.turns.after in
-    let h = turns_of c.args.held.now.after in
-    subst (λ (x : Around Turned). IsMerging t h x.before c.put.new.held.before c.put.new.held.after) (sym c.in-Some.ensures.rest)
-    (merging_next t h c.in-Some.cell c.loop-cell.turns.before c.loop-cell.held.before c.loop-cell.held.after c.put.new.held.before c.put.new.held.after (sym c.in-Some.ensures.taken) c.loop-cell.invariant c.put.ensures.placed c.put.ensures.passed)
-
-pub returns-clause-all : goal.returns-clause-all
-returns-clause-all c =
-    let t = turns_of c.args.turns.after in
-    let h = turns_of c.args.held.now.after in
-    ap (λ (x : Around Turned). turns_of x.after) c.rewind.ensures
-    ∙ merging_stops t h c.loop-cell.turns.before c.loop-cell.held.before c.loop-cell.held.after (sym c.take_last.ensures.taken ∙ c.in_default.is) c.loop-cell.invariant
+pub returns-then-ends_below-clause-all : goal.returns-then-ends_below-clause-all
+returns-then-ends_below-clause-all c =
+    let held = c.args.held.now in
+    let turns = c.args.turns in
+    let first = c.in-Some.first.now in
+    let there : head turns.after ≡ Some first = sym c.in-Some.ensures in
+    let last : not (is_last_from (rank first.key) (onto held.after [])) ≡ true = sym c.ends_below.ensures.answer ∙ c.if-ends_below.true in
+    ap (λ (a : Around Turned). turns_of a.after) c.append_all.ensures.rest
+    ∙ ap (λ (a : Around Turned). turns_of (a.after ++ reverse turns.before ++ turns.after)) c.ends_below.ensures.same
+    ∙ ap (λ b. turns_of (held.after ++ reverse b ++ turns.after)) c.requires.turns_front
+    ∙ ap (λ l. turns_of (l ++ turns.after)) (append-nil held.after)
+    ∙ later_stand first turns.after held.after there last c.requires.falls

@@ -1,7 +1,7 @@
 use Rattle.std.proofs.Common.{length}
 use Rattle.task_seed.specs.Taken.{turns_of}
 use Rattle.turn_lists.proofs.TakenIn.{IsMerging}
-use Rattle.turn_lists.proofs.merging.merge.Given as goal
+use Rattle.turn_lists.proofs.merging.merge_among.Given as goal
 
 abbrev pub invariant-loop-cell : goal.invariant-loop-cell
 invariant-loop-cell l = IsMerging (turns_of l.fn.turns.after) (turns_of l.fn.held.after) l.turns.before l.held.before l.held.after
