@@ -143,7 +143,7 @@ impl<T: Turns> Component<T> {
         ensures kept { self.new ≡ self.old }
         ensures empty { spare.new ≡ record { before = []; after = [] } }
     {
-        self.spares.signed.append_all(spare);
+        self.spares.signed.keep_all(spare);
     }
 
     /// The pending inputs and the owed antimessages are in order. The call does nothing.

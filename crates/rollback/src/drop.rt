@@ -14,7 +14,7 @@ ghost use Rattle.rollback.specs.Stepped.{machine_at};
 
 use crate::component::Component;
 use crate::keys::{is_below_bound, key_of};
-use crate::spares::{Spares, is_turn, renew_signed, swap_turn, take_sent};
+use crate::spares::{Spares, is_turn, swap_turn, take_sent};
 use event_keys::{Bound, Key, Signed, Turned};
 use message_balance::Done;
 use raw_events::{EventCell, EventList};
@@ -39,11 +39,11 @@ impl<T: Turns> Component<T> {
         ensures front { result.before ≡ [] }
     {
         let _depth = self.depth();
-        let dropped = take_below(&mut self.done, &mut self.spares, bound);
+        let mut dropped = take_below(&mut self.done, &mut self.spares, bound);
         self.store.forget_first(dropped.count);
         self.first = number_after(dropped.newest, self.first);
         self.base = bound;
-        renew_signed(&mut self.spares, dropped.count, dropped.signed);
+        self.spares.signed.keep_all(&mut dropped.signed);
         from_front(dropped.turns)
     }
 }

@@ -19,7 +19,7 @@ ghost use Rattle.rollback.specs.ComponentInvariant.{signed_by, signed_of, turn_r
 ghost use Rattle.rollback.specs.Post.{signed_to, post_all, IsPosted};
 
 use crate::keys::fits;
-use crate::spares::{Spares, input_entry, spare_or_new, turn_entry};
+use crate::spares::{SpareSigned, Spares, input_entry, turn_entry};
 use antimessage::Bag;
 use antimessage::laws::order_law;
 use event_keys::{Key, Message, Outcome, Sign, Signed, Turned};
@@ -99,7 +99,7 @@ pub(crate) fn outcome_at<T: Turns>(
 #[inline(never)]
 fn signed_cells(
     alloc: Global,
-    spare: &mut EventList<Signed>,
+    spare: &mut SpareSigned,
     key: Key,
     action: &Action,
     sign: Sign,
@@ -114,7 +114,7 @@ fn signed_cells(
             action: action.clone()?,
             to: receiver,
         };
-        cells.push_last(spare_or_new(alloc, spare, Signed { message, sign })?);
+        cells.push_last(spare.cell_of(alloc, Signed { message, sign })?);
     }
     Ok(cells)
 }
@@ -138,7 +138,7 @@ pub(crate) fn receivers_of_turn<T: Turns>(
 #[inline(always)]
 pub(crate) fn messages_to(
     alloc: Global,
-    spare: &mut EventList<Signed>,
+    spare: &mut SpareSigned,
     turned: &Turned,
     sign: Sign,
     receivers: &[u16],

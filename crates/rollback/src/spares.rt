@@ -1,5 +1,5 @@
 //! Cells that serve again.
-ghost use Rattle.std.specs.Prelude.{◌≡◌, MatchResult, IfOk, IfSome, true};
+ghost use Rattle.std.specs.Prelude.{◌≡◌, [], MatchResult, IfOk, IfSome, true};
 ghost use Rattle.message_balance.specs.declared.done.Done.TheVariants.{Turn, Input};
 ghost use Rattle.rollback.specs.Reuse.{is_turn, turned_of, with_sent, with_turned};
 
@@ -10,11 +10,11 @@ use std::alloc::Global;
 use std::mem::{replace, swap};
 use terms::NoMemory;
 
-// Cells of a component that serve again. What they hold is of no use any more. There are never more of them than were in use at once.
+// Cells of a component that serve again. What they hold is of no use any more.
 #[derive(Drop)]
 pub(crate) struct Spares {
     pub(crate) turns: EventList<Turned>,
-    pub(crate) signed: EventList<Signed>,
+    pub(crate) signed: SpareSigned,
     // Whole entries, each with its cell of a turn, and each with its cell of an input.
     pub(crate) turn_entries: EventList<Done>,
     pub(crate) input_entries: EventList<Done>,
@@ -24,10 +24,69 @@ impl Spares {
     pub(crate) fn new() -> Spares {
         Spares {
             turns: EventList::new(),
-            signed: EventList::new(),
+            signed: SpareSigned::new(),
             turn_entries: EventList::new(),
             input_entries: EventList::new(),
         }
+    }
+}
+
+// How many spare cells of messages a component keeps at most. A message takes four; a component that receives more than it sends has cells left.
+const MOST_SIGNED: u32 = 64;
+
+// Spare cells of messages, the last one nearest before the cursor.
+#[derive(Drop)]
+pub(crate) struct SpareSigned {
+    cells: EventList<Signed>,
+    count: u32,
+}
+
+impl SpareSigned {
+    fn new() -> SpareSigned {
+        SpareSigned {
+            cells: EventList::new(),
+            count: 0,
+        }
+    }
+
+    // A message in the last spare cell, whose old value is dropped, or in a new one where none is spare.
+    #[inline(always)]
+    pub(crate) fn cell_of(
+        &mut self,
+        alloc: Global,
+        value: Signed,
+    ) -> Result<EventCell<Signed>, NoMemory>
+        ensures { IfOk result (λ cell. cell ≡ value) }
+    {
+        match self.cells.take_last() {
+            Some(mut cell) => {
+                self.count = self.count.saturating_sub(1);
+                *cell.value_mut() = value;
+                Ok(cell)
+            }
+            None => cell_of(alloc, value),
+        }
+    }
+
+    // Keeps a cell, unless there are enough.
+    fn keep(&mut self, cell: EventCell<Signed>) {
+        if self.count < MOST_SIGNED {
+            self.cells.push_last(cell);
+            self.count += 1;
+        }
+    }
+
+    // Keeps cells while there aren't enough, and drops the others.
+    pub(crate) fn keep_all(&mut self, cells: &mut EventList<Signed>)
+        ensures { cells.new ≡ record { before = []; after = [] } }
+    {
+        for _ in self.count..MOST_SIGNED {
+            let Some(cell) = cells.take_first() else {
+                break;
+            };
+            self.keep(cell);
+        }
+        *cells = EventList::new();
     }
 }
 
@@ -111,18 +170,11 @@ pub(crate) fn take_sent(done: &mut Done, signed: &mut EventList<Signed>) {
     }
 }
 
-// Where entries were dropped, the cells of their antimessages are the spare ones, and none that they didn't need before.
-pub(crate) fn renew_signed(spares: &mut Spares, count: usize, signed: EventList<Signed>) {
-    if count > 0 {
-        spares.signed = signed;
-    }
-}
-
 // The cell of an input is spare.
 fn keep_input(spares: &mut Spares, done: Done) {
     match done {
         Done::Turn(_, _) => {}
-        Done::Input(cell) => spares.signed.push_last(cell),
+        Done::Input(cell) => spares.signed.keep(cell),
     }
 }
 
