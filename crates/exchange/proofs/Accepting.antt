@@ -13,6 +13,7 @@ use Rattle.event_keys.specs.declared.message.Signed.{Signed}
 use Rattle.event_keys.specs.declared.outcome.Turned.{Turned}
 use Rattle.event_keys.specs.Ranks.{rank_of_bound}
 use Rattle.antimessage.specs.Bags.{insert_all, is_to}
+use Rattle.antimessage.specs.Counts.{Each}
 use Rattle.antimessage.specs.Order.{IsInOrder}
 use Rattle.virtual_time.specs.Bags.{times}
 use Rattle.virtual_time.specs.Entries.{below}
@@ -31,10 +32,11 @@ use Rattle.task_seed.specs.Taken.{turns_of}
 use Rattle.exchange.specs.declared.stub.Stub.{Stub}
 use Rattle.exchange.specs.LeaseView.{LeaseView, IsValidLease, lease_of, part_of}
 use Rattle.exchange.specs.Moving.{among, HasCome, IsArrived, IsPassedOn}
-use Rattle.exchange.specs.Held.{put_all, AreInOrder, HasPut}
+use Rattle.exchange.specs.Held.{put_all, AreInOrder, AreOwned, HasPut}
 use Rattle.exchange.specs.ExchangeView.{ExchangeView, IsValidExchange, IsStub, stub_of, stub_or_start, exchange_of}
 use Rattle.exchange.proofs.Committing.{slice_get_none}
 use Rattle.exchange.proofs.Lists.{length_set, order_at, put_at}
+use Rattle.exchange.proofs.Owned.{done_own, IsOf, owned_at}
 use Rattle.exchange.proofs.Receiving.{none_else, to_alone, To}
 
 abbrev pub AppendedLaw : Type 0
@@ -408,8 +410,8 @@ module _ {P Q : Type 0} (s : System) (law : Lawful (machine s)) (e : ExchangeVie
     quiet j past = let many = is.many in ap (λ o. (stub_or_start m j o).plus) (slice_get_past e.stubs j (omega (arith, past, many)))
 
     -- the exchange by its type
-    pub shared_kept : IsSound m (length s.composition) (exchange_of m after) → length held ≡ length e.held → AreInOrder held → IsValidExchange s after
-    shared_kept sound lists order = record { sound = sound; many = passed.many ∙ is.many; lists = lists ∙ is.lists; order = order; stubs = λ j stub q. each j stub q (cases_eq j i) }
+    pub shared_kept : IsSound m (length s.composition) (exchange_of m after) → length held ≡ length e.held → AreInOrder held → AreOwned 0 held → IsValidExchange s after
+    shared_kept sound lists order owners = record { sound = sound; many = passed.many ∙ is.many; lists = lists ∙ is.lists; order = order; owners = owners; stubs = λ j stub q. each j stub q (cases_eq j i) }
       where
         own : IsStub s g i (record passed.kept { floor = floor })
         own = record {
@@ -480,9 +482,11 @@ module _ {P Q : Type 0} (s : System) (law : Lawful (machine s)) (e : ExchangeVie
         let put = put_at e.held i is_put.before is_put.after (turns_of turns) is_put.there is_put.put merged in
         let both : put_all held ≡ put_turns taken_in (put_all e.held) = ap put_all is_put.all ∙ put ∙ ap (λ ts. put_turns ts (put_all e.held)) turns_are in
         let order : AreInOrder held = subst AreInOrder (sym is_put.all) (order_at e.held i is_put.before is_put.after (turns_of turns) is_put.there is_put.put merged is.order) in
+        let own : Each (IsOf i) (turns_of turns) = subst (Each (IsOf i)) (sym turns_are) (done_own m law i g (rank_of_bound h.component.base) h.component.history.first h.component.history.base h.component.history.done holds.lease.proper.done) in
+        let owners : AreOwned 0 held = subst (AreOwned 0) (sym is_put.all) (owned_at e.held i is_put.before is_put.after (turns_of turns) is_put.there is_put.put own is.owners) in
         let lists : length held ≡ length e.held = ap length is_put.all ∙ length_set e.held i is_put.after in
         let all = moved cut lowest (subst Falls (sym both) (merged_falls taken_in (put_all e.held) falls held_falls apart))
         (λ k. ap (outcome_at k) both ∙ merged_outcomes taken_in (put_all e.held) falls held_falls apart k) in
         let met = met_law n i x (exchange_of m after) l (lease_of settled) law is.sound holds.lease match quiet (holds.inside Plus) all in
         let sound = sound_law n i x (exchange_of m after) l (lease_of settled) law is.sound holds.lease match met in
-        record { met = met; shared = shared_kept sound.0 lists order; holding = holding_kept sound.1 met.matches arrived_all }
+        record { met = met; shared = shared_kept sound.0 lists order owners; holding = holding_kept sound.1 met.matches arrived_all }

@@ -23,6 +23,7 @@ use Rattle.exchange.specs.Chunks.{base_of, first_from}
 use Rattle.exchange.specs.Held.{put_all, all_below, all_from}
 use Rattle.exchange.proofs.Committing.{end_is}
 use Rattle.exchange.proofs.Lists.{all_left, all_taken, order_left, taken_falls}
+use Rattle.exchange.proofs.Owned.{owned_left}
 
 based_at : (xs : List Stub) (j : ℕ) (stub : Stub) (d : Bound) → slice_get xs j ≡ Some stub → slice_index_or (map base_of xs) j d ≡ stub.base
 based_at [] j stub d e = cc
@@ -91,7 +92,7 @@ module _ {P : Type 0} (s : System) (e : ExchangeView P) (is : IsValidExchange s 
   taken_in_order = taken_falls b e.held is.order is.sound.held.1.falls
 
   pub kept : IsSound m (length s.composition) (exchange_of m after) → IsValidExchange s after
-  kept sound = record { sound = sound; many = is.many; lists = length-map e.held (first_from b) ∙ is.lists; order = order_left b e.held is.order; stubs = is.stubs }
+  kept sound = record { sound = sound; many = is.many; lists = length-map e.held (first_from b) ∙ is.lists; order = order_left b e.held is.order; owners = owned_left b 0 e.held is.owners; stubs = is.stubs }
 
   -- what was given, with the chunk, has a number that fits
   pub few : HasCount m (length s.composition) → length s.composition < 65536

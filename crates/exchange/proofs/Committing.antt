@@ -182,7 +182,7 @@ module _ {P : Type 0} (s : System) (e : ExchangeView P) (is : IsValidExchange s 
     committed = record { clear = clear; most = most; rest = rest }
 
     pub kept : IsSound m (length s.composition) (exchange_of m after) → length stubs ≡ length e.stubs → ((j : ℕ) (stub : Stub) → slice_get stubs j ≡ Some stub → IsPassing s b j stub) → IsValidExchange s after
-    kept sound many passing_all = record { sound = sound; many = many ∙ is.many; lists = is.lists; order = is.order; stubs = λ j stub h. each j stub h (slice_get e.stubs j) refl }
+    kept sound many passing_all = record { sound = sound; many = many ∙ is.many; lists = is.lists; order = is.order; owners = is.owners; stubs = λ j stub h. each j stub h (slice_get e.stubs j) refl }
       where
         each : (j : ℕ) (stub : Stub) → slice_get stubs j ≡ Some stub → (o : Option Stub) → slice_get e.stubs j ≡ o → IsStub s b j stub
         each j stub h None there = let none : Some stub ≡ None = sym h ∙ passed j ∙ ap (option_map (passing s b j)) there in cc

@@ -8,6 +8,8 @@ mod Below
 mod Chunking
 mod Lists
 mod Together
+mod Owned
+mod Pinned
 mod Knowing
 mod Lowest
 mod Receiving

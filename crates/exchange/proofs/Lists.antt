@@ -1,8 +1,9 @@
 -- The lists of the turns that are held: what is put among them, and what is taken from them.
-use Rattle.std.proofs.Common.{◌≡◌, ℕ, zero, suc, ◌+◌, Some, List, [], ◌∷◌, ◌++◌, map, length, refl, ap, sym, subst, ◌∙◌, arith}
-use Rattle.std.specs.Prelude.{slice_get, slice_index_or, slice_set}
+use Rattle.std.proofs.Common.{◌≡◌, ℕ, zero, suc, ◌+◌, ◌<◌, ◌^◌, Bool, true, false, Some, List, [], ◌∷◌, ◌++◌, map, length, refl, ap, sym, subst, ◌∙◌, arith}
+use Rattle.std.specs.Prelude.{if◌then◌else◌, nat_lt, replicate, slice_get, slice_index_or, slice_set}
 use Rattle.terms.specs.Named.{Named}
 use Rattle.event_keys.specs.declared.outcome.Turned.{Turned}
+use Rattle.event_keys.specs.Ranks.{rank}
 use Rattle.virtual_time.specs.Reference.{Falls, Turn}
 use Rattle.virtual_time.specs.Exchange.Meetings.{turns_below, turns_from}
 use Rattle.virtual_time.specs.Exchange.Merged.{put_turns}
@@ -10,7 +11,7 @@ use Rattle.std.proofs.lemmas.List.{length-map}
 use Rattle.raw_events.specs.Onto.{onto}
 use Rattle.task_seed.specs.Taken.{turn_of, turns_of}
 use Rattle.exchange.specs.Chunks.{first_below, first_from}
-use Rattle.exchange.specs.Held.{put_all, AreInOrder, all_below, all_from}
+use Rattle.exchange.specs.Held.{put_all, AreInOrder, IsCutBelow, all_below, all_from}
 use Rattle.exchange.proofs.Below.{below_onto, from_onto}
 use Rattle.exchange.proofs.Together.{Apart, alone, apart_first, apart_rest, falls_below, falls_from, falls_puts, length_puts, lists_swap, puts_below, puts_fell, puts_from, together}
 
@@ -151,3 +152,66 @@ length_turns ts = length_onto (map turn_of ts) [] ∙ (let e = length-map ts tur
 
 pub length_single : (b : ℕ) (lists : List (List Turned)) (d : List Turned) → length lists ≡ 1 → AreInOrder lists → length (put_all (all_below b lists)) ≡ length (first_below b (slice_index_or lists 0 d))
 length_single b lists d e order = ap length (single b lists d e order) ∙ length_turns (first_below b (slice_index_or lists 0 d))
+
+-- what was taken can be put together
+twice_below : (b : ℕ) (ts : List Turned) → first_below b (first_below b ts) ≡ first_below b ts
+twice_below b [] = refl
+twice_below b (t ∷ ts) = go (twice_below b ts) (nat_lt (rank t.key) b) refl
+  where
+    go : first_below b (first_below b ts) ≡ first_below b ts → (c : Bool) → nat_lt (rank t.key) b ≡ c → first_below b (if c then t ∷ first_below b ts else []) ≡ (if c then t ∷ first_below b ts else [])
+    go ih true e = rw e (ap (λ l. t ∷ l) ih)
+    go ih false e = refl
+
+all_twice_below : (b : ℕ) (lists : List (List Turned)) → all_below b (all_below b lists) ≡ all_below b lists
+all_twice_below b [] = refl
+all_twice_below b (p ∷ ls) = ap (λ l. l ∷ all_below b (all_below b ls)) (twice_below b p) ∙ ap (λ l. first_below b p ∷ l) (all_twice_below b ls)
+
+order_taken : (b : ℕ) (lists : List (List Turned)) → AreInOrder lists → AreInOrder (all_below b lists)
+order_taken b [] order = tt
+order_taken b (p ∷ ls) order = (subst Falls (below_onto b p [] order.0 refl) (falls_below b (turns_of p) order.0), order_taken b ls order.1)
+
+pub cut_below : (b : ℕ) (lists : List (List Turned)) → AreInOrder lists → Falls (put_all (all_below b lists)) → length (put_all (all_below b lists)) < 2 ^ 64 → IsCutBelow b (all_below b lists)
+cut_below b lists order falls few = record { order = order_taken b lists order; below = all_twice_below b lists; falls = falls; few = few }
+
+-- and then nothing is left
+from_none : (b : ℕ) (ts : List Turned) → first_from b (first_below b ts) ≡ []
+from_none b [] = refl
+from_none b (t ∷ ts) = go (from_none b ts) (nat_lt (rank t.key) b) refl
+  where
+    go : first_from b (first_below b ts) ≡ [] → (c : Bool) → nat_lt (rank t.key) b ≡ c → first_from b (if c then t ∷ first_below b ts else []) ≡ []
+    go ih true e = rw e ih
+    go ih false e = refl
+
+left_none : (b : ℕ) (lists : List (List Turned)) → all_from b (all_below b lists) ≡ map (λ _. []) lists
+left_none b [] = refl
+left_none b (p ∷ ls) = ap (λ l. l ∷ all_from b (all_below b ls)) (from_none b p) ∙ ap (λ l. [] ∷ l) (left_none b ls)
+
+put_none : (lists : List (List Turned)) → put_all (map (λ _. []) lists) ≡ []
+put_none [] = refl
+put_none (p ∷ ls) = put_none ls
+
+none_order : (lists : List (List Turned)) → AreInOrder (map (λ _. []) lists)
+none_order [] = tt
+none_order (p ∷ ls) = (tt, none_order ls)
+
+none_below : (b : ℕ) (lists : List (List Turned)) → all_below b (map (λ _. []) lists) ≡ map (λ _. []) lists
+none_below b [] = refl
+none_below b (p ∷ ls) = ap (λ l. [] ∷ l) (none_below b ls)
+
+none_cut : (b : ℕ) (lists : List (List Turned)) → IsCutBelow b (map (λ _. []) lists)
+none_cut b lists = record {
+  order = none_order lists;
+  below = none_below b lists;
+  falls = subst Falls (sym (put_none lists)) tt;
+  few = let none = ap length (put_none lists) in omega (arith, none);
+}
+
+pub cut_from : (b : ℕ) (lists : List (List Turned)) → all_below b lists ≡ lists → IsCutBelow b (all_from b lists)
+cut_from b lists below = subst (λ l. IsCutBelow b (all_from b l)) below (subst (IsCutBelow b) (sym (left_none b lists)) (none_cut b lists))
+
+replicated : (n : ℕ) → map {A = List Turned} {B = List Turned} (λ _. []) (replicate n []) ≡ replicate n []
+replicated zero = refl
+replicated (suc n) = ap (λ l. [] ∷ l) (replicated n)
+
+pub cut_none : (b n : ℕ) → IsCutBelow b (replicate n [])
+cut_none b n = subst (IsCutBelow b) (replicated n) (none_cut b (replicate n []))

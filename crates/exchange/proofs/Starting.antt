@@ -2,6 +2,7 @@
 use Rattle.std.proofs.Common.{◌≡◌, ℕ, zero, suc, ◌+◌, ◌<◌, ◌≤◌, ◌⊎◌, inl, inr, Option, None, Some, List, [], ◌∷◌, map, length, refl, ap, sym, subst, ◌∙◌, arith}
 use Rattle.std.specs.Prelude.{replicate, slice_get, IfSome}
 use Rattle.std.specs.List.{range_with_len}
+use Rattle.std.proofs.lemmas.List.{length-replicate}
 use Rattle.std.proofs.lemmas.List.FromFn.{length-map-range_with_len}
 use Rattle.event_keys.specs.declared.key.Key.{Key}
 use Rattle.event_keys.specs.Ranks.{rank_of_bound}
@@ -28,9 +29,10 @@ use Rattle.exchange.specs.declared.stub.Stub.{Stub}
 use Rattle.exchange.specs.LeaseView.{LeaseView, IsValidLease, lease_of}
 use Rattle.exchange.specs.ExchangeView.{ExchangeView, IsValidExchange, IsStub, stub_of, stub_or_start, exchange_of}
 use Rattle.exchange.specs.Core.{StandFor}
-use Rattle.exchange.specs.Held.{put_all, AreInOrder}
+use Rattle.exchange.specs.Held.{put_all, AreInOrder, AreOwned}
 use Rattle.exchange.specs.Start.{bound_at, number_of, first_bound, lease_or_start, leases_of, start_holding, start_shared, start_stub}
 use Rattle.exchange.proofs.Committing.{end_is}
+use Rattle.exchange.proofs.Owned.{none_owned}
 use Rattle.exchange.proofs.Passing.{number_is, rank_some, rank_none}
 
 -- what is made for the numbers from a to a + n - 1
@@ -51,10 +53,6 @@ none_held (suc n) = none_held n
 none_order : (n : ℕ) → AreInOrder (replicate n [])
 none_order zero = tt
 none_order (suc n) = (tt, none_order n)
-
-length-replicate : {X : Type 0} (n : ℕ) (x : X) → length (replicate n x) ≡ n
-length-replicate zero x = refl
-length-replicate (suc n) x = ap suc (length-replicate n x)
 
 module _ (s : System) where
   floor_is : (i : ℕ) → i < length s.composition → rank_of_bound (first_bound s i) ≡ turn_rank s i 0
@@ -95,6 +93,7 @@ module _ (s : System) where
           many = ap length stubs ∙ length-map-range_with_len (start_stub s) 0 (length s.composition);
           lists = ap length held ∙ length-replicate (length s.composition) [];
           order = subst AreInOrder (sym held) (none_order (length s.composition));
+          owners = subst (AreOwned 0) (sym held) (none_owned 0 (length s.composition));
           stubs = λ j stub h. each j stub h (made_at (start_stub s) 0 (length s.composition) j (slice_get e.stubs j) (ap (λ l. slice_get l j) (sym stubs)));
         }
       where

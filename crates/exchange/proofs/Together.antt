@@ -16,10 +16,10 @@ module _ {A : Type 0} where
   Apart [] us = Unit {0}
   Apart (t ∷ ts) us = Missing t.key us × Missing t.key ts × Apart ts us
 
-  first_put : (t u : Turn A) (us : List (Turn A)) → u.key < t.key → put_turn t (u ∷ us) ≡ t ∷ u ∷ us
+  pub first_put : (t u : Turn A) (us : List (Turn A)) → u.key < t.key → put_turn t (u ∷ us) ≡ t ∷ u ∷ us
   first_put t u us h = rw (lt-ltb u.key t.key h) refl
 
-  later_put : (t u : Turn A) (us : List (Turn A)) → t.key ≤ u.key → put_turn t (u ∷ us) ≡ u ∷ put_turn t us
+  pub later_put : (t u : Turn A) (us : List (Turn A)) → t.key ≤ u.key → put_turn t (u ∷ us) ≡ u ∷ put_turn t us
   later_put t u us h = rw (le-ltb u.key t.key h) refl
 
   swap_lower : (a b : Turn A) (us : List (Turn A)) → b.key < a.key → put_turn a (put_turn b us) ≡ put_turn b (put_turn a us)
@@ -116,7 +116,7 @@ module _ {A : Type 0} where
   missing_below k [] h = tt
   missing_below k (u ∷ us) h = let l = h.0 in ((λ e. omega (arith, l, e)), missing_below k us h.1)
 
-  lower : (b c : ℕ) (us : List (Turn A)) → b ≤ c → AllBelow b us → AllBelow c us
+  pub lower : (b c : ℕ) (us : List (Turn A)) → b ≤ c → AllBelow b us → AllBelow c us
   lower b c [] l h = tt
   lower b c (u ∷ us) l h = let low = h.0 in (omega (arith, l, low), lower b c us l h.1)
 
@@ -134,7 +134,7 @@ module _ {A : Type 0} where
           let low = under.0 in
           (((λ e. omega (arith, low, e)), rest.0), (under.1, rest.1))
 
-  falls_put : (t : Turn A) (us : List (Turn A)) → Falls us → Missing t.key us → Falls (put_turn t us)
+  pub falls_put : (t : Turn A) (us : List (Turn A)) → Falls us → Missing t.key us → Falls (put_turn t us)
   falls_put t [] f m = (tt, tt)
   falls_put t (u ∷ us) f m = go (falls_put t us f.1 m.1) (cases_lt u.key t.key) (cases_lt t.key u.key)
     where
@@ -159,7 +159,7 @@ module _ {A : Type 0} where
       let each = missing_each t ts us rest.0 in
       ((one.0, each.0, each.1), one.1)
 
-  each_missing : (t : Turn A) (ts us : List (Turn A)) → Missing t.key ts → Apart ts us → Apart ts (put_turn t us)
+  pub each_missing : (t : Turn A) (ts us : List (Turn A)) → Missing t.key ts → Apart ts us → Apart ts (put_turn t us)
   each_missing t [] us m p = tt
   each_missing t (x ∷ ts) us m p = (put_missing x.key t us (λ e. m.0 (sym e)) p.0, p.1, each_missing t ts us m.1 p.2)
 

@@ -20,7 +20,7 @@ use Rattle.rollback.specs.Flight.{in_flight}
 use Rattle.task_seed.specs.Turning.{System, key_of}
 use Rattle.task_seed.specs.Machines.{machine, turn_rank}
 use Rattle.exchange.specs.declared.stub.Stub.{Stub}
-use Rattle.exchange.specs.Held.{put_all, AreInOrder}
+use Rattle.exchange.specs.Held.{put_all, AreInOrder, AreOwned}
 
 -- a setup, a stub for each component, the committed bound, for each component the turns taken in and not given in a chunk, the first one
 -- first, and how many were given
@@ -63,12 +63,13 @@ pub record IsStub (s : System) (bound i : ℕ) (stub : Stub) : Type 0 where
   pub small : IfSome stub.ahead (λ key. key.number < 4294967296)
   pub few : stub.passed ≤ 4294967296
 
--- sound, with a stub for each component, and a list of turns in the order of keys
+-- sound, with a stub for each component, and a list of its turns, in the order of keys
 pub record IsValidExchange {P : Type 0} (s : System) (e : ExchangeView P) : Type 0 where
   pub sound : IsSound (machine s) (length s.composition) (exchange_of (machine s) e)
   pub many : length e.stubs ≡ length s.composition
   pub lists : length e.held ≡ length s.composition
   pub order : AreInOrder e.held
+  pub owners : AreOwned 0 e.held
   pub stubs : (j : ℕ) (stub : Stub) → slice_get e.stubs j ≡ Some stub → IsStub s (rank_of_bound e.bound) j stub
 
 -- messages wait in the inbox of the stub, if there is one

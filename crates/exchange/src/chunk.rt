@@ -27,13 +27,13 @@ pub struct Chunk {
 }
 
 // A number of components fits its type.
-fn is_few(count: u16)
+pub(crate) fn is_few(count: u16)
     ensures { count < 65536 }
 {
     let _ = count;
 }
 
-fn least_base(stubs: &[Stub]) -> Bound
+pub(crate) fn least_base(stubs: &[Stub]) -> Bound
     ensures { IsLeast (map base_of stubs.now) result }
 {
     least_bound(stubs.iter().map(|stub| stub.base))

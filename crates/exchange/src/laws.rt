@@ -1,5 +1,7 @@
 //! The laws of leases and exchanges. Each function does nothing: its contract is the law.
-ghost use Rattle.std.specs.Prelude.{◌≡◌, ◌↔◌, true};
+ghost use Rattle.std.specs.Prelude.{◌≡◌, ◌↔◌, true, length, map};
+ghost use Rattle.task_seed.specs.Taken.{turns_of};
+ghost use Rattle.exchange.specs.Held.{put_all};
 ghost use Rattle.exchange.specs.Same.{AreEqualExchanges, AreEqualLeases};
 
 use crate::exchange::Exchange;
@@ -17,3 +19,13 @@ pub fn equal_lease_law<T: Turns>(a: &Lease<T>, b: &Lease<T>)
 pub fn equal_exchange_law<T: Turns>(a: &Exchange<T>, b: &Exchange<T>)
     ensures { (⟦<Exchange<T> as PartialEq>⟧.eq a.now b.now ≡ true) ↔ AreEqualExchanges ⟦<Setup<T> as PartialEq>⟧.eq a.now b.now }
 {}
+
+/// What exchanges hold of each component follows from what they hold in all, of which `meet` tells: where that is the same, so is this.
+pub fn held_law<T: Turns>(a: &Exchange<T>, b: &Exchange<T>)
+    requires many { length a.now.held ≡ length b.now.held }
+    requires same { put_all a.now.held ≡ put_all b.now.held }
+    ensures { map turns_of a.now.held ≡ map turns_of b.now.held }
+{
+    a.soundness_law();
+    b.soundness_law();
+}

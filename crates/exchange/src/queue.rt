@@ -67,7 +67,7 @@ impl Queue {
     }
 
     // Takes the first turns, as long as they are below a bound.
-    fn take_below(&mut self, bound: Bound) -> Taken
+    pub(crate) fn take_below(&mut self, bound: Bound) -> Taken
         requires few { length (first_below (rank_of_bound bound) self.old) < 2 ^ 64 }
         ensures rest { self.new ≡ first_from (rank_of_bound bound) self.old }
         ensures turns { result.turns ≡ first_below (rank_of_bound bound) self.old }
