@@ -1,12 +1,14 @@
 -- What a thread has for itself.
-use Rattle.std.specs.Prelude.{◌≡◌, ℕ, ◌<◌, Some}
+use Rattle.std.specs.Prelude.{◌≡◌, ℕ, ◌<◌, Some, length}
 use Rattle.gvt.specs.Seats.{IsSeatOf}
 use Rattle.gvt.specs.declared.word.Published.{Published}
 use Rattle.pools.specs.declared.places.Pass.{Pass}
 use Rattle.pools.specs.declared.places.Pool.{Pool}
 use Rattle.pools.specs.Passes.{holding, IsOf as IsOfPool}
 use Rattle.pools.specs.Places.{times}
+use Rattle.plans.specs.Plans.{composition}
 use Rattle.task_seed.specs.declared.setup.Setup.{Setup}
+use Rattle.task_seed.specs.Setups.{plan_of}
 use Rattle.workers.specs.declared.crew.Caller.{Caller}
 use Rattle.workers.specs.declared.crew.Handed.{Handed}
 use Rattle.workers.specs.declared.crew.Lent.{Lent}
@@ -30,9 +32,9 @@ module _ {T : Type 0} where
   abbrev pub IsOf : Shared T → Worker T → Type 0
   IsOf shared worker = IsOfAll shared.exchange shared.published worker
 
-  -- the calling thread is of these threads, and the exchange of this setup
+  -- the calling thread is of these threads, and the exchange of this setup; chunks come for each of its components
   abbrev pub IsCallerOf : Shared T → Setup T → Caller T → Type 0
-  IsCallerOf shared setup caller = IsOfPool shared.exchange caller.lock × IsSeatOf shared.published caller.seat × ((holding caller.lock).kind ≡ Some setup)
+  IsCallerOf shared setup caller = IsOfPool shared.exchange caller.lock × IsSeatOf shared.published caller.seat × ((holding caller.lock).kind ≡ Some setup) × (length caller.parcel ≡ length (composition (plan_of setup)))
 
   -- this lease is of the setup of the pass's exchange
   abbrev pub Holds : Pass (Lent T) (Setup T) → Handed T → Type 0

@@ -5,7 +5,7 @@ use crate::depot::Depot;
 use crate::pace::Pace;
 use crate::stats::Activity;
 use event_keys::Turned;
-use exchange::Lease;
+use exchange::{Lease, Parcel};
 use gvt::Seat;
 use pools::{Numbered, Pass};
 use raw_events::EventList;
@@ -52,4 +52,6 @@ pub(crate) struct Caller<T: Turns> {
     pub(crate) lock: Pass<Lent<T>, Setup<T>>,
     pub(crate) seat: Seat,
     pub(crate) activity: Activity,
+    // Where chunks come.
+    pub(crate) parcel: Parcel,
 }

@@ -1,17 +1,19 @@
 //! What the lock protects: the exchange, and the leases that wait for a worker.
-ghost use Rattle.std.specs.Prelude.{◌≡◌, IfOk, IfSome, All};
-ghost use Rattle.task_seed.specs.Setups.{system};
+ghost use Rattle.std.specs.Prelude.{◌≡◌, IfOk, IfSome, All, length};
+ghost use Rattle.exchange.specs.Held.{put_all};
+ghost use Rattle.plans.specs.Plans.{composition};
+ghost use Rattle.task_seed.specs.Setups.{plan_of, system};
 ghost use Rattle.workers.specs.Leases.{IsAwayOrOf, handed_setup, paced_setup};
-ghost use Rattle.workers.specs.Portions.{IsPortion};
+ghost use Rattle.workers.specs.Portions.{IsCutOf};
 
 use crate::crew::{Handed, Paced};
 use crate::places::{Least, Places};
 use crate::policy::POLICY;
 use crate::rounds::Rounds;
 use crate::stats::{Activity, Visits};
-use crate::writing::{Portion, take_portion};
+use crate::writing::{Cut, take_cut};
 use event_keys::{Bound, Turned};
-use exchange::{Exchange, Lease, MeetRefused};
+use exchange::{Exchange, Lease, MeetRefused, Parcel};
 use raw_events::EventList;
 use std::marker::Model;
 use task_seed::Turns;
@@ -144,12 +146,14 @@ impl<T: Turns> Depot<T> {
         spare.append_all(&mut self.spare);
     }
 
-    // The next turns that no portion has had.
-    pub(crate) fn take_portion(&mut self) -> Portion
-        ensures portion { IsPortion (system T.turn_of self.old) result }
+    // The next turns that no parcel has had.
+    pub(crate) fn take_cut(&mut self, parcel: &mut Parcel) -> Cut
+        requires many { length parcel.old ≡ length (composition (plan_of self.old)) }
+        ensures cut { IsCutOf (system T.turn_of self.old) result (put_all parcel.new) }
+        ensures many { length parcel.new ≡ length parcel.old }
         ensures same { self.new ≡ self.old }
     {
-        take_portion(&mut self.exchange)
+        take_cut(&mut self.exchange, parcel)
     }
 
     // Raises the bound.
@@ -157,7 +161,6 @@ impl<T: Turns> Depot<T> {
         ensures { self.new ≡ self.old }
     {
         self.count = self.exchange.commit();
-        self.rounds.commit();
     }
 
     // A lease that waits, if this one does.
@@ -396,13 +399,11 @@ impl<T: Turns> Depot<T> {
     {
         let components = self.components();
         if self.rounds.begin(components) {
-            let stale = self.take_stale(spare)?;
-            if stale.is_some() {
-                return Ok(stale);
-            }
-        }
-        if self.rounds.is_to_commit(components) {
             self.commit();
+        }
+        let stale = self.take_stale(spare)?;
+        if stale.is_some() {
+            return Ok(stale);
         }
         let visit = self.take_least(spare)?;
         if visit.is_none() && self.away.least().is_none() {

@@ -42,6 +42,11 @@ impl Pace {
         self.kept < POLICY.many_arrivals
     }
 
+    // Whether anything was ever lost.
+    pub(crate) fn has_lost(&self) -> bool {
+        self.has_lost
+    }
+
     // Whether it is careful, and did nothing at last.
     pub(crate) fn waits(&self) -> bool {
         self.is_idle && self.is_careful()

@@ -2,15 +2,13 @@
 use crate::policy::POLICY;
 use crate::shared::nap;
 use std::sync::Wait;
-use std::thread;
 
 // Where turns are cheap and each waits for a message, a second worker does nothing but take the exchange from the first. So a worker that finds
-// it away too often rests, each time longer, but the first worker, which never does.
+// it away too often rests, each time longer, but the first worker, which never does. Where components lose nothing they don't wait for each other,
+// and no worker rests.
 #[derive(Drop)]
 pub(crate) struct Patience {
     is_first: bool,
-    // How many looks in a row found no lease to work on.
-    vain: u32,
     // How often the exchange was away of late.
     crowd: u32,
     // How often the worker rested since it was last alone.
@@ -31,7 +29,6 @@ impl Patience {
     pub(crate) fn new(worker: u16) -> Patience {
         Patience {
             is_first: worker == 0,
-            vain: 0,
             crowd: 0,
             rests: 0,
             naps: 0,
@@ -83,9 +80,9 @@ impl Patience {
         true
     }
 
-    // The exchange was had after so many vain looks. Whether the worker is to rest.
-    pub(crate) fn note(&mut self, looks: u32) -> bool {
-        if looks > 0 {
+    // The exchange was had after so many vain looks, and whether what the worker does may be lost. Whether it is to rest.
+    pub(crate) fn note(&mut self, looks: u32, is_risky: bool) -> bool {
+        if looks > 0 && is_risky {
             self.crowd = self.crowd.saturating_add(POLICY.away);
         } else {
             self.crowd = self.crowd.saturating_sub(POLICY.there);
@@ -96,21 +93,8 @@ impl Patience {
         self.is_crowded()
     }
 
-    fn looks(&self) -> u32 {
-        if self.is_first {
-            POLICY.looks_of_first
-        } else {
-            POLICY.looks
-        }
-    }
-
     fn is_crowded(&self) -> bool {
         !self.is_first && self.crowd >= POLICY.crowded
-    }
-
-    // A lease was found.
-    pub(crate) fn find(&mut self) {
-        self.vain = 0;
     }
 
     // Begins a rest, twice as long as the one before.
@@ -131,9 +115,6 @@ impl Patience {
     pub(crate) fn wait<R: Wait>(&mut self, rt: &R) {
         if self.is_crowded() {
             self.begin_rest();
-        } else if self.vain < self.looks() {
-            self.vain = self.vain.saturating_add(1);
-            thread::yield_now();
         } else {
             self.nap_for(rt, POLICY.nap);
         }

@@ -3,10 +3,8 @@
 /// How far leases run, how often the exchange is looked at, and how long threads sleep. `docs/PERFORMANCE.md` has their measurements.
 #[derive(Clone, Copy)]
 pub(crate) struct Policy {
-    /// How many visits there are for each component between two passes over all leases.
+    /// How many visits there are for each component between two passes over all leases, each of which begins by raising the bound.
     pub(crate) visits_a_pass: u64,
-    /// How often the bound is raised between two passes.
-    pub(crate) commits_a_pass: u64,
     /// How many entries a component does at most in a visit beyond what the others have to do: what isn't committed yet has to
     /// stay in the processor's caches.
     pub(crate) most_window: u32,
@@ -18,14 +16,11 @@ pub(crate) struct Policy {
     pub(crate) visits_to_grow: u32,
     /// How many times in a row messages take nothing back before a component needn't be careful any more.
     pub(crate) many_arrivals: u32,
-    /// How often a worker that finds no lease yields before it naps. Each look takes the exchange from those that work.
-    pub(crate) looks: u32,
-    /// The same for the first worker, which takes over where another one rests.
-    pub(crate) looks_of_first: u32,
-    /// How long a nap is, in microseconds; the unit of rests.
+    /// How long a nap is, in microseconds: of a worker that finds no lease, since each look takes the exchange from those that work, and of the
+    /// calling thread between two looks at what was committed; the unit of rests.
     pub(crate) nap: u64,
-    /// What a look adds that finds the exchange away. A worker rests where the sum comes to `crowded`, so where the exchange is away at more
-    /// than one look of four.
+    /// What a look adds that finds the exchange away, after a visit of a component that lost something. A worker rests where the sum comes to
+    /// `crowded`, so where the exchange is away at more than one look of four.
     pub(crate) away: u32,
     /// What a look takes off that finds the exchange there.
     pub(crate) there: u32,
@@ -42,24 +37,15 @@ pub(crate) struct Policy {
     /// How many turns may be published before the calling thread has looked for them again. A worker waits then until it has: what isn't written
     /// takes memory, and the cells of what is written serve again.
     pub(crate) most_unseen: u64,
-    /// How long the calling thread sleeps at least between two looks at what was committed, in microseconds.
-    pub(crate) least_pause: u64,
-    /// How long it sleeps at most.
-    pub(crate) most_pause: u64,
-    /// With fewer turns in a chunk it sleeps twice as long next time, else half as long.
-    pub(crate) many_turns: u64,
 }
 
 pub(crate) const POLICY: Policy = Policy {
     visits_a_pass: 1,
-    commits_a_pass: 2,
     most_window: 8,
     most_held: 64,
     visits_ahead: 32,
     visits_to_grow: 16,
     many_arrivals: 128,
-    looks: 2,
-    looks_of_first: 32,
     nap: 50,
     away: 3,
     there: 1,
@@ -69,7 +55,4 @@ pub(crate) const POLICY: Policy = Policy {
     most_doublings: 11,
     most_nap_doublings: 5,
     most_unseen: 1024,
-    least_pause: 10,
-    most_pause: 200,
-    many_turns: 256,
 };

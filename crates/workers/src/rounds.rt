@@ -2,7 +2,7 @@
 use crate::policy::POLICY;
 
 // A pass goes over the leases that wait and takes each that hasn't met the exchange for long. It begins once in some visits for each component,
-// and some times as often the bound is raised, so that a visit costs the same however many components there are.
+// and the bound is raised then, so that a visit costs the same however many components there are.
 #[derive(Drop)]
 pub(crate) struct Rounds {
     // The number of the pass, from 1.
@@ -11,8 +11,6 @@ pub(crate) struct Rounds {
     next: u16,
     // How many visits there were since it began.
     visits: u64,
-    // How many visits there were since the bound was raised.
-    since: u64,
     // How many visits there were.
     all: u64,
 }
@@ -24,7 +22,6 @@ impl Rounds {
             pass: 1,
             next: components,
             visits: 0,
-            since: 0,
             all: 0,
         }
     }
@@ -36,7 +33,6 @@ impl Rounds {
     // There is a visit.
     pub(crate) fn visit(&mut self) {
         self.visits = self.visits.saturating_add(1);
-        self.since = self.since.saturating_add(1);
         self.all = self.all.saturating_add(1);
     }
 
@@ -45,25 +41,15 @@ impl Rounds {
         self.all
     }
 
-    // The bound is raised.
-    pub(crate) fn commit(&mut self) {
-        self.since = 0;
-    }
-
-    // Whether the bound is to be raised.
-    pub(crate) fn is_to_commit(&self, components: u16) -> bool {
-        let visits = POLICY.visits_a_pass * u64::from(components);
-        self.since.saturating_mul(POLICY.commits_a_pass) >= visits
-    }
-
-    // Begins a pass if one is due, and answers whether one is under way.
+    // Begins a pass if one is due, and answers whether it did.
     pub(crate) fn begin(&mut self, components: u16) -> bool {
-        if self.visits >= POLICY.visits_a_pass * u64::from(components) {
-            self.pass = self.pass.saturating_add(1);
-            self.next = 0;
-            self.visits = 0;
+        if self.visits < POLICY.visits_a_pass * u64::from(components) {
+            return false;
         }
-        self.next < components
+        self.pass = self.pass.saturating_add(1);
+        self.next = 0;
+        self.visits = 0;
+        true
     }
 
     // The component that the pass looks at next; none where it is over.

@@ -18,7 +18,7 @@ use crate::stats::{Activity, Stats};
 use crate::working::work;
 use crate::writing::write_all;
 use core::mem::replace_with;
-use exchange::{Exchange, Lease};
+use exchange::{Exchange, Lease, Parcel};
 use gvt::{Published, Seat};
 use pools::{Pass, Pool};
 use raw_events::EventList;
@@ -130,10 +130,12 @@ fn start<T: Turns, R: Wait>(
         published,
     };
     let activity = Activity::default();
+    let parcel = Parcel::new(alloc, setup.plan().components())?;
     let caller = Caller {
         lock,
         seat,
         activity,
+        parcel,
     };
     Ok(Begun {
         shared,

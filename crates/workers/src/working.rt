@@ -54,7 +54,6 @@ pub(crate) fn work<T: Turns, G: Gate<T>, R: Wait>(
             break;
         }
         done = Some(handed);
-        patience.find();
     }
     end(shared);
 }
@@ -74,13 +73,21 @@ fn change<T: Turns, R: Wait>(
 {
     let mut looks = 0;
     let mut lent = hold(rt, shared, &mut worker.lock, &mut looks);
-    let rests = patience.note(looks);
+    let rests = patience.note(looks, is_risky(&done));
     lent.depot.note_wait(patience.take_waited());
     lent.depot.take_spare(&mut worker.spare);
     let visit = go_round(shared, &mut *lent.depot, worker, done, rests);
     patience.see(lent.depot.count());
     shared.exchange.give_back(rt, &mut worker.lock, lent);
     visit
+}
+
+// Whether what is done of a component is lost sometimes; where nothing was done too.
+fn is_risky<T: Turns>(done: &Option<Handed<T>>) -> bool {
+    match done {
+        None => true,
+        Some(handed) => handed.paced.pace.has_lost(),
+    }
 }
 
 // The same, where this is what the lock protects. The number of the turns below the bound is published where it has changed.

@@ -1,10 +1,12 @@
 //! What the calling thread does: it writes the turns that are committed for good.
-ghost use Rattle.std.specs.Prelude.{◌≡◌, IfErr, IfOk, []};
-ghost use Rattle.task_seed.specs.Setups.{system};
+ghost use Rattle.std.specs.Prelude.{◌≡◌, IfErr, IfOk, [], length};
+ghost use Rattle.exchange.specs.Held.{put_all};
+ghost use Rattle.plans.specs.Plans.{composition};
+ghost use Rattle.task_seed.specs.Setups.{plan_of, system};
 ghost use Rattle.trace.specs.Lines.{text_of};
 ghost use Rattle.trace.specs.Puts.{Puts, Stops};
 ghost use Rattle.workers.specs.Crews.{IsCallerOf};
-ghost use Rattle.workers.specs.Portions.{IsPortion, IsDuePortion};
+ghost use Rattle.workers.specs.Portions.{IsCutOf, IsDuePortion, IsPortion};
 ghost use Rattle.workers.specs.Runs.{WroteAll, WroteSome};
 
 use crate::crew::Caller;
@@ -13,7 +15,7 @@ use crate::policy::POLICY;
 use crate::shared::{Shared, ends, hold, nap, note_look, noted};
 use crate::stats::Stats;
 use event_keys::Turned;
-use exchange::Exchange;
+use exchange::{Exchange, Parcel};
 use plans::Plan;
 use raw_events::EventList;
 use reference::laws::turns_are_schedule;
@@ -31,20 +33,44 @@ pub(crate) struct Portion {
     pub(crate) is_last: bool,
 }
 
-// The next chunk of an exchange.
-pub(crate) fn take_portion<T: Turns>(exchange: &mut Exchange<T>) -> Portion
-    ensures portion { IsPortion (system T.turn_of exchange.old.setup) result }
+// The same of turns that aren't put together yet.
+#[derive(Clone, Copy)]
+pub(crate) struct Cut {
+    pub(crate) first: u64,
+    pub(crate) given: u64,
+    pub(crate) is_last: bool,
+}
+
+// The next chunk of an exchange, in a parcel.
+pub(crate) fn take_cut<T: Turns>(exchange: &mut Exchange<T>, parcel: &mut Parcel) -> Cut
+    requires many { length parcel.old ≡ length (composition (plan_of exchange.old.setup)) }
+    ensures cut { IsCutOf (system T.turn_of exchange.old.setup) result (put_all parcel.new) }
+    ensures many { length parcel.new ≡ length parcel.old }
     ensures setup { exchange.new.setup ≡ exchange.old.setup }
 {
     exchange.soundness_law();
     let is_last = exchange.finished();
-    let chunk = exchange.take_chunk();
+    let first = exchange.take_parcel(parcel);
     let given = exchange.given();
-    Portion {
-        turns: chunk.turns,
-        first: chunk.first,
+    Cut {
+        first,
         given,
         is_last,
+    }
+}
+
+// What was cut off, put together. It takes a while, so the exchange is given back before.
+fn put_together<T: Turns>(own: &Setup<T>, cut: Cut, parcel: &mut Parcel) -> Portion
+    requires { IsCutOf (system T.turn_of own.now) cut (put_all parcel.old) }
+    ensures portion { IsPortion (system T.turn_of own.now) result }
+    ensures many { length parcel.new ≡ length parcel.old }
+{
+    let _ = own;
+    Portion {
+        turns: parcel.put_together(),
+        first: cut.first,
+        given: cut.given,
+        is_last: cut.is_last,
     }
 }
 
@@ -62,7 +88,6 @@ fn next_portion<T: Turns, R: Wait>(
     ensures caller { IsCallerOf shared.now own.now caller.new }
     ensures portion { IfOk result (IsDuePortion (system T.turn_of own.now)) }
 {
-    let _ = own;
     note_look(shared);
     let count = shared.published.read(&mut caller.seat);
     if count <= written && !ends(shared) {
@@ -73,11 +98,11 @@ fn next_portion<T: Turns, R: Wait>(
     }
     let mut looks = 0;
     let mut lent = hold(rt, shared, &mut caller.lock, &mut looks);
-    let portion = lent.depot.take_portion();
+    let cut = lent.depot.take_cut(&mut caller.parcel);
     caller.activity = lent.depot.activity();
     lent.depot.add_spare(spare);
     shared.exchange.give_back(rt, &mut caller.lock, lent);
-    Ok(Some(portion))
+    Ok(Some(put_together(own, cut, &mut caller.parcel)))
 }
 
 // Writes the lines of a portion's turns, where so many bytes went out before.
@@ -95,19 +120,10 @@ fn put_portion<W: Write>(
     append_turns(plan, turns.iter(), lines, before, out)
 }
 
-// Sleeps, unless a worker has ended: then what is left can be had at once.
-fn rest<T: Turns, R: Wait>(rt: &R, shared: &Shared<T>, pause: u64) {
+// Naps, unless a worker has ended: then what is left can be had at once.
+fn rest<T: Turns, R: Wait>(rt: &R, shared: &Shared<T>) {
     if !ends(shared) {
-        nap(rt, pause);
-    }
-}
-
-// How long to sleep next time, where so many turns came: longer where they were few.
-fn next_pause(pause: u64, turns: u64) -> u64 {
-    if turns < POLICY.many_turns {
-        pause.saturating_mul(2).min(POLICY.most_pause)
-    } else {
-        (pause / 2).max(POLICY.least_pause)
+        nap(rt, POLICY.nap);
     }
 }
 
@@ -127,13 +143,12 @@ pub(crate) fn write_all<T: Turns, W: Write, R: Wait>(
     turns_are_schedule(own);
     let mut written = 0;
     let mut bytes = 0;
-    let mut pause = POLICY.least_pause;
     let mut spare = EventList::new();
     for _ in rt.forever() {
         let mut portion = match next_portion(rt, shared, own, caller, written, &mut spare) {
             Ok(Some(portion)) => portion,
             Ok(None) => {
-                rest(rt, shared, pause);
+                rest(rt, shared);
                 continue;
             }
             Err(fault) => return Err(run_fault(fault)),
@@ -146,13 +161,11 @@ pub(crate) fn write_all<T: Turns, W: Write, R: Wait>(
             Err(fault) => return Err(RunFault::Write(fault)),
         }
         spare.append_all(&mut portion.turns);
-        let turns = portion.given.saturating_sub(written);
         written = portion.given;
         if portion.is_last {
             return Ok(caller.activity.stats(written));
         }
-        pause = next_pause(pause, turns);
-        rest(rt, shared, pause);
+        rest(rt, shared);
     }
     unreachable!()
 }

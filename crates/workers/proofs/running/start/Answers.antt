@@ -1,10 +1,13 @@
-use Rattle.std.proofs.Common.{◌≡◌, All, Some, ap, subst, ◌∙◌}
+use Rattle.std.proofs.Common.{◌≡◌, All, Some, [], length, ap, subst, ◌∙◌}
 use Rattle.std.specs.Prelude.{IfSome, Option, map}
 use Rattle.std.specs.Arc.{arc_value}
+use Rattle.std.proofs.lemmas.List.{length-replicate}
 use Rattle.std.proofs.lemmas.List.Elements.{All-pop, All-weaker}
 use Rattle.gvt.specs.Seats.{IsSeatOf, knowledge}
 use Rattle.gvt.specs.declared.word.Seat.{Seat}
+use Rattle.plans.specs.Plans.{composition}
 use Rattle.task_seed.specs.declared.setup.Setup.{Setup}
+use Rattle.task_seed.specs.Setups.{plan_of}
 use Rattle.pools.specs.declared.places.Pass.{Pass}
 use Rattle.pools.specs.Passes.{holding, IsOf, IsEmptyOf}
 use Rattle.pools.specs.Places.{common}
@@ -37,4 +40,5 @@ returns-clause-caller g c =
     let lock : L c.in-Some-Some.lock = subst (λ r. IfSome r L) c.in-Some-Some.is-0 locks in
     let kind : K c.in-Some-Some.lock = subst (λ r. IfSome r K) c.in-Some-Some.is-0 kinds in
     let seat : S c.in-Some-Some.seat = subst (λ r. IfSome r S) c.in-Some-Some.is-1 seats in
-    (lock, seat, kind ∙ is)
+    let many = ap length c.in_ok-parcel.ensures ∙ length-replicate c.components.result [] ∙ c.components.ensures ∙ ap (λ plan. length (composition plan)) c.plan.ensures ∙ ap (λ x. length (composition (plan_of x))) c.deref.ensures in
+    (lock, seat, kind ∙ is, many)
