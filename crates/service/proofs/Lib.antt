@@ -1,6 +1,7 @@
 pub mod Checked
 pub mod CrewReports
 pub mod DriveReports
+pub mod Flushed
 pub mod Pieces
 pub mod Printings
 pub mod Reporting

@@ -1,5 +1,5 @@
 -- Statuses, lines and when each report is given.
-use Rattle.std.specs.Prelude.{◌≡◌, ◌⊎◌, ◌==◌, ◌||◌, ◌&&◌, nat_le, ℕ, Bool, if◌then◌else◌, Option, None, Some, List, [], ◌++◌, codes, decimal, flat_map}
+use Rattle.std.specs.Prelude.{◌≡◌, ◌⊎◌, ◌==◌, ◌||◌, ◌&&◌, nat_le, ℕ, Bool, true, false, if◌then◌else◌, Option, None, Some, List, [], ◌++◌, codes, decimal, flat_map}
 use Rattle.clap.specs.declared.error.ErrorKind.TheVariants.{DisplayHelp, DisplayVersion}
 use Rattle.command_line.specs.declared.Asked.{Asked}
 use Rattle.command_line.specs.declared.Asked.TheVariants as asked
@@ -117,3 +117,24 @@ IsUnserved words kept wrote cut Misused = (IsWrong words ⊎ AskNothing words) �
 -- the report on the words after the program's name
 abbrev pub IsReport : List (List ℕ) → (List ℕ → List ℕ → Type 0) → (List ℕ → Type 0) → Type 0 → (List ℕ → Type 0) → (List ℕ → ℕ → Type 0) → Report → Type 0
 IsReport words has lacks kept wrote cut report = IsReportOnAsked words has lacks kept wrote cut report ⊎ IsUnserved words kept wrote cut report
+
+-- all that was asked for is done; `check` may have said no
+abbrev pub is_served : Report → Bool
+is_served Done = true
+is_served No = true
+is_served (Driven refused) = true
+is_served (Ran stats) = true
+is_served (Refused number place) = false
+is_served (Fault number) = false
+is_served Misused = false
+
+-- all of the text was written, and the flush after that failed (60)
+pub record IsUnflushed (words : List (List ℕ)) (has : List ℕ → List ℕ → Type 0) (lacks : List ℕ → Type 0) (kept : Type 0) (wrote : List ℕ → Type 0) (cut : List ℕ → ℕ → Type 0) (report : Report) : Type 0 where
+  pub is : report ≡ Fault 60
+  pub served : Report
+  pub done : is_served served ≡ true
+  pub on : IsReport words has lacks kept wrote cut served
+
+-- the report on the words after the program's name, once the output is flushed
+abbrev pub IsFlushedReport : List (List ℕ) → (List ℕ → List ℕ → Type 0) → (List ℕ → Type 0) → Type 0 → (List ℕ → Type 0) → (List ℕ → ℕ → Type 0) → Report → Type 0
+IsFlushedReport words has lacks kept wrote cut report = IsReport words has lacks kept wrote cut report ⊎ IsUnflushed words has lacks kept wrote cut report

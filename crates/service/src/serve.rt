@@ -1,10 +1,11 @@
 //! The words of the command line, served.
-ghost use Rattle.std.specs.Prelude.{◌≡◌, ◌≢◌, ◌≤◌, ◌<◌, ℕ, List, IfOk, IfErr, length, map, string_bytes};
+ghost use Rattle.std.specs.Prelude.{◌≡◌, ◌≢◌, ◌≤◌, ◌<◌, ◌⊎◌, true, ℕ, List, IfOk, IfErr, length, map, string_bytes};
 ghost use Rattle.clap.specs.declared.error.ErrorKind.TheVariants.{DisplayHelp, DisplayVersion};
 ghost use Rattle.command_line.specs.Words.{HasFault, IsRefused};
 ghost use Rattle.service.specs.declared.report.Report.{Report};
+ghost use Rattle.service.specs.Flushed.{IsFlushedWhere};
 ghost use Rattle.service.specs.Reading.{IsReadOf};
-ghost use Rattle.service.specs.Reports.{status_of, IsReport, IsReportOn, IsPrintReport, IsUnserved};
+ghost use Rattle.service.specs.Reports.{is_served, status_of, IsFlushedReport, IsReport, IsReportOn, IsPrintReport, IsUnserved};
 ghost use Rattle.service.specs.Told.{IsTold, IsWarned};
 ghost use Rattle.service.specs.Unread.{IsFileFault, IsUnread, most_bytes};
 ghost use Rattle.trace.specs.Went.{IsStopped, IsWritten};
@@ -32,8 +33,11 @@ pub const MOST_BYTES: u64 = 16_777_216;
 /// One byte more than a source may have: a longer file is refused for its size.
 pub(crate) const SOURCE_BYTES: u64 = ioa_front::MOST_BYTES as u64 + 1;
 
-/// Serves the words after the program's name: what is asked goes to `out`, as help and the version do; faults and what is wrong with the words go to
-/// `err`, up to the first write that fails there, and the answer is the exit status. It may wait where `run` is asked for.
+/// Serves the words after the program's name: what is asked goes to `out`, as help and the version do, and `out` is flushed where all is done;
+/// faults and what is wrong with the words go to `err`, up to the first write that fails there, and the answer is the exit status. It may wait
+/// where `run` is asked for.
+///
+/// A flush that fails is the fault of a failed write (60). The lines of the steps that `drive` refused, and of what workers did, come after it.
 pub fn serve<F: Files, W: Write + Drop, E: Write, R: Threads + Wait + Sync>(
     rt: &R,
     alloc: Global,
@@ -42,7 +46,7 @@ pub fn serve<F: Files, W: Write + Drop, E: Write, R: Threads + Wait + Sync>(
     out: &mut Counted<W>,
     err: &mut Counted<E>,
 ) -> u8
-    ensures status { (report : Report) × (result ≡ status_of report) × IsReport (map string_bytes words.now) (F.has files.now) (F.lacks files.now) (out.new ≡ out.old) (IsWritten W.contents out.old out.new) (IsStopped W.contents out.old out.new) report × IsTold E.contents err.old err.new report }
+    ensures status { (report : Report) × (result ≡ status_of report) × IsFlushedReport (map string_bytes words.now) (F.has files.now) (F.lacks files.now) (out.new ≡ out.old) (IsWritten W.contents out.old out.new) (IsStopped W.contents out.old out.new) report × IsTold E.contents err.old err.new report }
 {
     let report = answer(rt, alloc, words, files, out, err);
     report.tell(err);
@@ -50,6 +54,44 @@ pub fn serve<F: Files, W: Write + Drop, E: Write, R: Threads + Wait + Sync>(
 }
 
 fn answer<F: Files, W: Write + Drop, E: Write, R: Threads + Wait + Sync>(
+    rt: &R,
+    alloc: Global,
+    words: &[String],
+    files: &F,
+    out: &mut Counted<W>,
+    err: &mut Counted<E>,
+) -> Report
+    ensures report { IsFlushedReport (map string_bytes words.now) (F.has files.now) (F.lacks files.now) (out.new ≡ out.old) (IsWritten W.contents out.old out.new) (IsStopped W.contents out.old out.new) result }
+    ensures warned { IsWarned E.contents err.old err.new result }
+{
+    let report = answer_words(rt, alloc, words, files, out, err);
+    flushed(report, out)
+}
+
+fn is_served(report: &Report) -> bool
+    ensures { result ≡ is_served report.now }
+{
+    match report {
+        Report::Done | Report::No | Report::Driven(_) | Report::Ran(_) => true,
+        Report::Refused(_, _) | Report::Fault(_) | Report::Misused => false,
+    }
+}
+
+// Flushes the output where all is done; where the flush fails that is a failed write. Where not all is done, what is held goes out when the
+// output is dropped.
+fn flushed<W: Write>(report: Report, out: &mut Counted<W>) -> Report
+    ensures report { (result ≡ report) ⊎ ((is_served report ≡ true) × (result ≡ Report.Fault 60)) }
+    ensures out { IsFlushedWhere W.contents (is_served report) out.old out.new }
+{
+    if !is_served(&report) || out.flush() {
+        report
+    } else {
+        Report::Fault(60)
+    }
+}
+
+// The report, before the output is flushed.
+fn answer_words<F: Files, W: Write + Drop, E: Write, R: Threads + Wait + Sync>(
     rt: &R,
     alloc: Global,
     words: &[String],

@@ -13,14 +13,15 @@ use std::sync::Wait;
 use std::thread::Threads;
 use trace::Counted;
 
-// Two files in memory, `source` and `table`.
+// Three files in memory, `source`, `table` and `more`.
 #[derive(Clone, Copy)]
-struct TwoFiles<'a> {
+struct TextFiles<'a> {
     source: &'a [u8],
     table: &'a [u8],
+    more: &'a [u8],
 }
 
-impl<'a> Files for TwoFiles<'a> {
+impl<'a> Files for TextFiles<'a> {
     ghost has = { λ _ _ _. Unit {0} };
 
     ghost lacks = { λ _ _. Unit {0} };
@@ -31,6 +32,9 @@ impl<'a> Files for TwoFiles<'a> {
         }
         if name == "table" {
             return front(alloc, self.table, most);
+        }
+        if name == "more" {
+            return front(alloc, self.more, most);
         }
         Err(FileFault::Failed)
     }
@@ -59,11 +63,24 @@ fn words(rt: &(impl Abort + AllocGlobal), all: &str) -> Vec<String> {
     words
 }
 
-// A writer over memory that takes so many bytes in all.
+// A writer over memory that takes so many bytes in all, may fail to flush, and knows whether it was flushed after the last write.
 #[derive(Drop)]
 struct Narrow {
     held: Vec<u8>,
     room: usize,
+    is_stuck: bool,
+    is_flushed: bool,
+}
+
+impl Narrow {
+    fn new(held: Vec<u8>, room: usize, is_stuck: bool) -> Narrow {
+        Narrow {
+            held,
+            room,
+            is_stuck,
+            is_flushed: false,
+        }
+    }
 }
 
 impl Write for Narrow {
@@ -71,10 +88,15 @@ impl Write for Narrow {
         let count = buf.len().min(self.room);
         self.held.extend_from_slice(&buf[..count])?;
         self.room -= count;
+        self.is_flushed = false;
         Ok(count)
     }
 
     fn flush(&mut self) -> io::Result<()> {
+        if self.is_stuck {
+            return Err(io::Error::from(io::ErrorKind::Other));
+        }
+        self.is_flushed = true;
         Ok(())
     }
 }
@@ -99,21 +121,31 @@ fn is_wanted(written: &[u8], wanted: Text) -> bool {
 // Words with the bytes that can be written, what is printed, what is said, and the exit status.
 type Row<'a> = (&'a str, usize, Text<'a>, Text<'a>, u8);
 
-// Whether the words of a row do what it says.
+// Whether the words of a row do what it says, and flush what is printed where all is done.
 fn is_served<R: Abort + AllocGlobal + Threads + Wait + Sync>(
     rt: &R,
-    files: &TwoFiles,
+    files: &TextFiles,
     row: &Row,
+) -> bool {
+    is_answered(rt, files, row, false)
+}
+
+// The same, where the output may fail to flush.
+fn is_answered<R: Abort + AllocGlobal + Threads + Wait + Sync>(
+    rt: &R,
+    files: &TextFiles,
+    row: &Row,
+    is_stuck: bool,
 ) -> bool {
     let (all, room, printed, said, status) = *row;
     let words = words(rt, all);
-    let held = Vec::new(rt.alloc());
-    let mut out = Counted::new(Narrow { held, room });
+    let mut out = Counted::new(Narrow::new(Vec::new(rt.alloc()), room, is_stuck));
     let mut err = Counted::new(Vec::new(rt.alloc()));
     let ended = serve(rt, rt.alloc(), words.as_slice(), files, &mut out, &mut err);
     drop(words);
     let (out, err) = (out.into_inner(), err.into_inner());
     let is_right = ended == status
+        && out.is_flushed == (status == 0 || status == 4)
         && is_wanted(out.held.as_slice(), printed)
         && is_wanted(err.as_slice(), said);
     drop(out);
@@ -260,9 +292,10 @@ const REFUSED: [(&str, &str); 23] = [
 
 #[test]
 fn words_are_served_or_refused(rt: HostRuntime) {
-    let files = TwoFiles {
+    let files = TextFiles {
         source: RING.as_bytes(),
         table: ROWS.as_bytes(),
+        more: b"",
     };
     for (k, row) in SERVED.iter().enumerate() {
         assert!(rt; is_served(&rt, &files, row), "row {k}");
@@ -271,6 +304,42 @@ fn words_are_served_or_refused(rt: HostRuntime) {
         let row = (*said, 100, Is(""), Has(part), 2);
         assert!(rt; is_served(&rt, &files, &row), "wrong row {k}");
     }
+}
+
+// Words with a third file, and what is printed before the output fails to flush.
+const STUCK: [(&str, &str, &str); 7] = [
+    ("run source --table table --workers 2", "", TURNS),
+    ("run source --table table --stats", "", TURNS),
+    ("reference source --table table", "", TURNS),
+    ("print source", "", RING),
+    ("check source more", "pass(0)\n", "not enabled at 0\n"),
+    ("check source more", "pass(1)\n", "schedule\n"),
+    // The third step is refused, which isn't told.
+    (
+        "drive source more --table table",
+        "process 1\nprocess 0\ncommit 3 1 1\ncommit 2 0 0\n",
+        "1 1 0 idle\n",
+    ),
+];
+
+#[test]
+fn an_output_that_is_not_flushed_is_a_failed_write(rt: HostRuntime) {
+    for (k, (words, more, printed)) in STUCK.iter().enumerate() {
+        let files = TextFiles {
+            source: RING.as_bytes(),
+            table: ROWS.as_bytes(),
+            more: more.as_bytes(),
+        };
+        let row = (*words, 1000, Is(*printed), Is("fault 60\n"), 3);
+        assert!(rt; is_answered(&rt, &files, &row, true), "stuck row {k}");
+    }
+    let files = TextFiles {
+        source: RING.as_bytes(),
+        table: ROWS.as_bytes(),
+        more: b"",
+    };
+    let row = ("--version", 1000, Has("warp"), Is("fault 60\n"), 3);
+    assert!(rt; is_answered(&rt, &files, &row, true), "the version");
 }
 
 fn reference_words(alloc: Global) -> Result<Vec<String>, AllocError> {
@@ -283,12 +352,12 @@ fn reference_words(alloc: Global) -> Result<Vec<String>, AllocError> {
 
 // Whether `reference` leaves a beginning of all turns, and all of them where it says that all went well.
 fn leaves_a_beginning<R: AllocGlobal + Threads + Wait + Sync>(rt: &R, words: &[String]) -> bool {
-    let files = TwoFiles {
+    let files = TextFiles {
         source: RING.as_bytes(),
         table: ROWS.as_bytes(),
+        more: b"",
     };
-    let held = Vec::new(rt.alloc());
-    let mut out = Counted::new(Narrow { held, room: 100 });
+    let mut out = Counted::new(Narrow::new(Vec::new(rt.alloc()), 100, false));
     let mut err = Counted::new(Vec::new(rt.alloc()));
     let status = serve(rt, rt.alloc(), words, &files, &mut out, &mut err);
     let (out, err) = (out.into_inner(), err.into_inner());
@@ -324,7 +393,13 @@ fn is_idle<R: Abort + AllocGlobal + Threads + Wait + Sync>(
     let source = RING.as_bytes();
     let words = "run source --table table --ticks 0";
     let row = (words, 1000, Is(""), Is(said), status);
-    is_served(rt, &TwoFiles { source, table }, &row)
+    let more = b"";
+    let files = TextFiles {
+        source,
+        table,
+        more,
+    };
+    is_served(rt, &files, &row)
 }
 
 #[test]
