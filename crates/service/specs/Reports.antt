@@ -128,7 +128,7 @@ is_served (Refused number place) = false
 is_served (Fault number) = false
 is_served Misused = false
 
--- all of the text was written, and the flush after that failed (60)
+-- the report is a failed write (60) in place of one that all is done, after all of its text was written: the flush failed, which no clause on writers tells
 pub record IsUnflushed (words : List (List ℕ)) (has : List ℕ → List ℕ → Type 0) (lacks : List ℕ → Type 0) (kept : Type 0) (wrote : List ℕ → Type 0) (cut : List ℕ → ℕ → Type 0) (report : Report) : Type 0 where
   pub is : report ≡ Fault 60
   pub served : Report
