@@ -12,7 +12,7 @@ use Rattle.world.specs.Theory.{Theory}
 use Rattle.world.specs.ThereAndBack.{AllDone, Leaves, processings}
 use Rattle.world.proofs.ThereAndBack.{antimessage_pair, antimessage_plus, antimessage_taken, done_length, inside, message_minus, message_pair, message_taken, put_done, runs_on, sent_self, unsent_self}
 
-all_done_on : (ps qs : List Reply) → AllDone ps → AllDone qs → AllDone (ps ++ qs)
+pub all_done_on : (ps qs : List Reply) → AllDone ps → AllDone qs → AllDone (ps ++ qs)
 all_done_on [] qs c d = d
 all_done_on (p ∷ ps) qs c d = (c.0, all_done_on ps qs c.1 d)
 

@@ -11,5 +11,6 @@ mod Answering
 mod ThereAndBack
 mod RingTurned
 mod EachWay
+mod SettingOut
 mod Comparing
 mod Keeping

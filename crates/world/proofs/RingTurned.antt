@@ -7,6 +7,7 @@ use Rattle.virtual_time.specs.Inverses.{ArePairs, AreReceivers, Pair, is_in}
 use Rattle.virtual_time.specs.Replies.{Delivered, Met, Processed, RolledBack, Runs}
 use Rattle.virtual_time.specs.Ring.{led, pass_2, pass_3, ring}
 use Rattle.virtual_time.specs.Worlds.{DeliverAntimessage, DeliverMessage, Meet, Process, RollBack, start_world}
+use Rattle.world.specs.Examples.{StepsAreTold}
 use Rattle.world.specs.ThereAndBack.{IsThereAndBack, Leaves}
 
 receives_1 : (j : ℕ) → is_in j (1 ∷ []) ≡ ring.receives 0 1 j
@@ -17,7 +18,7 @@ receives_1 (suc (suc j)) = rw (ne_eqb (suc (suc j)) 1 (λ e. absurd (omega arith
 only_1 : AreReceivers ring 0 1 (1 ∷ [])
 only_1 = record { distinct = (refl, tt); all = receives_1 }
 
-one_pair : List (Pair ℕ)
+abbrev one_pair : List (Pair ℕ)
 one_pair = record { to = 0; item = pass_3 } ∷ []
 
 sent_0 : ArePairs ring 1 (Own 7 (Some 0) ∷ Input pass_2 ∷ []) (record { to = 0; item = pass_3 } ∷ [])
@@ -90,3 +91,26 @@ example_b =
       leave = (led (start_world ring) (Process 0 ∷ RollBack 0 ∷ DeliverMessage 1 pass_2 ∷ Process 1 ∷ Process 1 ∷ Process 1 ∷ Process 0 ∷ RollBack 0 ∷ DeliverAntimessage 1 pass_2 ∷ DeliverMessage 1 pass_2 ∷ Process 1 ∷ Process 1 ∷ Meet 0 pass_3 ∷ []), DeliverAntimessage 1 pass_2 ∷ DeliverMessage 1 pass_2 ∷ Process 1 ∷ Process 1 ∷ Meet 0 pass_3 ∷ [], [], Delivered 2 ∷ Delivered 0 ∷ Processed 4 ∷ Processed 7 ∷ Met ∷ [], [], refl, refl, leaves_b, (refl, refl, refl));
       done = (tt, (tt, (tt, (tt, (tt, (tt, (tt, tt)))))));
     }
+
+pub told : StepsAreTold
+unfolding hit
+told = (
+  record {
+    entry = Own 4 (Some 1);
+    receivers = 1 ∷ [];
+    ways = DeliverMessage 1 pass_2 ∷ DeliverAntimessage 1 pass_2 ∷ Process 1 ∷ [];
+    next_is = refl;
+    sent = only_1;
+    ways_are = (DeliverMessage 1 pass_2 ∷ DeliverAntimessage 1 pass_2 ∷ Process 1 ∷ [], [], refl, inr (inl (record { pairs = []; pairs_are = sent_none; steps_are = refl })), refl);
+    steps_are = refl;
+  },
+  record {
+    entry = Own 4 (Some 1);
+    receivers = 1 ∷ [];
+    ways = DeliverAntimessage 1 pass_2 ∷ DeliverMessage 1 pass_2 ∷ Process 1 ∷ Process 1 ∷ Meet 0 pass_3 ∷ [];
+    next_is = refl;
+    sent = only_1;
+    ways_are = (DeliverAntimessage 1 pass_2 ∷ DeliverMessage 1 pass_2 ∷ Process 1 ∷ Process 1 ∷ Meet 0 pass_3 ∷ [], [], refl, inr (inr (record { pairs = one_pair; pairs_are = sent_0; steps_are = refl })), refl);
+    steps_are = refl;
+  },
+)

@@ -37,7 +37,7 @@ module _ {S A : Type 0} (machine : Machine S A) (count : ℕ) where
   reached_on w v steps replies r h = record { steps = r.steps ++ steps; replies = r.replies ++ replies; run = runs_on r.steps steps r.replies replies (start_world machine) w v r.run h }
 
   -- A step that was done leads to the step's world.
-  processed_is : (j : ℕ) (r : Reply) (w u : World S A) → WasDone r → Answers machine count w (Process j) r u → (j < count) × (u ≡ process machine j w)
+  pub processed_is : (j : ℕ) (r : Reply) (w u : World S A) → WasDone r → Answers machine count w (Process j) r u → (j < count) × (u ≡ process machine j w)
   processed_is j r w u d (inl h) = absurd (refused_not 30 r h.1.reply_is d)
   processed_is j r w u d (inr (inl h)) = absurd (refused_not 31 r h.2.reply_is d)
   processed_is j r w u d (inr (inr (e, l, n, inl h))) = absurd (refused_not 1 r h.reply_is d)
@@ -48,7 +48,7 @@ module _ {S A : Type 0} (machine : Machine S A) (count : ℕ) where
   rolled_is j r w u d (inr (inl h)) = absurd (refused_not 33 r h.2.reply_is d)
   rolled_is j r w u d (inr (inr h)) = h.5
 
-  met_is : (j : ℕ) (x : Item A) (r : Reply) (w u : World S A) → WasDone r → Answers machine count w (Meet j x) r u → (can_meet machine j x w ≡ true) × (u ≡ meet machine j x w)
+  pub met_is : (j : ℕ) (x : Item A) (r : Reply) (w u : World S A) → WasDone r → Answers machine count w (Meet j x) r u → (can_meet machine j x w ≡ true) × (u ≡ meet machine j x w)
   met_is j x r w u d (inl h) = absurd (refused_not 32 r h.1.reply_is d)
   met_is j x r w u d (inr h) = (h.0, h.2)
 

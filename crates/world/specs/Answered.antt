@@ -17,6 +17,7 @@ use Rattle.world.specs.declared.step.Reply.{Reply as CodeReply}
 use Rattle.world.specs.declared.step.StepRefused.{StepRefused}
 use Rattle.world.specs.Steps.{answer_of, step_of}
 use Rattle.world.specs.Simulation.{Simulation, world_of}
+use Rattle.world.specs.SettingOut.{SetsOut}
 use Rattle.world.specs.ThereAndBack.{IsThereAndBack}
 
 -- from a world whose turns are read by turn_of
@@ -63,3 +64,8 @@ module _ {T : Type 0} (turn_of : T → ℕ → ℕ → Option Turn) (old : Simul
   -- steps with these answers lead there and back for component i
   abbrev pub ThereAndBack : ℕ → List CodeStep → List (Result CodeReply StepRefused) → Simulation (Setup T) → Type 0
   ThereAndBack i steps answers = WentThereAndBack i (map step_of steps) (map answer_of answers)
+
+  -- who sets out by these steps comes back: with these answers they lead there and back, and the world is the one before
+  abbrev pub ComesBack : List CodeStep → List (Result CodeReply StepRefused) → Simulation (Setup T) → Type 0
+  ComesBack steps answers new =
+      (i : ℕ) → SetsOut theory i (seen old) (map step_of steps) (map answer_of answers) → ThereAndBack i steps answers new × (new ≡ old)

@@ -2,10 +2,11 @@
 use Rattle.std.specs.Prelude.{List, Some, length, true, [], ◌++◌, ◌<◌, ◌∷◌, ◌≡◌, ℕ}
 use Rattle.virtual_time.specs.Entries.{Entry, Item, entry_key}
 use Rattle.virtual_time.specs.Inverses.{ArePairs, AreSent, Pair, all_met, meetings_of, meets_of}
-use Rattle.virtual_time.specs.Machine.{Lawful, Machine}
+use Rattle.virtual_time.specs.Machine.{HasCount, Lawful, Machine}
 use Rattle.virtual_time.specs.Records.{back_by_antimessage, back_by_message, next_of}
 use Rattle.virtual_time.specs.Replies.{Delivered, IsReached, Met, Processed, Reply, RolledBack, Runs}
 use Rattle.virtual_time.specs.Worlds.{DeliverAntimessage, DeliverMessage, Meet, Process, RollBack, Step, World, can_meet, meet, record_of}
+use Rattle.world.specs.SettingOut.{HadMemory, LackedAlike, SetsOut}
 use Rattle.world.specs.ThereAndBack.{AllDone, IsBackAndThere, IsThereAndBack, Leaves, processings}
 
 -- a message and its antimessage are delivered, in one order and in the other
@@ -39,6 +40,48 @@ module _ (S A : Type 0) where
       → next_of m i (record_of (w.part i)) ≡ Some entry
       → AreSent m i entry receivers
       → IsThereAndBack m count i w (Process i ∷ RollBack i ∷ meetings_of entry receivers) (Processed (entry_key entry) ∷ RolledBack (entry_key entry) ∷ all_met entry receivers) w
+
+  -- who sets out comes back: all steps are done
+  abbrev pub SettingOutLeadsBack : Type 0
+  SettingOutLeadsBack =
+      (m : Machine S A) (count i : ℕ) (w v : World S A) (steps : List (Step A)) (replies : List Reply)
+      → Lawful m
+      → HasCount m count
+      → IsReached m count w
+      → SetsOut m i w steps replies
+      → Runs m count w steps replies v
+      → IsThereAndBack m count i w steps replies v
+
+  -- by meetings alone nothing but the first reply is asked
+  abbrev pub MeetingsSetOut : Type 0
+  MeetingsSetOut =
+      (m : Machine S A) (i k : ℕ) (w : World S A) (entry : Entry A) (receivers : List ℕ) (rest : List Reply)
+      → next_of m i (record_of (w.part i)) ≡ Some entry
+      → AreSent m i entry receivers
+      → SetsOut m i w (Process i ∷ RollBack i ∷ meetings_of entry receivers) (Processed k ∷ rest)
+
+  -- runs in which the same steps lacked memory have the same replies and the same end
+  abbrev pub RunsAreDetermined : Type 0
+  RunsAreDetermined =
+      (m : Machine S A) (count : ℕ) (w v u : World S A) (steps : List (Step A)) (replies others : List Reply)
+      → Lawful m
+      → IsReached m count w
+      → LackedAlike steps replies others
+      → Runs m count w steps replies v
+      → Runs m count w steps others u
+      → (replies ≡ others) × (v ≡ u)
+
+  -- so have runs in which none did
+  abbrev pub RunsWithMemoryAreOne : Type 0
+  RunsWithMemoryAreOne =
+      (m : Machine S A) (count : ℕ) (w v u : World S A) (steps : List (Step A)) (replies others : List Reply)
+      → Lawful m
+      → IsReached m count w
+      → HadMemory steps replies
+      → HadMemory steps others
+      → Runs m count w steps replies v
+      → Runs m count w steps others u
+      → (replies ≡ others) × (v ≡ u)
 
   -- what steps reach from a world that is reached is reached
   abbrev pub StepsReach : Type 0

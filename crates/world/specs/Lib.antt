@@ -8,6 +8,7 @@ pub mod Dropping
 pub mod MachineLaws
 pub mod Theory
 pub mod ThereAndBack
+pub mod SettingOut
 pub mod Answered
 pub mod Laws
 pub mod Examples

@@ -1,11 +1,11 @@
 -- The theory of virtual time, as far as it is cited here: each field is a clause of one of its laws.
-use Rattle.std.specs.Prelude.{◌≡◌, ℕ, ◌+◌, ◌<◌, ◌++◌, true, Some, List, [], ◌∷◌, length}
+use Rattle.std.specs.Prelude.{◌≡◌, ℕ, ◌+◌, ◌<◌, ◌≤◌, ◌++◌, true, Some, List, [], ◌∷◌, length}
 use Rattle.virtual_time.specs.Bags.{times}
 use Rattle.virtual_time.specs.Entries.{Entry, Item, entry_key}
 use Rattle.virtual_time.specs.Inverses.{ArePairs, AreSent, IsOrdered, Pair, all_met, meet_pairs, meet_sent, meetings_of, processes, roll_backs}
 use Rattle.virtual_time.specs.Machine.{Lawful, Machine}
 use Rattle.virtual_time.specs.Records.{back_by_antimessage, back_by_message, next_of, sent_all, unsent}
-use Rattle.virtual_time.specs.Replies.{Delivered, IsReached, Processed, RolledBack, Runs}
+use Rattle.virtual_time.specs.Replies.{Delivered, IsReached, IsVirtualTime, Processed, RolledBack, Runs}
 use Rattle.virtual_time.specs.Rules.{IsWorld}
 use Rattle.virtual_time.specs.Worlds.{DeliverAntimessage, DeliverMessage, Process, RollBack, World, can_meet, deliver_antimessage, deliver_message, meet, process, record_of, roll_back}
 
@@ -30,3 +30,5 @@ pub record Theory (S A : Type 0) : Type 0 where
       → Runs machine count w (Process i ∷ RollBack i ∷ meetings_of e js) (Processed (entry_key e) ∷ RolledBack (entry_key e) ∷ all_met e js) w
   pub signs : (machine : Machine S A) (i : ℕ) (es : List (Entry A)) (j k : ℕ) (a : A) (xs ys : List (Item A)) → Lawful machine
       → times machine (sent_all machine i es j xs) k a + times machine ys k a ≡ times machine (unsent machine i es j ys) k a + times machine xs k a
+  pub one : (machine : Machine S A) (w : World S A) (g h : ℕ) → Lawful machine → IsVirtualTime machine w g → IsVirtualTime machine w h → g ≡ h
+  pub bounded : (machine : Machine S A) (w : World S A) (g : ℕ) → Lawful machine → IsWorld machine w → IsVirtualTime machine w g → w.bound ≤ g

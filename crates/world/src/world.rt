@@ -10,7 +10,7 @@ ghost use Rattle.virtual_time.specs.Rules.{IsWorld};
 ghost use Rattle.virtual_time.specs.Worlds.{Commit, Process, RollBack};
 ghost use Rattle.antimessage.specs.Order.{IsInOrder};
 ghost use Rattle.rollback.specs.ComponentView.{machine_of};
-ghost use Rattle.world.specs.Answered.{Answered, HasVirtualTime, IsReachedBySteps, ThereAndBack, Ran, StaysCommitted, VirtualTimeRises};
+ghost use Rattle.world.specs.Answered.{Answered, ComesBack, HasVirtualTime, IsReachedBySteps, ThereAndBack, Ran, StaysCommitted, VirtualTimeRises};
 ghost use Rattle.world.specs.Keeping.{Keeps};
 ghost use Rattle.world.specs.Simulation.{IsAtStart, IsSimulation, start_simulation, world_of};
 ghost use Rattle.world.specs.Steps.{answer_by, answer_of, delivering, meeting, step_of};
@@ -241,7 +241,8 @@ impl<T: Turns> World<T> {
     /// Does steps one after the other; a refused one leaves the world, and the next one follows. The answers are in the steps' order.
     ///
     /// There and back: where a component does its next entry and takes it back, and each message that the entry sent leaves the flight with
-    /// its antimessage, by a meeting or by both deliveries, the world is the one before.
+    /// its antimessage, by a meeting or by both deliveries, the world is the one before. Of the answers only the first has to be known: where it
+    /// is `Processed` and no processing among these steps is refused for want of memory, all of them are done.
     ///
     /// # Errors
     ///
@@ -253,6 +254,7 @@ impl<T: Turns> World<T> {
     ) -> Result<Vec<Result<Reply, StepRefused>>, NoMemory>
         ensures ran { IfOk result (λ answers. Ran T.turn_of self.old (map step_of steps.now) (map answer_of answers.items) self.new) }
         ensures back { IfOk result (λ answers. (i : ℕ) → ThereAndBack T.turn_of self.old i steps.now answers.items self.new → self.new ≡ self.old) }
+        ensures first { IfOk result (λ a. ComesBack T.turn_of self.old steps.now a.items self.new) }
         ensures stays { IfOk result (λ _. StaysCommitted T.turn_of self.old self.new) }
         ensures setup { self.new.setup ≡ self.old.setup }
         ensures keeps { Keeps self.old self.new }

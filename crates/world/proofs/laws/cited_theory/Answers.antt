@@ -13,4 +13,6 @@ returns g c =
       antimessage_first = c.any_order_law.ensures.antimessage_first;
       rolled_back = c.any_order_law.ensures.rolled_back;
       signs = c.record_law.ensures.signs;
+      one = c.virtual_time_rises.ensures.one;
+      bounded = c.virtual_time_rises.ensures.bound;
     }

@@ -1,7 +1,7 @@
 use Rattle.std.proofs.Common.{rules, ◌≡◌, ◌+◌, ◌++◌, ◌≤◌, [], ◌∷◌, ap, length, map, subst, sym, take, take_all, ◌∙◌}
 use Rattle.std.proofs.lemmas.List.{map-append, take_more}
 use Rattle.plans.specs.Plans.{composition}
-use Rattle.virtual_time.specs.Machine.{Lawful}
+use Rattle.virtual_time.specs.Machine.{HasCount, Lawful}
 use Rattle.virtual_time.specs.Replies.{Answers, Runs}
 use Rattle.task_seed.specs.Setups.{plan_of, system}
 use Rattle.rollback.specs.ComponentView.{machine_of}
@@ -43,8 +43,8 @@ returns-clause-back g c = λ i there.
     let simulation = subst (λ p. IsSimulation (system t p) new) c.loop-step.invariant.setup c.soundness_law-2.ensures.simulation in
     same_simulation (system t old.setup) old new c.soundness_law.ensures.simulation simulation c.loop-step.invariant.setup c.loop-step.invariant.keeps same c.soundness_law-2.ensures.order c.soundness_law.ensures.order (c.leaving_law.ensures.one (system t old.setup))
 
-pub returns-clause-stays : goal.returns-clause-stays
-returns-clause-stays g c =
+pub returns-clause-ran : goal.returns-clause-ran
+returns-clause-ran g c =
     let old = c.args.self.now in
     let m = machine_of g.T.Turns.turn_of old.setup in
     let count = length (composition (plan_of old.setup)) in
@@ -52,5 +52,23 @@ returns-clause-stays g c =
     let at = c.loop-step.step-index in
     let replies = map answer_of c.loop-step.answers.items in
     let long : length all ≤ at = search rules in
-    let ran = subst (λ steps. Runs m count (world_of m old) (map step_of steps) replies (world_of m c.loop-step.self)) (take_all at all long) c.loop-step.invariant.ran in
-    c.committed_is_reference.ensures.stays m count (world_of m old) (world_of m c.loop-step.self) (map step_of all) replies ran
+    subst (λ steps. Runs m count (world_of m old) (map step_of steps) replies (world_of m c.loop-step.self)) (take_all at all long) c.loop-step.invariant.ran
+
+pub returns-clause-first : goal.returns-clause-first
+returns-clause-first g c = λ i out.
+    let t = g.T.Turns.turn_of in
+    let old = c.args.self.now in
+    let m = machine_of t old.setup in
+    let count = length (composition (plan_of old.setup)) in
+    let law = subst (λ p. Lawful (machine_of t p)) c.setup.ensures c.machine_is_lawful.ensures.lawful in
+    let counted = subst (λ p. HasCount (machine_of t p) (length (composition (plan_of p)))) c.setup.ensures c.machine_is_lawful.ensures.counted in
+    let replies = map answer_of c.loop-step.answers.items in
+    let there = c.there_and_back_law.ensures.set_out m count i (world_of m old) (world_of m c.loop-step.self) (map step_of c.args.steps.now) replies law counted c.soundness_law.ensures.reached out (returns-clause-ran g c) in
+    (there, returns-clause-back g c i there)
+
+pub returns-clause-stays : goal.returns-clause-stays
+returns-clause-stays g c =
+    let old = c.args.self.now in
+    let m = machine_of g.T.Turns.turn_of old.setup in
+    let replies = map answer_of c.loop-step.answers.items in
+    c.committed_is_reference.ensures.stays m (length (composition (plan_of old.setup))) (world_of m old) (world_of m c.loop-step.self) (map step_of c.args.steps.now) replies (returns-clause-ran g c)
