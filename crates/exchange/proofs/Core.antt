@@ -1,6 +1,6 @@
 -- Calls lead the whole world by core steps.
 use Rattle.std.proofs.Common.{◌≡◌, ℕ, ◌==◌, ◌⊎◌, inl, inr, Bool, cond, List, [], ◌∷◌, Result, Ok, Err, refl, ap, sym, subst, ◌∙◌}
-use Rattle.std.specs.Prelude.{IfOk, OnErr}
+use Rattle.std.specs.Prelude.{IfOk}
 use Rattle.std.proofs.lemmas.Bool.{eq-eqb, ne_eqb, cases_eq}
 use Rattle.virtual_time.specs.Inverses.{meets_of}
 use Rattle.virtual_time.specs.Machine.{Lawful, Machine}
@@ -144,16 +144,7 @@ module _ {S A : Type 0} (m : Machine S A) (law : Lawful m) where
       pub own_known : OwnLaw → IsLease m i l → StaysKnown m i l l'
       own_known own_law is e match = subst (λ (x : Lease S A). Matches m i (e.stub i) x) there_is (own_law i e l steps (alone m i l') law is match does).1
 
--- what holds of the answer where all is well follows
-pub ok_then : {A E : Type 0} {P Q : A → Type 0} (r : Result A E) → ((a : A) → P a → Q a) → IfOk r P → IfOk r Q
-ok_then (Ok a) f h = f a h
-ok_then (Err e) f h = tt
-
--- it holds whatever the answer is
-pub either_way : {A E X : Type 0} {P : A → Type 0} (r : Result A E) (Q : X → Type 0) (old new : X) → ((a : A) → P a → Q new) → Q old → IfOk r P → OnErr r (new ≡ old) → Q new
-either_way (Ok a) Q old new f start h kept = f a h
-either_way (Err e) Q old new f start h kept = subst Q (sym kept) start
-
+-- what follows from both holds of the answer where all is well
 pub ok_both : {A E : Type 0} {P Q R : A → Type 0} (r : Result A E) → ((a : A) → P a → Q a → R a) → IfOk r P → IfOk r Q → IfOk r R
 ok_both (Ok a) f p q = f a p q
 ok_both (Err e) f p q = tt

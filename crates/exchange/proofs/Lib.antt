@@ -10,6 +10,7 @@ mod Lists
 mod Together
 mod Owned
 mod Pinned
+mod Pooled
 mod Knowing
 mod Lowest
 mod Receiving

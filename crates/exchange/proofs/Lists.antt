@@ -206,6 +206,10 @@ none_cut b lists = record {
   few = let none = ap length (put_none lists) in omega (arith, none);
 }
 
+-- where all are taken, none is left
+pub put_left : (b : ℕ) (lists : List (List Turned)) → all_below b lists ≡ lists → put_all (all_from b lists) ≡ []
+put_left b lists below = ap put_all (ap (all_from b) (sym below) ∙ left_none b lists) ∙ put_none lists
+
 pub cut_from : (b : ℕ) (lists : List (List Turned)) → all_below b lists ≡ lists → IsCutBelow b (all_from b lists)
 cut_from b lists below = subst (λ l. IsCutBelow b (all_from b l)) below (subst (IsCutBelow b) (sym (left_none b lists)) (none_cut b lists))
 

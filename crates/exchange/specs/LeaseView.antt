@@ -1,5 +1,5 @@
 -- What a lease holds, and the lease of the theory that it is.
-use Rattle.std.specs.Prelude.{◌≡◌, ℕ, ◌≤◌, ◌+◌, ◌-◌, ◌^◌, min, List, [], ◌∷◌, length}
+use Rattle.std.specs.Prelude.{◌≡◌, ℕ, ◌<◌, ◌≤◌, ◌+◌, ◌-◌, ◌^◌, min, Option, None, List, [], ◌∷◌, length}
 use Rattle.terms.specs.Datum.{Datum}
 use Rattle.terms.specs.Named.{Named}
 use Rattle.event_keys.specs.declared.key.Bound.{Bound}
@@ -18,6 +18,11 @@ use Rattle.rollback.specs.Flight.{in_flight, item_of}
 use Rattle.rollback.specs.ComponentView.{ComponentView, comes, back_by}
 use Rattle.rollback.specs.Post.{IsPosted}
 use Rattle.rollback.specs.Runs.{IsRun}
+use Rattle.rollback.specs.Stepped.{next_entry}
+use Rattle.task_seed.specs.declared.setup.Setup.{Setup}
+use Rattle.task_seed.specs.declared.turns.Turn.{Turn}
+use Rattle.exchange.specs.declared.lease.Stop.{Stop}
+use Rattle.exchange.specs.declared.lease.Stop.TheVariants.{Budget, End, NoMemory}
 
 -- a component, its tray of messages that came and are not delivered yet, its outgoing messages with their copies, and the floor of its
 -- last meeting
@@ -86,3 +91,10 @@ pub record IsCount {A : Type 0} (old new : List A) (answer : ℕ) : Type 0 where
   pub many : ℕ
   pub left : length old ≡ many + length new
   pub is : answer ≡ min many (2 ^ 64 - 1)
+
+-- why a lease stopped that ran ahead by so many entries of a budget, and whose component is now this: the budget is used up, nothing is
+-- next, or something is next and memory was refused
+abbrev pub HasStopped : {T : Type 0} → (T → ℕ → ℕ → Option Turn) → (budget count : ℕ) → Stop → ComponentView (Setup T) → Type 0
+HasStopped turn_of budget count Budget component = count ≡ budget
+HasStopped turn_of budget count End component = next_entry turn_of component ≡ None
+HasStopped turn_of budget count NoMemory component = (count < budget) × (next_entry turn_of component ≡ None → ⊥)

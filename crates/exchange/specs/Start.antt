@@ -45,6 +45,9 @@ start_stub s i = record { base = lowest_bound; floor = first_bound s i; taken = 
 abbrev pub number_of : {P : Type 0} → LeaseView P → ℕ
 number_of lease = lease.component.number
 
+abbrev pub setup_of : {P : Type 0} → LeaseView P → P
+setup_of lease = lease.component.setup
+
 -- the numbers of the components
 abbrev pub numbers : {T : Type 0} → Setup T → List ℕ
 numbers setup = range_with_len 0 (length (composition (plan_of setup)))

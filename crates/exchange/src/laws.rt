@@ -1,8 +1,11 @@
 //! The laws of leases and exchanges. Each function does nothing: its contract is the law.
 ghost use Rattle.std.specs.Prelude.{◌≡◌, ◌↔◌, true, length, map};
+ghost use Rattle.pools.specs.Places.{AreAlike, AreOnce};
 ghost use Rattle.task_seed.specs.Taken.{turns_of};
+ghost use Rattle.task_seed.specs.declared.setup.Setup.{Setup as SetupValue};
 ghost use Rattle.exchange.specs.Held.{put_all};
 ghost use Rattle.exchange.specs.Same.{AreEqualExchanges, AreEqualLeases};
+ghost use Rattle.exchange.specs.Start.{number_of, setup_of, start_leases};
 
 use crate::exchange::Exchange;
 use crate::lease::Lease;
@@ -29,3 +32,9 @@ pub fn held_law<T: Turns>(a: &Exchange<T>, b: &Exchange<T>)
     a.soundness_law();
     b.soundness_law();
 }
+
+/// What a pool asks of the leases of an exchange at its start: no two have one number, and all are of one setup.
+pub fn pooled_leases_law<T: Turns>()
+    ensures once { (setup : SetupValue T) → AreOnce (map number_of (start_leases T.turn_of setup)) }
+    ensures alike { (setup : SetupValue T) → AreAlike setup_of (start_leases T.turn_of setup) }
+{}

@@ -5,7 +5,7 @@ ghost use Rattle.event_keys.specs.Ranks.{rank_of_bound};
 ghost use Rattle.raw_events.specs.Around.{is_nonempty};
 ghost use Rattle.rollback.specs.ComponentView.{machine_of, next_key, is_last_idle, processed};
 ghost use Rattle.exchange.specs.Core.{StaysKnown, deliveries};
-ghost use Rattle.exchange.specs.LeaseView.{IsAhead, IsOnlyAhead, AllDelivered, lease_of};
+ghost use Rattle.exchange.specs.LeaseView.{IsAhead, IsOnlyAhead, AllDelivered, HasStopped, lease_of};
 ghost use Rattle.virtual_time.specs.Exchange.Leases.{IsLease};
 ghost use Rattle.virtual_time.specs.Worlds.{Process};
 ghost use Rattle.exchange.specs.Seen.{HasDelivered, IsSoundLease, MovesBy};
@@ -14,6 +14,7 @@ ghost use Rattle.rollback.specs.Stepped.{HasNextKey, IsNextSent, next_entry};
 use crate::tally::Effort;
 use antimessage::Bag;
 use event_keys::{Bound, Key, Signed, Turned};
+use pools::Numbered;
 use raw_events::EventList;
 use rollback::laws::run_law;
 use rollback::{Component, Copies, ProcessRefused};
@@ -38,6 +39,26 @@ pub struct Lease<T: Turns> {
     pub(crate) effort: Effort,
 }
 
+/// Why a lease that ran ahead stopped.
+#[derive(Clone, Copy, Debug, PartialEq, Eq)]
+pub enum Stop {
+    /// So many entries were processed as it was allowed.
+    Budget,
+    /// Nothing is pending, and no turn is left.
+    End,
+    /// Something is next, and memory was refused.
+    NoMemory,
+}
+
+/// How far a lease ran ahead.
+#[derive(Clone, Copy, Debug, PartialEq, Eq)]
+pub struct Ran {
+    /// How many entries were processed.
+    pub count: u32,
+    /// Why there were no more.
+    pub stop: Stop,
+}
+
 impl<T: Turns> Model for Lease<T> {
     ghost use Rattle.task_seed.specs.declared.setup.Setup.{Setup};
     ghost use Rattle.exchange.specs.LeaseView.{LeaseView, IsValidLease};
@@ -58,6 +79,13 @@ impl<T: Turns> Model for Lease<T> {
     ghost view = { λ l. record { component = l.component; tray = l.tray; out = l.out; copies = l.copies; floor = l.floor } };
 
     ghost invariant = { λ l. IsValidLease (machine_of T.turn_of l.component.setup) (length (composition (plan_of l.component.setup))) (record { component = l.component; tray = l.tray; out = l.out; copies = l.copies; floor = l.floor }) };
+}
+
+// So leases can wait in a pool.
+impl<T: Turns> Numbered<Setup<T>> for Lease<T> {
+    ghost number_of = { λ lease. lease.component.number };
+
+    ghost kind_of = { λ lease. lease.component.setup };
 }
 
 impl<T: Turns> Lease<T> {
@@ -141,7 +169,8 @@ impl<T: Turns> Lease<T> {
     }
 
     /// Processes entries, at most `budget` of them, and answers how many. It stops short where nothing is pending and no turn is
-    /// left, and where memory is refused; that is an error only where the first entry was refused, and then nothing has changed.
+    /// left, and where memory is refused, as [`Lease::run_and_tell`] says; that is an error only where the first entry was refused, and
+    /// then nothing has changed.
     pub fn run_ahead(&mut self, alloc: Global, budget: u32) -> Result<u32, NoMemory>
         ensures ahead { IfOk result (λ count. IsAhead (machine_of T.turn_of self.old.component.setup) self.old self.new count) }
         ensures most { IfOk result (λ count. count ≤ budget) }
@@ -150,14 +179,30 @@ impl<T: Turns> Lease<T> {
         ensures known { StaysKnown (machine_of T.turn_of self.old.component.setup) self.old.component.number (lease_of self.old) (lease_of self.new) }
         ensures kept { OnErr result (self.new ≡ self.old) }
     {
+        let ran = self.run_and_tell(alloc, budget);
+        match ran.stop {
+            Stop::NoMemory if ran.count == 0 => Err(NoMemory),
+            _ => Ok(ran.count),
+        }
+    }
+
+    /// Does the same as `run_ahead`, and tells why it stopped too. Where memory was refused, what was processed before stays.
+    pub fn run_and_tell(&mut self, alloc: Global, budget: u32) -> Ran
+        ensures ahead { IsAhead (machine_of T.turn_of self.old.component.setup) self.old self.new result.count }
+        ensures most { result.count ≤ budget }
+        ensures stop { HasStopped T.turn_of budget result.count result.stop self.new.component }
+        ensures moves { MovesBy T.turn_of self.old (replicate result.count (Process self.old.component.number)) self.new }
+        ensures known { StaysKnown (machine_of T.turn_of self.old.component.setup) self.old.component.number (lease_of self.old) (lease_of self.new) }
+        ensures kept { result.count ≡ 0 → self.new ≡ self.old }
+    {
         machine_is_lawful(self.setup());
         exchange_is_core::<State, Action>();
         exchange_is_sound::<State, Action>();
         lease_law::<State, Action>();
         self.soundness_law();
-        let ahead = self.process_some(alloc, budget);
+        let ran = self.process_some(alloc, budget);
         self.soundness_law();
-        ahead
+        ran
     }
 
     /// Delivers the whole tray, from the least message on, and answers how many messages that were, or the greatest `u64` where
@@ -186,21 +231,25 @@ impl<T: Turns> Lease<T> {
     }
 
     // Processes entries, at most so many.
-    fn process_some(&mut self, alloc: Global, budget: u32) -> Result<u32, NoMemory>
-        ensures ahead { IfOk result (λ count. IsAhead (machine_of T.turn_of self.old.component.setup) self.old self.new count) }
-        ensures most { IfOk result (λ count. count ≤ budget) }
-        ensures none { IfOk result (λ count. count ≡ 0 → (budget ≡ 0) ⊎ (next_entry T.turn_of self.old.component ≡ None)) }
-        ensures kept { OnErr result (self.new ≡ self.old) }
+    fn process_some(&mut self, alloc: Global, budget: u32) -> Ran
+        ensures ahead { IsAhead (machine_of T.turn_of self.old.component.setup) self.old self.new result.count }
+        ensures most { result.count ≤ budget }
+        ensures stop { HasStopped T.turn_of budget result.count result.stop self.new.component }
+        ensures kept { result.count ≡ 0 → self.new ≡ self.old }
     {
         run_law::<State>();
         for count in 0..budget {
-            match self.process_next(alloc) {
-                Ok(_) => {}
-                Err(ProcessRefused::NoMemory) if count == 0 => return Err(NoMemory),
-                Err(_) => return Ok(count),
-            }
+            let stop = match self.process_next(alloc) {
+                Ok(_) => continue,
+                Err(ProcessRefused::NothingPending) => Stop::End,
+                Err(ProcessRefused::NoMemory) => Stop::NoMemory,
+            };
+            return Ran { count, stop };
         }
-        Ok(budget)
+        Ran {
+            count: budget,
+            stop: Stop::Budget,
+        }
     }
 
     // Delivers the whole tray.

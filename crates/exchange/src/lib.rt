@@ -18,7 +18,7 @@ pub mod tally;
 pub use chunk::Chunk;
 pub use exchange::Exchange;
 pub use judging::MeetRefused;
-pub use lease::Lease;
+pub use lease::{Lease, Ran, Stop};
 pub use parcel::Parcel;
 pub use stub::Stub;
 pub use tally::{Effort, Tally};

@@ -265,15 +265,29 @@ impl<T: Turns> Exchange<T> {
         ensures same { OnOk result (KeepsComponent lease.old lease.new) }
         ensures kept { OnErr result ((self.new ≡ self.old) × (lease.new ≡ lease.old)) }
     {
+        self.judge_own(lease)?;
+        Ok(self.meet_known(lease))
+    }
+
+    /// Does the same as `meet_own` with a lease that is known to be the one that is kept of its component. Each that has met the exchange is, and
+    /// stays it while it waits, whatever other leases do. Nothing is compared, so that the time grows only with what moves. It takes no memory.
+    pub fn meet_known(&mut self, lease: &mut Lease<T>) -> Bound
+        requires own { system T.turn_of self.old.setup ≡ system T.turn_of lease.old.component.setup }
+        requires known { Knows T.turn_of self.old lease.old }
+        ensures bound { result ≡ self.old.bound }
+        ensures met { HaveMet T.turn_of self.old lease.old self.new lease.new }
+        ensures core { OnlyMeets T.turn_of self.old lease.old self.new lease.new }
+        ensures rest { self.new ≡ record self.old { stubs = self.new.stubs; held = self.new.held } }
+        ensures same { KeepsComponent lease.old lease.new }
+    {
         machine_is_lawful(self.setup());
         exchange_is_core::<State, Action>();
         exchange_is_sound::<State, Action>();
         self.soundness_law();
-        self.judge_own(lease)?;
-        Ok(self.accept(lease))
+        self.accept(lease)
     }
 
-    // The meeting, where the lease is known. The cells of messages that are kept no longer serve the lease again.
+    // The meeting. The cells of messages that are kept no longer serve the lease again.
     fn accept(&mut self, lease: &mut Lease<T>) -> Bound
         requires same { system T.turn_of self.old.setup ≡ system T.turn_of lease.old.component.setup }
         requires matches { Knows T.turn_of self.old lease.old }

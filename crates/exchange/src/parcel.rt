@@ -63,6 +63,7 @@ impl Parcel {
         ensures turns { turns_of result.after ≡ put_all self.old }
         ensures front { result.before ≡ [] }
         ensures many { length self.new ≡ length self.old }
+        ensures empty { put_all self.new ≡ [] }
     {
         take_all_below(&mut self.queues, self.bound)
             .turns

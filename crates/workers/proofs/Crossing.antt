@@ -8,11 +8,12 @@ use Rattle.exchange.specs.contracts.exchange.Exchange as Exchange
 use Rattle.exchange.specs.contracts.lease.Lease as Lease
 use Rattle.rollback.specs.contracts.component.Component as Component
 use Rattle.std.specs.declared.cmp.Eq as whole_equal
-use Rattle.workers.specs.contracts.crew.Handed as Handed
 use Rattle.workers.specs.contracts.crew.Lent as Lent
 use Rattle.workers.specs.contracts.crew.Paced as Paced
 use Rattle.workers.specs.contracts.crew.Worker as Worker
 use Rattle.workers.specs.contracts.depot.Depot as Depot
+use Rattle.workers.specs.contracts.waiting.Waiter as Waiter
+use Rattle.workers.specs.contracts.waiting.Waiting as Waiting
 use Rattle.workers.specs.contracts.shared.Shared as Shared
 use Rattle.core.proofs.atomic.AtomicBool.TheSendSync as atomic_bool
 use Rattle.core.proofs.sync.Mutex.TheSendSync as mutex
@@ -76,11 +77,14 @@ module _ (T : RattleType) (g : turns.Ghosts T.Denot) (e : equal.Ghosts T.Denot) 
   pub Paced-send : IsSend T → IsSync T → IsSend (Paced.the_row T g e)
   Paced-send s y = search (Lease-send, pace.the_field_send, crossing.crosses, value.crosses, effect.crosses, shape.crosses, term.crosses, sendable) depth 60 fits 20000
 
-  pub Handed-send : IsSend T → IsSync T → IsSend (Handed.the_row T g e)
-  Handed-send s y = search (Paced-send, crossing.crosses, value.crosses, effect.crosses, shape.crosses, term.crosses, sendable) depth 60 fits 20000
+  pub Waiter-send : IsSend T → IsSync T → IsSend (Waiter.the_row T g e)
+  Waiter-send s y = search (Paced-send, crossing.crosses, value.crosses, effect.crosses, shape.crosses, term.crosses, sendable) depth 60 fits 20000
+
+  pub Waiting-send : IsSend T → IsSync T → IsSend (Waiting.the_row T g e)
+  Waiting-send s y = search (Exchange-send, Waiter-send, option.the_field_send, option.the_send, vec.the_send, crossing.crosses, value.crosses, effect.crosses, shape.crosses, term.crosses, sendable) depth 60 fits 20000
 
   pub Depot-send : IsSend T → IsSync T → IsSend (Depot.the_row T g e)
-  Depot-send s y = search (Exchange-send, Handed-send, places.the_send, rounds.the_field_send, visits.the_field_send, bound.the_field_send, option.the_field_send, option.the_send, turned.the_send, event_list.the_send, vec.the_send, crossing.crosses, value.crosses, effect.crosses, shape.crosses, term.crosses, sendable) depth 60 fits 20000
+  Depot-send s y = search (Waiting-send, places.the_send, rounds.the_field_send, visits.the_field_send, bound.the_field_send, turned.the_send, event_list.the_send, crossing.crosses, value.crosses, effect.crosses, shape.crosses, term.crosses, sendable) depth 60 fits 20000
 
   pub Lent-send : IsSend T → IsSync T → IsSend (Lent.the_row T g e)
   Lent-send s y = search (Depot-send, crossing.crosses, effect.crosses, shape.crosses, term.crosses, sendable) depth 60 fits 20000

@@ -1,6 +1,7 @@
 mod Crossing
 mod Ended
 mod Growing
+mod Known
 mod Portioned
 mod Settled
 mod Started

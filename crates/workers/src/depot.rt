@@ -1,9 +1,9 @@
 //! What the lock protects: the exchange, and the leases that wait for a worker.
-ghost use Rattle.std.specs.Prelude.{◌≡◌, IfOk, IfSome, All, length};
+ghost use Rattle.std.specs.Prelude.{◌≡◌, IfOk, length};
 ghost use Rattle.exchange.specs.Held.{put_all};
 ghost use Rattle.plans.specs.Plans.{composition};
 ghost use Rattle.task_seed.specs.Setups.{plan_of, system};
-ghost use Rattle.workers.specs.Leases.{IsAwayOrOf, handed_setup, paced_setup};
+ghost use Rattle.workers.specs.Leases.{IsVisitOf, handed_setup};
 ghost use Rattle.workers.specs.Portions.{IsCutOf};
 
 use crate::crew::{Handed, Paced};
@@ -11,9 +11,10 @@ use crate::places::{Least, Places};
 use crate::policy::POLICY;
 use crate::rounds::Rounds;
 use crate::stats::{Activity, Visits};
-use crate::writing::{Cut, take_cut};
+use crate::waiting::Waiting;
+use crate::writing::Cut;
 use event_keys::{Bound, Turned};
-use exchange::{Exchange, Lease, MeetRefused, Parcel};
+use exchange::{Lease, MeetRefused, Parcel};
 use raw_events::EventList;
 use std::marker::Model;
 use task_seed::Turns;
@@ -38,12 +39,10 @@ pub(crate) struct Visit<T: Turns> {
     pub(crate) reach: Reach,
 }
 
-// The exchange, with the leases that wait for a worker, each at the place of what it has to do next. They are all of the exchange's setup.
+// The exchange and the leases that wait for a worker, each at the place of what it has to do next.
 #[derive(Drop)]
 pub(crate) struct Depot<T: Turns> {
-    exchange: Exchange<T>,
-    // The lease of each component, unless a worker has it.
-    leases: Vec<Option<Handed<T>>>,
+    waiting: Waiting<T>,
     places: Places,
     // At which visit those were taken that workers have.
     away: Places,
@@ -59,9 +58,7 @@ pub(crate) struct Depot<T: Turns> {
 }
 
 impl<T: Turns> Model for Depot<T> {
-    ghost use Rattle.std.specs.Prelude.{◌≡◌, All};
     ghost use Rattle.task_seed.specs.declared.setup.Setup.{Setup};
-    ghost use Rattle.workers.specs.Leases.{IsAwayOrOf};
     ghost use Rattle.std.specs.Coded.{codes};
     ghost use Rattle.terms.specs.Datum.{datum_code};
     ghost use Rattle.terms.specs.contracts.scalar.Shape as shape;
@@ -72,27 +69,18 @@ impl<T: Turns> Model for Depot<T> {
 
     ghost coded = { Prim.hlevel (codes, shape.the_row.coded, term.the_row.coded, effect.the_row.coded, datum_code) };
 
-    ghost view = { λ d. d.exchange.setup };
-
-    ghost invariant = { λ d. All (IsAwayOrOf d.exchange.setup) d.leases.items };
+    ghost view = { λ d. d.waiting };
 }
 
 impl<T: Turns> Depot<T> {
-    // The exchange with all its leases, of which none is away.
-    pub(crate) fn new(
-        exchange: Exchange<T>,
-        leases: Vec<Option<Handed<T>>>,
-        places: Places,
-        away: Places,
-    ) -> Depot<T>
-        requires { All (IsAwayOrOf exchange.setup) leases.items }
-        ensures { result ≡ exchange.setup }
+    // The exchange, while all leases are away.
+    pub(crate) fn new(waiting: Waiting<T>, places: Places, away: Places) -> Depot<T>
+        ensures { result ≡ waiting }
     {
-        let components = exchange.setup().plan().components();
-        let settled = exchange.bound();
+        let components = waiting.exchange().setup().plan().components();
+        let settled = waiting.exchange().bound();
         Depot {
-            exchange,
-            leases,
+            waiting,
             places,
             away,
             rounds: Rounds::new(components),
@@ -104,7 +92,7 @@ impl<T: Turns> Depot<T> {
     }
 
     fn components(&self) -> u16 {
-        self.exchange.setup().plan().components()
+        self.waiting.exchange().setup().plan().components()
     }
 
     // How many turns are below the bound.
@@ -114,14 +102,14 @@ impl<T: Turns> Depot<T> {
 
     // Whether all turns that there are lie below the bases.
     pub(crate) fn finished(&self) -> bool {
-        self.exchange.finished()
+        self.waiting.exchange().finished()
     }
 
     // What workers told, and what the exchange counted.
     pub(crate) fn activity(&self) -> Activity {
         Activity {
             visits: self.visits,
-            tally: self.exchange.tally(),
+            tally: self.waiting.exchange().tally(),
         }
     }
 
@@ -153,53 +141,41 @@ impl<T: Turns> Depot<T> {
         ensures many { length parcel.new ≡ length parcel.old }
         ensures same { self.new ≡ self.old }
     {
-        take_cut(&mut self.exchange, parcel)
+        self.waiting.take_cut(parcel)
     }
 
     // Raises the bound.
     fn commit(&mut self)
         ensures { self.new ≡ self.old }
     {
-        self.count = self.exchange.commit();
+        self.count = self.waiting.commit();
     }
 
-    // A lease that waits, if this one does.
-    fn waiting(&self, number: u16) -> Option<&Paced<T>> {
-        match self.leases.get(usize::from(number)) {
-            Some(Some(handed)) => Some(&*handed.paced),
-            _ => None,
-        }
-    }
-
-    // Takes a lease, if it is here.
-    fn take_out(&mut self, number: u16) -> Option<Handed<T>>
-        ensures same { self.new ≡ self.old }
-        ensures own { IfSome result (λ handed. handed_setup handed ≡ self.old) }
-    {
-        let at = usize::from(number);
-        if at >= self.leases.len() {
-            return None;
-        }
-        let taken = self.leases[at].take();
-        if taken.is_some() {
-            self.places.leave(number);
-            self.away.wait_for(number, self.rounds.visits());
-        }
-        taken
-    }
-
-    // A lease waits at the place of what it has to do next.
-    fn put_back(&mut self, handed: Handed<T>)
+    // A lease waits, at the place of what it has to do next.
+    pub(crate) fn put_back(&mut self, handed: Handed<T>)
         requires { handed_setup handed ≡ self.old }
         ensures { self.new ≡ self.old }
     {
-        place(&mut self.places, &*handed.paced);
         let number = handed.paced.lease.number();
         self.away.leave(number);
-        let at = usize::from(number);
-        if at < self.leases.len() {
-            self.leases[at] = Some(handed);
+        self.waiting.put(handed);
+        self.place(number);
+    }
+
+    // A lease that waits gets the place of what it has to do next.
+    fn place(&mut self, number: u16)
+        ensures { self.new ≡ self.old }
+    {
+        if let Some(paced) = self.waiting.paced(number) {
+            place(&mut self.places, paced);
         }
+    }
+
+    // A lease meets the exchange, if it waits.
+    fn meet(&mut self, number: u16, spare: &mut EventList<Turned>) -> Result<(), MeetRefused>
+        ensures { self.new ≡ self.old }
+    {
+        self.waiting.meet(number, self.rounds.pass(), spare)
     }
 
     // A lease tells what was done of it, if anybody wants to know, and waits.
@@ -212,11 +188,15 @@ impl<T: Turns> Depot<T> {
         ensures { self.new ≡ self.old }
     {
         self.visits.end_one(handed.paced.lease.take_effort());
-        if self.is_due_to_meet(&*handed.paced) {
-            meet(&mut self.exchange, &mut *handed.paced, self.rounds.pass())?;
-        }
         take_spare(&mut handed.paced.lease, spare);
-        self.put_back(handed);
+        let is_due = self.is_due_to_meet(&*handed.paced);
+        let number = handed.paced.lease.number();
+        self.away.leave(number);
+        self.waiting.put(handed);
+        if is_due {
+            self.meet(number, spare)?;
+        }
+        self.place(number);
         self.call_receivers();
         Ok(())
     }
@@ -227,7 +207,7 @@ impl<T: Turns> Depot<T> {
         lease.is_sending()
             || !paced.pace.has_met(self.rounds.pass())
             || lease.next() == Bound::End
-            || self.exchange.has_mail(lease.number())
+            || self.waiting.exchange().has_mail(lease.number())
     }
 
     // Those to whom something came go on at once, if they wait for it.
@@ -235,10 +215,10 @@ impl<T: Turns> Depot<T> {
         ensures { self.new ≡ self.old }
     {
         for _ in 0..self.components() {
-            let Some(number) = self.exchange.take_receiver() else {
+            let Some(number) = self.waiting.take_receiver() else {
                 return;
             };
-            if self.waiting(number).is_some() {
+            if self.waiting.paced(number).is_some() {
                 self.places.call(number);
             }
         }
@@ -254,7 +234,7 @@ impl<T: Turns> Depot<T> {
                 least,
             },
             _ => Reach {
-                horizon: self.exchange.bound(),
+                horizon: self.waiting.exchange().bound(),
                 is_alone: true,
                 was_parked,
                 least,
@@ -264,7 +244,7 @@ impl<T: Turns> Depot<T> {
 
     // Whether a lease waits that hasn't met the exchange for long.
     fn is_stale(&self, number: u16) -> bool {
-        match self.waiting(number) {
+        match self.waiting.paced(number) {
             None => false,
             Some(paced) => paced.pace.is_stale(self.rounds.pass()),
         }
@@ -277,26 +257,48 @@ impl<T: Turns> Depot<T> {
         spare: &mut EventList<Turned>,
     ) -> Result<Option<Visit<T>>, MeetRefused>
         ensures same { self.new ≡ self.old }
-        ensures own { IfOk result (λ visit. IfSome visit (λ it. handed_setup it.handed ≡ self.old)) }
+        ensures own { IfOk result (IsVisitOf self.old) }
     {
-        let Some(mut handed) = self.take_out(number) else {
-            return Ok(None);
-        };
-        handed.paced.lease.swap_spare(spare);
-        meet(&mut self.exchange, &mut *handed.paced, self.rounds.pass())?;
+        self.meet(number, spare)?;
+        self.places.leave(number);
         let reach = self.reach(0, false);
-        if has_work(&handed.paced.lease, reach.horizon) {
-            return Ok(Some(Visit { handed, reach }));
+        if self.has_work(number, reach.horizon) {
+            return Ok(self.visit(number, reach, spare));
         }
-        take_spare(&mut handed.paced.lease, spare);
-        self.put_back(handed);
+        self.place(number);
         Ok(None)
+    }
+
+    // Whether a lease waits to which something came, or that has something to do below a horizon.
+    fn has_work(&self, number: u16, horizon: Bound) -> bool {
+        match self.waiting.paced(number) {
+            None => false,
+            Some(paced) => {
+                paced.lease.least_coming() != Bound::End || paced.lease.next() < horizon
+            }
+        }
+    }
+
+    // A lease is taken, if it waits, with these cells for its turns.
+    fn visit(
+        &mut self,
+        number: u16,
+        reach: Reach,
+        spare: &mut EventList<Turned>,
+    ) -> Option<Visit<T>>
+        ensures same { self.new ≡ self.old }
+        ensures own { IsVisitOf self.old result }
+    {
+        let mut handed = self.waiting.take(number)?;
+        self.away.wait_for(number, self.rounds.visits());
+        handed.paced.lease.swap_spare(spare);
+        Some(Visit { handed, reach })
     }
 
     // The next lease of the pass that has something to do.
     fn take_stale(&mut self, spare: &mut EventList<Turned>) -> Result<Option<Visit<T>>, MeetRefused>
         ensures same { self.new ≡ self.old }
-        ensures own { IfOk result (λ visit. IfSome visit (λ it. handed_setup it.handed ≡ self.old)) }
+        ensures own { IfOk result (IsVisitOf self.old) }
     {
         let components = self.components();
         for _ in 0..components {
@@ -329,7 +331,7 @@ impl<T: Turns> Depot<T> {
 
     // Whether a lease waits whose component lost something lately.
     fn is_careful(&self, number: u16) -> bool {
-        match self.waiting(number) {
+        match self.waiting.paced(number) {
             None => false,
             Some(paced) => paced.pace.is_careful(),
         }
@@ -338,7 +340,7 @@ impl<T: Turns> Depot<T> {
     // The lease with the least to do, if it may be taken.
     fn take_least(&mut self, spare: &mut EventList<Turned>) -> Result<Option<Visit<T>>, MeetRefused>
         ensures same { self.new ≡ self.old }
-        ensures own { IfOk result (λ visit. IfSome visit (λ it. handed_setup it.handed ≡ self.old)) }
+        ensures own { IfOk result (IsVisitOf self.old) }
     {
         let Some(least) = self.places.least() else {
             return Ok(None);
@@ -346,16 +348,15 @@ impl<T: Turns> Depot<T> {
         if !self.may_take(least) {
             return Ok(None);
         }
-        let Some(mut handed) = self.take_out(least.number) else {
-            return Ok(None);
-        };
-        handed.paced.lease.swap_spare(spare);
-        self.rounds.visit();
-        if self.exchange.has_mail(least.number) {
-            meet(&mut self.exchange, &mut *handed.paced, self.rounds.pass())?;
+        let number = least.number;
+        if self.waiting.exchange().has_mail(number) {
+            self.meet(number, spare)?;
         }
+        self.places.leave(number);
         let reach = self.reach(1, least.is_parked);
-        Ok(Some(Visit { handed, reach }))
+        let visit = self.visit(number, reach, spare);
+        self.rounds.visit();
+        Ok(visit)
     }
 
     // All that wait meet the exchange.
@@ -363,13 +364,8 @@ impl<T: Turns> Depot<T> {
         ensures { self.new ≡ self.old }
     {
         for number in 0..self.components() {
-            let Some(mut handed) = self.take_out(number) else {
-                continue;
-            };
-            handed.paced.lease.swap_spare(spare);
-            meet(&mut self.exchange, &mut *handed.paced, self.rounds.pass())?;
-            take_spare(&mut handed.paced.lease, spare);
-            self.put_back(handed);
+            self.meet(number, spare)?;
+            self.place(number);
         }
         Ok(())
     }
@@ -379,7 +375,7 @@ impl<T: Turns> Depot<T> {
         ensures { self.new ≡ self.old }
     {
         self.commit();
-        let bound = self.exchange.bound();
+        let bound = self.waiting.exchange().bound();
         if bound == self.settled {
             return Ok(());
         }
@@ -395,7 +391,7 @@ impl<T: Turns> Depot<T> {
         spare: &mut EventList<Turned>,
     ) -> Result<Option<Visit<T>>, MeetRefused>
         ensures same { self.new ≡ self.old }
-        ensures own { IfOk result (λ visit. IfSome visit (λ it. handed_setup it.handed ≡ self.old)) }
+        ensures own { IfOk result (IsVisitOf self.old) }
     {
         let components = self.components();
         if self.rounds.begin(components) {
@@ -428,11 +424,6 @@ fn place<T: Turns>(places: &mut Places, paced: &Paced<T>) {
     }
 }
 
-// Whether something came to a lease, or it has something to do below a horizon.
-fn has_work<T: Turns>(lease: &Lease<T>, horizon: Bound) -> bool {
-    lease.least_coming() != Bound::End || lease.next() < horizon
-}
-
 // Takes the spare cells that a lease had for its visit.
 fn take_spare<T: Turns>(lease: &mut Lease<T>, spare: &mut EventList<Turned>)
     ensures { lease.new ≡ lease.old }
@@ -440,19 +431,4 @@ fn take_spare<T: Turns>(lease: &mut Lease<T>, spare: &mut EventList<Turned>)
     let mut own = EventList::new();
     lease.swap_spare(&mut own);
     spare.append_all(&mut own);
-}
-
-// A lease meets the exchange in a pass: each that comes back is still that of its component.
-fn meet<T: Turns>(
-    exchange: &mut Exchange<T>,
-    paced: &mut Paced<T>,
-    pass: u64,
-) -> Result<(), MeetRefused>
-    requires { paced_setup paced.old ≡ exchange.old.setup }
-    ensures setup { paced_setup paced.new ≡ paced_setup paced.old }
-    ensures exchange { exchange.new.setup ≡ exchange.old.setup }
-{
-    exchange.meet_own(&mut paced.lease)?;
-    paced.pace.meet(pass);
-    Ok(())
 }

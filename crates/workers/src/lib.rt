@@ -13,6 +13,7 @@ mod rounds;
 pub mod running;
 mod shared;
 pub mod stats;
+mod waiting;
 mod working;
 mod writing;
 

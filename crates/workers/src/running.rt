@@ -4,7 +4,7 @@ ghost use Rattle.std.specs.Arc.{arc_value};
 ghost use Rattle.gvt.specs.Seats.{IsSeatOf};
 ghost use Rattle.pools.specs.Passes.{IsOf as IsOfPool};
 ghost use Rattle.workers.specs.Crews.{IsCallerOf, IsOf, IsOfAll};
-ghost use Rattle.workers.specs.Leases.{IsAwayOrOf, setup_of};
+ghost use Rattle.workers.specs.Leases.{setup_of};
 ghost use Rattle.workers.specs.Runs.{WroteAll, WroteSome};
 
 use crate::crew::{Caller, Handed, Lent, Paced, Worker};
@@ -15,6 +15,7 @@ use crate::pace::Pace;
 use crate::places::Places;
 use crate::shared::{Shared, end, note};
 use crate::stats::{Activity, Stats};
+use crate::waiting::Waiting;
 use crate::working::work;
 use crate::writing::write_all;
 use core::mem::replace_with;
@@ -150,46 +151,30 @@ fn lend_out<T: Turns>(alloc: Global, setup: &Arc<Setup<T>>) -> Result<Lent<T>, N
 {
     let (exchange, leases) = start_exchange(alloc, setup)?;
     let components = exchange.setup().plan().components();
-    let places = first_places(alloc, leases.as_slice(), components)?;
+    let waiting = Waiting::new(alloc, exchange)?;
+    let places = Places::new(alloc, components)?;
     let away = Places::new(alloc, components)?;
-    let paced = pace_all(alloc, exchange.setup(), leases)?;
-    let depot = Depot::new(exchange, paced, places, away);
+    let mut depot = Depot::new(waiting, places, away);
+    put_all(alloc, &mut depot, leases)?;
     let depot = Box::new(alloc, depot)?;
     Ok(Lent { depot })
 }
 
-// The places of leases at the start.
-fn first_places<T: Turns>(
+// All leases of a setup wait, each with a pace.
+fn put_all<T: Turns>(
     alloc: Global,
-    leases: &[Lease<T>],
-    components: u16,
-) -> Result<Places, NoMemory> {
-    let mut places = Places::new(alloc, components)?;
-    for lease in leases {
-        places.wait(lease.number(), lease.next());
-    }
-    Ok(places)
-}
-
-// Each lease of a setup with a pace.
-fn pace_all<T: Turns>(
-    alloc: Global,
-    setup: &Setup<T>,
+    depot: &mut Depot<T>,
     leases: Vec<Lease<T>>,
-) -> Result<Vec<Option<Handed<T>>>, NoMemory>
-    requires { All (λ lease. setup_of lease ≡ setup.now) leases.items }
-    ensures { IfOk result (λ paced. All (IsAwayOrOf setup.now) paced.items) }
+) -> Result<(), NoMemory>
+    requires { All (λ lease. setup_of lease ≡ depot.old) leases.items }
+    ensures { depot.new ≡ depot.old }
 {
-    let _ = setup;
-    let mut paced = Vec::with_capacity(alloc, leases.len())?;
     for lease in leases {
         let pace = Pace::new();
-        let handed = Handed {
-            paced: Box::new(alloc, Paced { lease, pace })?,
-        };
-        paced.push(Some(handed))?;
+        let paced = Box::new(alloc, Paced { lease, pace })?;
+        depot.put_back(Handed { paced });
     }
-    Ok(paced)
+    Ok(())
 }
 
 // The exchange of a setup at its start, with its leases.

@@ -2,7 +2,7 @@
 ghost use Rattle.std.specs.Prelude.{◌≡◌, ◌≤◌, IfOk, IfSome, Some};
 ghost use Rattle.pools.specs.Passes.{holding};
 ghost use Rattle.workers.specs.Crews.{Holds, IsOf};
-ghost use Rattle.workers.specs.Leases.{handed_setup, paced_setup};
+ghost use Rattle.workers.specs.Leases.{IsVisitOf, paced_setup};
 
 use crate::crew::{Handed, Paced, Worker};
 use crate::depot::{Depot, Reach, Visit};
@@ -37,7 +37,7 @@ pub(crate) fn work<T: Turns, G: Gate<T>, R: Wait>(
         if patience.rest_on(rt) || patience.keep_back(rt, looks(shared)) {
             continue;
         }
-        let visit = match change(rt, shared, &mut worker, &mut patience, done) {
+        let visit = match change(rt, shared, &mut worker, &mut patience, done.take()) {
             Ok(visit) => visit,
             Err(refused) => {
                 note(rt, shared, WorkFault::Meeting(refused));
@@ -45,17 +45,36 @@ pub(crate) fn work<T: Turns, G: Gate<T>, R: Wait>(
             }
         };
         let Some(Visit { mut handed, reach }) = visit else {
-            done = None;
             patience.wait(rt);
             continue;
         };
-        if advance(alloc, gate, &mut *handed.paced, reach, budget).is_err() {
+        let advanced = advance(alloc, gate, &mut *handed.paced, reach, budget);
+        done = Some(handed);
+        if advanced.is_err() {
             note(rt, shared, WorkFault::NoMemory);
             break;
         }
-        done = Some(handed);
+    }
+    if let Some(handed) = done {
+        put_back(rt, shared, &mut worker, handed);
     }
     end(shared);
+}
+
+// A lease waits again: its worker ends, since the exchange has finished, or a fault was noted.
+fn put_back<T: Turns, R: Wait>(
+    rt: &R,
+    shared: &Shared<T>,
+    worker: &mut Worker<T>,
+    handed: Handed<T>,
+)
+    requires own { IsOf shared.now worker.old }
+    requires held { Holds worker.old.lock handed }
+{
+    let mut looks = 0;
+    let mut lent = hold(rt, shared, &mut worker.lock, &mut looks);
+    lent.depot.put_back(handed);
+    shared.exchange.give_back(rt, &mut worker.lock, lent);
 }
 
 // With the exchange: what was done of a lease is shared, and another one is taken, unless the worker keeps out of others' way.
@@ -104,7 +123,7 @@ fn go_round<T: Turns>(
     ensures own { IsOf shared.now worker.new }
     ensures setup { depot.new ≡ depot.old }
     ensures lock { worker.new.lock ≡ worker.old.lock }
-    ensures visit { IfOk result (λ visit. IfSome visit (λ it. handed_setup it.handed ≡ depot.old)) }
+    ensures visit { IfOk result (IsVisitOf depot.old) }
 {
     if let Some(handed) = done {
         depot.share(handed, &mut worker.spare)?;

@@ -47,6 +47,7 @@ pub(crate) fn take_cut<T: Turns>(exchange: &mut Exchange<T>, parcel: &mut Parcel
     ensures cut { IsCutOf (system T.turn_of exchange.old.setup) result (put_all parcel.new) }
     ensures many { length parcel.new ≡ length parcel.old }
     ensures setup { exchange.new.setup ≡ exchange.old.setup }
+    ensures stubs { exchange.new.stubs ≡ exchange.old.stubs }
 {
     exchange.soundness_law();
     let is_last = exchange.finished();

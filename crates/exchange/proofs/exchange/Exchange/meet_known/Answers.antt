@@ -6,7 +6,7 @@ use Rattle.rollback.specs.ComponentView.{machine_of}
 use Rattle.exchange.specs.LeaseView.{lease_of}
 use Rattle.exchange.specs.ExchangeView.{exchange_of}
 use Rattle.exchange.proofs.Core.{meet_leads}
-use Rattle.exchange.proofs.exchange.Exchange.meet_own.Goals as goal
+use Rattle.exchange.proofs.exchange.Exchange.meet_known.Goals as goal
 
 pub returns-clause-core : goal.returns-clause-core
 returns-clause-core g c leases here =
