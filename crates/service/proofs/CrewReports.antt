@@ -1,39 +1,20 @@
 -- Reports on runs by workers, put together.
-use Rattle.std.proofs.Common.{◌≡◌, ◌⊎◌, inl, inr, ℕ, List, refl}
+use Rattle.std.proofs.Common.{◌≡◌, inl, inr, ℕ, List, refl}
 use Rattle.std.specs.Prelude.{Bool, true, false, Option, None}
 use Rattle.plans.specs.declared.plan.Plan.{Plan}
-use Rattle.plans.specs.Plans.{composition}
 use Rattle.task_seed.specs.Turning.{System}
 use Rattle.exchange.specs.declared.judging.MeetRefused.TheVariants.{OtherSetup, Stranger}
 use Rattle.trace.specs.declared.counted.Counted.{Counted}
 use Rattle.trace.specs.declared.lines.Lines.{Lines}
 use Rattle.trace.specs.Puts.{Stops}
 use Rattle.trace.specs.Went.{IsStopped, IsWritten}
-use Rattle.command_line.specs.declared.Options.{Options}
 use Rattle.workers.specs.declared.fault.RunFault.{RunFault}
 use Rattle.workers.specs.declared.fault.RunFault.TheVariants as fault
 use Rattle.workers.specs.Refusals.{run_number}
 use Rattle.workers.specs.declared.stats.Stats.{Stats}
 use Rattle.workers.specs.Runs.{IsUnfinished, IsWhole}
-use Rattle.service.specs.declared.report.Report.{Report}
-use Rattle.service.specs.declared.report.Report.TheVariants.{Misused}
-use Rattle.service.specs.Crews.{IsCrewReport, IsRunFileReport, done}
-use Rattle.service.specs.Drives.{IsTurnsReport}
-use Rattle.service.specs.Parts.{IsMemory}
+use Rattle.service.specs.Crews.{IsCrewReport, done}
 use Rattle.service.specs.Reports.{report_of}
-use Rattle.service.specs.Simulations.{HasBadTable, HasTurns, LacksTable, lines_for, table_of}
-
-module _ (has : List ℕ → List ℕ → Type 0) (lacks : List ℕ → Type 0) (source : List ℕ) (options : Options) (stats : Bool) (kept : Type 0) (wrote : List ℕ → Type 0) (cut : List ℕ → ℕ → Type 0) where
-  abbrev ends : Plan → System → Report → Type 0
-  ends p s = IsCrewReport p s (lines_for options.trace) stats kept wrote cut
-
-  -- what is asked for isn't a misuse of words
-  pub run_not_misused : IsRunFileReport has lacks source options stats kept wrote cut Misused → ⊥
-  run_not_misused (inl h) = absurd h.0
-  run_not_misused (inr h) = go h.holds where
-    go : IsTurnsReport (HasTurns has (composition h.plan) options (table_of options)) (HasBadTable has (composition h.plan) options) (λ n. IsMemory n ⊎ LacksTable has lacks options n) options kept (ends h.plan) Misused → ⊥
-    go (inl given) = absurd given.holds
-    go (inr none) = absurd none.0
 
 module _ {W : Type 0} (known : W → Option (List ℕ)) (old new : Counted W) (plan : Plan) (system : System) (lines : Lines) (stats : Bool) (kept : Type 0) where
   -- a run that is done

@@ -2,7 +2,7 @@
 use Rattle.std.proofs.Common.{◌≡◌, ◌⊎◌, inl, inr, ℕ, Bool, true, false, Option, None, Some, List, refl, subst, sym, ◌∙◌}
 use Rattle.std.specs.Io.KnownBytes.{Appends, Keeps}
 use Rattle.plans.specs.declared.plan.Plan.{Plan}
-use Rattle.plans.specs.Plans.{composition}
+use Rattle.reference.specs.declared.checking.Verdict.{Verdict}
 use Rattle.task_seed.specs.Turning.{System}
 use Rattle.trace.specs.declared.counted.Counted.{Counted}
 use Rattle.trace.specs.declared.lines.Lines.{Lines}
@@ -14,33 +14,16 @@ use Rattle.command_line.specs.declared.Options.{Options}
 use Rattle.workers.specs.Runs.{IsWhole}
 use Rattle.service.specs.declared.report.Report.{Report}
 use Rattle.service.specs.declared.report.Report.TheVariants.{Done, No, Driven, Ran, Refused, Fault, Misused}
-use Rattle.service.specs.Checks.{IsCheckReport}
-use Rattle.service.specs.Compositions.{HasNoPlan}
-use Rattle.service.specs.Crews.{IsCrewReport, IsRunFileReport}
-use Rattle.service.specs.Drives.{HasNoTurns, IsDriveReport, IsStepsReport, IsTurnsReport}
+use Rattle.service.specs.Checks.{IsActionsReport, IsNo, IsVerdictOn, IsYes}
+use Rattle.service.specs.Crews.{IsCrewReport}
+use Rattle.service.specs.Drives.{IsStepsReport}
+use Rattle.service.specs.FileReports.{FilesMean, FilesMeanNone, IsCheckFileReport, IsDriveFileReport, IsRunFileReport, IsSimulateFileReport, IsSmallReport, lines_for}
 use Rattle.service.specs.Flushed.{IsFlushed, IsFlushedWhere}
-use Rattle.service.specs.Parts.{IsMemory}
+use Rattle.service.specs.Parts.{IsSimulationReport}
 use Rattle.service.specs.Reports.{is_served, IsFlushedReport, IsInformed, IsPrintReport, IsReport, IsReportOn, IsUnserved}
-use Rattle.service.specs.Simulations.{HasBadTable, HasTurns, IsSimulateReport, LacksTable, lines_for, table_of}
+use Rattle.service.specs.Simulations.{IsEngineReport}
 use Rattle.service.specs.Told.{IsWarned}
-
-no_plan : (has : List ℕ → Type 0) (lacks : Type 0) (report : Report) → is_served report ≡ true → HasNoPlan has lacks report → ⊥
-no_plan has lacks Done s h = h
-no_plan has lacks No s h = h
-no_plan has lacks (Driven refused) s h = h
-no_plan has lacks (Ran stats) s h = h
-no_plan has lacks (Refused number place) s h = cc
-no_plan has lacks (Fault number) s h = cc
-no_plan has lacks Misused s h = cc
-
-no_turns : (Bad : ℕ → Option ℕ → Type 0) (Lacks : ℕ → Type 0) (options : Options) (report : Report) → is_served report ≡ true → HasNoTurns Bad Lacks options report → ⊥
-no_turns Bad Lacks options Done s h = h
-no_turns Bad Lacks options No s h = h
-no_turns Bad Lacks options (Driven refused) s h = h
-no_turns Bad Lacks options (Ran stats) s h = h
-no_turns Bad Lacks options (Refused number place) s h = cc
-no_turns Bad Lacks options (Fault number) s h = cc
-no_turns Bad Lacks options Misused s h = cc
+use Rattle.service.proofs.FileReports.{engine_again, no_plan_refused, none_refused, some_refusal, unserved}
 
 module _ (wrote again : List ℕ → Type 0) (stays : (text : List ℕ) → wrote text → again text) (kept still : Type 0) (cut later : List ℕ → ℕ → Type 0) where
   print_again : (has : List ℕ → Type 0) (lacks : Type 0) (report : Report) → is_served report ≡ true → IsPrintReport has lacks kept wrote cut report → IsPrintReport has lacks still again later report
@@ -54,17 +37,14 @@ module _ (wrote again : List ℕ → Type 0) (stays : (text : List ℕ) → wrot
   print_again has lacks (Fault number) s p = cc
   print_again has lacks Misused s p = cc
 
-  simulate_again : (has : List ℕ → List ℕ → Type 0) (lacks : List ℕ → Type 0) (source : List ℕ) (options : Options) (report : Report) → is_served report ≡ true → IsSimulateReport has lacks source options kept wrote cut report
-      → IsSimulateReport has lacks source options still again later report
-  simulate_again has lacks source options Done s p =
-      let j = p.simulated in
-      record { plan = p.plan; meant = p.meant; system = p.system; turns = p.turns; simulated = record { turns = j.turns; are = j.are; became = stays _ j.became } }
-  simulate_again has lacks source options No s p = p
-  simulate_again has lacks source options (Driven refused) s p = p
-  simulate_again has lacks source options (Ran stats) s p = p
-  simulate_again has lacks source options (Refused number place) s p = cc
-  simulate_again has lacks source options (Fault number) s p = cc
-  simulate_again has lacks source options Misused s p = cc
+  simulation_again : (plan : Plan) (system : System) (lines : Lines) (report : Report) → is_served report ≡ true → IsSimulationReport plan system lines wrote cut report → IsSimulationReport plan system lines again later report
+  simulation_again plan system lines Done s p = record { turns = p.turns; are = p.are; became = stays _ p.became }
+  simulation_again plan system lines No s p = p
+  simulation_again plan system lines (Driven refused) s p = p
+  simulation_again plan system lines (Ran stats) s p = p
+  simulation_again plan system lines (Refused number place) s p = cc
+  simulation_again plan system lines (Fault number) s p = cc
+  simulation_again plan system lines Misused s p = p
 
   whole_again : (plan : Plan) (system : System) (lines : Lines) (count : ℕ) → IsWhole plan system lines wrote count → IsWhole plan system lines again count
   whole_again plan system lines count w = record { turns = w.turns; are = w.are; count_is = w.count_is; became = stays _ w.became }
@@ -78,80 +58,74 @@ module _ (wrote again : List ℕ → Type 0) (stays : (text : List ℕ) → wrot
   crew_again plan system lines stats (Fault number) s p = cc
   crew_again plan system lines stats Misused s p = cc
 
-  steps_again : (has : List ℕ → Type 0) (lacks : Type 0) (plan : Plan) (system : System) (lines : Lines) (report : Report) → is_served report ≡ true → IsStepsReport has lacks plan system lines kept wrote cut report
-      → IsStepsReport has lacks plan system lines still again later report
-  steps_again has lacks plan system lines Done s p = p
-  steps_again has lacks plan system lines No s p = p
-  steps_again has lacks plan system lines (Driven refused) s p =
-      let j = p.judged in
-      let d = j.driven in
+  steps_again : (plan : Plan) (system : System) (lines : Lines) (bytes : List ℕ) (report : Report) → is_served report ≡ true → IsStepsReport plan system lines bytes kept wrote cut report → IsStepsReport plan system lines bytes still again later report
+  steps_again plan system lines bytes Done s p = p
+  steps_again plan system lines bytes No s p = p
+  steps_again plan system lines bytes (Driven refused) s p =
+      let d = p.driven in
       record {
-        bytes = p.bytes;
-        is = p.is;
-        small = p.small;
-        judged = record {
-          steps = j.steps;
-          given = j.given;
-          driven = record { replies = d.replies; world = d.world; runs = d.runs; refused_are = d.refused_are; turns = d.turns; committed = d.committed; beginning = d.beginning; became = stays _ d.became };
-        };
+        steps = p.steps;
+        given = p.given;
+        driven = record { replies = d.replies; world = d.world; runs = d.runs; refused_are = d.refused_are; turns = d.turns; committed = d.committed; beginning = d.beginning; became = stays _ d.became };
       }
-  steps_again has lacks plan system lines (Ran stats) s p = p
-  steps_again has lacks plan system lines (Refused number place) s p = cc
-  steps_again has lacks plan system lines (Fault number) s p = cc
-  steps_again has lacks plan system lines Misused s p = cc
+  steps_again plan system lines bytes (Ran stats) s p = p
+  steps_again plan system lines bytes (Refused number place) s p = cc
+  steps_again plan system lines bytes (Fault number) s p = cc
+  steps_again plan system lines bytes Misused s p = p
 
-  turns_again : (Given : System → Type 0) (Bad : ℕ → Option ℕ → Type 0) (Lacks : ℕ → Type 0) (options : Options) (Ends Ends_again : System → Report → Type 0) (report : Report) → is_served report ≡ true
-      → ((system : System) → Ends system report → Ends_again system report) → IsTurnsReport Given Bad Lacks options kept Ends report → IsTurnsReport Given Bad Lacks options still Ends_again report
-  turns_again Given Bad Lacks options Ends Ends_again report s ends (inl h) = inl (record { system = h.system; turns = h.turns; holds = ends h.system h.holds })
-  turns_again Given Bad Lacks options Ends Ends_again report s ends (inr n) = absurd (no_turns Bad Lacks options report s n.0)
+  verdict_again : (IsOne : Verdict → Type 0) (plan : Plan) (bytes : List ℕ) → IsVerdictOn IsOne wrote plan bytes → IsVerdictOn IsOne again plan bytes
+  verdict_again IsOne plan bytes v =
+      let j = v.judged in
+      record { verdict = v.verdict; one = v.one; judged = record { actions = j.actions; given = j.given; judged = j.judged; became = stays _ j.became } }
 
-  module _ (has : List ℕ → List ℕ → Type 0) (lacks : List ℕ → Type 0) (source : List ℕ) where
-    run_again : (options : Options) (stats : Bool) (report : Report) → is_served report ≡ true → IsRunFileReport has lacks source options stats kept wrote cut report → IsRunFileReport has lacks source options stats still again later report
-    run_again options stats report s (inl n) = absurd (no_plan (has source) (lacks source) report s n.0)
-    run_again options stats report s (inr p) =
+  actions_again : (plan : Plan) (bytes : List ℕ) (report : Report) → is_served report ≡ true → IsActionsReport plan bytes kept wrote cut report → IsActionsReport plan bytes still again later report
+  actions_again plan bytes Done s p = verdict_again IsYes plan bytes p
+  actions_again plan bytes No s p = verdict_again IsNo plan bytes p
+  actions_again plan bytes (Driven refused) s p = p
+  actions_again plan bytes (Ran stats) s p = p
+  actions_again plan bytes (Refused number place) s p = cc
+  actions_again plan bytes (Fault number) s p = cc
+  actions_again plan bytes Misused s p = p
+
+  small_again : (has : List ℕ → Type 0) (lacks : Type 0) (Ends Later : List ℕ → Report → Type 0) (report : Report) → is_served report ≡ true
+      → ((bytes : List ℕ) → Ends bytes report → Later bytes report) → IsSmallReport has lacks kept Ends report → IsSmallReport has lacks still Later report
+  small_again has lacks Ends Later report s ends (inl n) = absurd (unserved report s (some_refusal _ _ report n.0))
+  small_again has lacks Ends Later report s ends (inr h) = inr (record { bytes = h.bytes; is = h.is; small = h.small; judged = ends h.bytes h.judged })
+
+  module _ (has : List ℕ → List ℕ → Type 0) (lacks : List ℕ → Type 0) (source : List ℕ) (report : Report) (s : is_served report ≡ true) where
+    meant_again : (options : Options) (Ends Later : Plan → System → Report → Type 0) → ((plan : Plan) (system : System) → Ends plan system report → Later plan system report)
+        → IsEngineReport (FilesMean has source options) (FilesMeanNone has lacks source options) kept Ends report → IsEngineReport (FilesMean has source options) (FilesMeanNone has lacks source options) still Later report
+    meant_again options Ends Later = engine_again (FilesMean has source options) (FilesMeanNone has lacks source options) kept still Ends Later report s (none_refused has lacks options source report)
+
+    simulate_again : (options : Options) → IsSimulateFileReport has lacks source options kept wrote cut report → IsSimulateFileReport has lacks source options still again later report
+    simulate_again options = meant_again options (λ plan system. IsSimulationReport plan system (lines_for options.trace) wrote cut) (λ plan system. IsSimulationReport plan system (lines_for options.trace) again later)
+        (λ plan system. simulation_again plan system (lines_for options.trace) report s)
+
+    run_again : (options : Options) (stats : Bool) → IsRunFileReport has lacks source options stats kept wrote cut report → IsRunFileReport has lacks source options stats still again later report
+    run_again options stats = meant_again options (λ plan system. IsCrewReport plan system (lines_for options.trace) stats kept wrote cut) (λ plan system. IsCrewReport plan system (lines_for options.trace) stats still again later)
+        (λ plan system. crew_again plan system (lines_for options.trace) stats report s)
+
+    module _ (options : Options) (steps : List ℕ) where
+      abbrev before : Plan → System → List ℕ → Report → Type 0
+      before plan system bytes = IsStepsReport plan system (lines_for options.trace) bytes kept wrote cut
+
+      abbrev after : Plan → System → List ℕ → Report → Type 0
+      after plan system bytes = IsStepsReport plan system (lines_for options.trace) bytes still again later
+
+      drive_again : IsDriveFileReport has lacks source steps options kept wrote cut report → IsDriveFileReport has lacks source steps options still again later report
+      drive_again =
+          meant_again options (λ plan system. IsSmallReport (has steps) (lacks steps) kept (before plan system)) (λ plan system. IsSmallReport (has steps) (lacks steps) still (after plan system))
+          (λ plan system. small_again (has steps) (lacks steps) (before plan system) (after plan system) report s (λ bytes. steps_again plan system (lines_for options.trace) bytes report s))
+
+    check_again : (trace : List ℕ) → IsCheckFileReport has lacks source trace kept wrote cut report → IsCheckFileReport has lacks source trace still again later report
+    check_again trace (inl n) = absurd (unserved report s (no_plan_refused (has source) (lacks source) report n.0))
+    check_again trace (inr p) =
+        let j = p.judged in
         inr (record {
-          plan = p.plan;
-          meant = p.meant;
-          holds = turns_again (HasTurns has (composition p.plan) options (table_of options)) (HasBadTable has (composition p.plan) options) (λ n. IsMemory n ⊎ LacksTable has lacks options n) options
-              (λ x. IsCrewReport p.plan x (lines_for options.trace) stats kept wrote cut) (λ x. IsCrewReport p.plan x (lines_for options.trace) stats still again later) report s
-              (λ x. crew_again p.plan x (lines_for options.trace) stats report s) p.holds;
+          source = p.source;
+          is = p.is;
+          judged = record { plan = j.plan; composed = j.composed; holds = small_again (has trace) (lacks trace) (λ bytes. IsActionsReport j.plan bytes kept wrote cut) (λ bytes. IsActionsReport j.plan bytes still again later) report s (λ bytes. actions_again j.plan bytes report s) j.holds };
         })
-
-    drive_again : (steps : List ℕ) (options : Options) (report : Report) → is_served report ≡ true → IsDriveReport has lacks source steps options kept wrote cut report → IsDriveReport has lacks source steps options still again later report
-    drive_again steps options report s (inl n) = absurd (no_plan (has source) (lacks source) report s n.0)
-    drive_again steps options report s (inr p) =
-        inr (record {
-          plan = p.plan;
-          meant = p.meant;
-          holds = turns_again (HasTurns has (composition p.plan) options (table_of options)) (HasBadTable has (composition p.plan) options) (λ n. IsMemory n ⊎ LacksTable has lacks options n) options
-              (λ x. IsStepsReport (has steps) (lacks steps) p.plan x (lines_for options.trace) kept wrote cut) (λ x. IsStepsReport (has steps) (lacks steps) p.plan x (lines_for options.trace) still again later) report s
-              (λ x. steps_again (has steps) (lacks steps) p.plan x (lines_for options.trace) report s) p.holds;
-        })
-
-    check_again : (trace : List ℕ) (report : Report) → is_served report ≡ true → IsCheckReport has lacks source trace kept wrote cut report → IsCheckReport has lacks source trace still again later report
-    check_again trace Done s p =
-        let b = p.judged in
-        let v = b.judged in
-        let j = v.judged in
-        record {
-          plan = p.plan;
-          meant = p.meant;
-          judged = record { bytes = b.bytes; is = b.is; small = b.small; judged = record { verdict = v.verdict; one = v.one; judged = record { actions = j.actions; given = j.given; judged = j.judged; became = stays _ j.became } } };
-        }
-    check_again trace No s p =
-        let b = p.judged in
-        let v = b.judged in
-        let j = v.judged in
-        record {
-          plan = p.plan;
-          meant = p.meant;
-          judged = record { bytes = b.bytes; is = b.is; small = b.small; judged = record { verdict = v.verdict; one = v.one; judged = record { actions = j.actions; given = j.given; judged = j.judged; became = stays _ j.became } } };
-        }
-    check_again trace (Driven refused) s p = p
-    check_again trace (Ran stats) s p = p
-    check_again trace (Refused number place) s p = cc
-    check_again trace (Fault number) s p = cc
-    check_again trace Misused s p = cc
 
   informed_again : (words : List (List ℕ)) → IsInformed words wrote → IsInformed words again
   informed_again words (inl h) = inl (record { asked = h.asked; went = record { text = h.went.text; some = h.went.some; became = stays h.went.text h.went.became } })
@@ -167,11 +141,11 @@ module _ (wrote again : List ℕ → Type 0) (stays : (text : List ℕ) → wrot
   unserved_again words Misused s p = cc
 
   on_again : (what : Asked) (has : List ℕ → List ℕ → Type 0) (lacks : List ℕ → Type 0) (report : Report) → is_served report ≡ true → IsReportOn what has lacks kept wrote cut report → IsReportOn what has lacks still again later report
-  on_again (asked.Print source) has lacks = print_again (has source.now) (lacks source.now)
-  on_again (asked.Reference source options) has lacks = simulate_again has lacks source.now options
-  on_again (asked.Run source options crew) has lacks = run_again has lacks source.now options crew.stats
-  on_again (asked.Check source trace) has lacks = check_again has lacks source.now trace.now
-  on_again (asked.Drive source steps options) has lacks = drive_again has lacks source.now steps.now options
+  on_again (asked.Print source) has lacks report s = print_again (has source.now) (lacks source.now) report s
+  on_again (asked.Reference source options) has lacks report s = simulate_again has lacks source.now report s options
+  on_again (asked.Run source options crew) has lacks report s = run_again has lacks source.now report s options crew.stats
+  on_again (asked.Check source trace) has lacks report s = check_again has lacks source.now report s trace.now
+  on_again (asked.Drive source steps options) has lacks report s = drive_again has lacks source.now report s options steps.now
 
   report_again : (words : List (List ℕ)) (has : List ℕ → List ℕ → Type 0) (lacks : List ℕ → Type 0) (report : Report) → is_served report ≡ true → IsReport words has lacks kept wrote cut report → IsReport words has lacks still again later report
   report_again words has lacks report s (inl p) = inl (record { what = p.what; is = p.is; on = on_again p.what has lacks report s p.on })

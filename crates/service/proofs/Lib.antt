@@ -1,10 +1,10 @@
 pub mod Checked
 pub mod CrewReports
 pub mod DriveReports
+pub mod FileReports
 pub mod Flushed
 pub mod Pieces
 pub mod Printings
 pub mod Reporting
 pub mod SetupReports
-pub mod Simulated
 pub mod Told

@@ -11,7 +11,8 @@ use Rattle.service.specs.declared.fault.PrintFault.TheVariants as fault
 use Rattle.service.specs.Printing.{IsPrinted, IsRefusedSource, IsUnprinted}
 use Rattle.service.specs.PrintRefusals.{print_number, print_place}
 use Rattle.service.specs.Reading.{IsReadOf}
-use Rattle.service.specs.Reports.{IsPrintReport, IsSourceWith, report_of}
+use Rattle.service.specs.Reports.{IsPrintReport, report_of}
+use Rattle.service.specs.Unread.{IsSourceWith}
 use Rattle.service.specs.Whole.{take_whole}
 
 -- what was read within the limit is the whole file

@@ -8,9 +8,12 @@ use Rattle.compose.specs.Composed.{IsComposed, IsRefused}
 use Rattle.compose.specs.Refusals.{source_number, source_place}
 use Rattle.service.specs.declared.report.Report.{Report}
 use Rattle.service.specs.declared.report.Report.TheVariants.{Refused, Fault}
-use Rattle.service.specs.Compositions.{HasNoPlan, HasPlan}
+use Rattle.service.specs.Compositions.{GivesNoPlan}
+use Rattle.service.specs.FileReports.{HasNoPlan}
 use Rattle.service.specs.Reading.{IsReadOf}
 use Rattle.service.specs.Reports.{is_fault, report_of}
+use Rattle.service.specs.Unread.{IsSourceWith}
+use Rattle.service.proofs.SetupReports.{refusal_otherwise}
 
 -- what a file says is no fault
 pub calm : (n : ℕ) → 2 ≤ n → n ≤ 39 → is_fault n ≡ false
@@ -22,22 +25,21 @@ refused_by P n place low high p = subst (λ b. P (if b then Fault n else Refused
 pub fault_by : (P : Report → Type 0) (n : ℕ) (place : Option ℕ) → n ≡ 1 → P (Fault 1) → P (report_of n place)
 fault_by P n place one p = subst (λ k. P (report_of k place)) (sym one) p
 
-module _ (has : List ℕ → Type 0) (read : List ℕ) (is : IsReadOf has 65537 read) where
-  pub plan_found : (plan : Plan) → ((source : List ℕ) (p : Plan) → IsComposed (take 65537 source) p → IsComposed source p) → IsComposed read plan → HasPlan has plan
-  plan_found plan front composed = record { source = is.all; is = is.is; composed = front is.all plan (subst (λ source. IsComposed source plan) is.front composed) }
+-- a source that is refused gives no plan
+pub no_plan : (source : List ℕ) (e : SourceError) → (source_number e ≡ 1) ⊎ ((2 ≤ source_number e) × (source_number e ≤ 25)) → IsRefused source e → GivesNoPlan source (report_of (source_number e) (source_place e))
+no_plan source e (inl one) refused = fault_by (GivesNoPlan source) (source_number e) (source_place e) one refl
+no_plan source e (inr numbered) refused =
+    let low = numbered.0 in
+    let high = numbered.1 in
+    refused_by (GivesNoPlan source) (source_number e) (source_place e) low (omega (arith, high)) (record { error = e; refused = refused; judged = λ one. omega (arith, one, low); number_is = refl; place_is = refl })
 
-  pub no_plan : (lacks : Type 0) (e : SourceError) → (source_number e ≡ 1) ⊎ ((2 ≤ source_number e) × (source_number e ≤ 25))
-      → ((source : List ℕ) (f : SourceError) → IsRefused (take 65537 source) f → IsRefused source f) → IsRefused read e → HasNoPlan has lacks (report_of (source_number e) (source_place e))
-  no_plan lacks e (inl one) front refused = fault_by (HasNoPlan has lacks) (source_number e) (source_place e) one (inl refl)
-  no_plan lacks e (inr numbered) front refused =
-      let low = numbered.0 in
-      let high = numbered.1 in
-      refused_by (HasNoPlan has lacks) (source_number e) (source_place e) low (omega (arith, high)) (record {
-        source = is.all;
-        is = is.is;
-        error = e;
-        refused = front is.all e (subst (λ source. IsRefused source e) is.front refused);
-        judged = λ one. omega (arith, one, low);
-        number_is = refl;
-        place_is = refl;
-      })
+-- what was read of a file
+module _ (has : List ℕ → Type 0) (read : List ℕ) (is : IsReadOf has 65537 read) where
+  pub plan_found : (plan : Plan) → ((source : List ℕ) (p : Plan) → IsComposed (take 65537 source) p → IsComposed source p) → IsComposed read plan → IsSourceWith has (λ source. IsComposed source plan)
+  plan_found plan front composed = record { source = is.all; is = is.is; judged = front is.all plan (subst (λ source. IsComposed source plan) is.front composed) }
+
+  pub plan_lacking : (lacks : Type 0) → ((source : List ℕ) (e : SourceError) → IsRefused (take 65537 source) e → IsRefused source e) → (report : Report) → GivesNoPlan read report → HasNoPlan has lacks report
+  plan_lacking lacks front report none = inr (record { source = is.all; is = is.is; judged = whole report (subst (λ source. GivesNoPlan source report) is.front none) })
+    where
+      whole : (report : Report) → GivesNoPlan (take 65537 is.all) report → GivesNoPlan is.all report
+      whole = refusal_otherwise _ _ _ _ (λ n p bad. record { error = bad.error; refused = front is.all bad.error bad.refused; judged = bad.judged; number_is = bad.number_is; place_is = bad.place_is }) (λ n one. one)

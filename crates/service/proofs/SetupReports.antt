@@ -1,5 +1,5 @@
--- Setups that are asked for, and reports on why there are none.
-use Rattle.std.proofs.Common.{◌≡◌, ◌≢◌, ◌≤◌, ◌<◌, ◌⊎◌, ◌∙◌, inl, inr, ℕ, List, refl, ap, subst, sym, arith, length}
+-- Setups with turns that are given, and reports on why there are none.
+use Rattle.std.proofs.Common.{◌≡◌, ◌≢◌, ◌≤◌, ◌<◌, ◌⊎◌, ◌∙◌, inl, inr, ℕ, List, refl, ap, subst, sym, arith}
 use Rattle.std.specs.Prelude.{Option, None, Some, Result, Ok, Err, IfErr, IfOk, slice_get}
 use Rattle.std.proofs.lemmas.Bool.{cases_lt}
 use Rattle.plans.specs.declared.plan.Plan.{Plan}
@@ -27,16 +27,14 @@ use Rattle.task_seed.specs.declared.table_turns.TableTurns.{TableTurns}
 use Rattle.task_seed.specs.declared.table_turns.TableTurnsError.{TableTurnsError}
 use Rattle.task_seed.specs.declared.table_turns.TableTurnsError.TheVariants as turns
 use Rattle.task_seed.specs.declared.turns.Turn.{Turn}
-use Rattle.command_line.specs.declared.Options.{Options}
+use Rattle.compose.specs.Composed.{IsComposed}
 use Rattle.service.specs.declared.report.Report.{Report}
 use Rattle.service.specs.declared.report.Report.TheVariants.{Done, No, Driven, Ran, Refused, Fault, Misused}
-use Rattle.service.specs.Drives.{HasNoTurns}
-use Rattle.service.specs.Parts.{IsMemory}
+use Rattle.service.specs.Parts.{IsMemory, IsRefusal}
 use Rattle.service.specs.Reports.{report_of}
-use Rattle.service.specs.Setups.{AreLacking, AreRefused, AreTurns, GivesNone, HasNoSetup, HasNone, IsBadGap, IsNothing, IsRefusal, IsSetup, IsTableOf, IsWithin}
-use Rattle.service.specs.Simulations.{HasBadTable, HasTurns, IsBadOption, LacksTable, system_with, table_of}
+use Rattle.service.specs.Setups.{Given, AreRefused, AreTurns, GivesNoSystem, IsBadGap, IsSetup, IsSystem, IsTabled, IsWithin}
+use Rattle.service.specs.Simulations.{Means}
 use Rattle.service.specs.Tables.{AreSound, IsRefused, Spells}
-use Rattle.service.specs.Unread.{HasSmall, most_bytes}
 
 -- what succeeded has no error
 pub no_error : {T E : Type 0} (x : T) (e : E) → Ok x ≡ Err e → ⊥
@@ -67,20 +65,20 @@ refusal_otherwise Bad Other Lacks Wants f g (Refused n p) r = f n p r
 refusal_otherwise Bad Other Lacks Wants f g (Fault n) r = g n r
 refusal_otherwise Bad Other Lacks Wants f g Misused r = absurd r
 
--- a gap of an option, and the gap as turns of a seed take it
-module _ (options : Options) (gap : ℕ) (same : options.gap ≤ 65535 → gap ≡ options.gap) (large : 65535 < options.gap → 65535 < gap) where
-  pub gap_is : ((gap < 1) ⊎ (65535 < gap) → ⊥) → gap ≡ options.gap
-  gap_is within = fits (cases_lt 65535 options.gap) where
-    fits : (65535 < options.gap) ⊎ (options.gap ≤ 65535) → gap ≡ options.gap
+-- a gap that is given, and the gap as turns of a seed take it
+module _ (given gap : ℕ) (same : given ≤ 65535 → gap ≡ given) (large : 65535 < given → 65535 < gap) where
+  pub gap_is : ((gap < 1) ⊎ (65535 < gap) → ⊥) → gap ≡ given
+  gap_is within = fits (cases_lt 65535 given) where
+    fits : (65535 < given) ⊎ (given ≤ 65535) → gap ≡ given
     fits (inl wide) = absurd (within (inr (large wide)))
     fits (inr narrow) = same narrow
 
-  -- the turns of a seed are those that are asked for
-  pub seeds_are : (turns : SeedTurns) → ((i n : ℕ) → seed_turn turns i n ≡ drawn_turn options.seed options.stream gap i n)
-      → ((gap < 1) ⊎ (65535 < gap) → ⊥) → seed_turn turns ≡ drawn_turn options.seed options.stream options.gap
-  seeds_are turns drawn within = (λ k i n. drawn i n k) ∙ ap (drawn_turn options.seed options.stream) (gap_is within)
+  -- the turns of a seed are those that are given
+  pub seeds_are : (seed stream : ℕ) (turns : SeedTurns) → ((i n : ℕ) → seed_turn turns i n ≡ drawn_turn seed stream gap i n)
+      → ((gap < 1) ⊎ (65535 < gap) → ⊥) → seed_turn turns ≡ drawn_turn seed stream given
+  seeds_are seed stream turns drawn within = (λ k i n. drawn i n k) ∙ ap (drawn_turn seed stream) (gap_is within)
 
-  pub gap_within : ((gap < 1) ⊎ (65535 < gap) → ⊥) → IsWithin options
+  pub gap_within : ((gap < 1) ⊎ (65535 < gap) → ⊥) → IsWithin given
   gap_within within =
       let is = gap_is within in
       let low = low_of gap (λ h. within (inl h)) in
@@ -99,25 +97,25 @@ module _ (options : Options) (gap : ℕ) (same : options.gap ≤ 65535 → gap �
           go (inr most) = most
 
   -- there are none for a gap that is out of range
-  pub gap_outside : (gap < 1) ⊎ (65535 < gap) → (options.gap < 1) ⊎ (65535 < options.gap)
-  gap_outside outside = go (cases_lt 65535 options.gap) outside where
-    go : (65535 < options.gap) ⊎ (options.gap ≤ 65535) → (gap < 1) ⊎ (65535 < gap) → (options.gap < 1) ⊎ (65535 < options.gap)
+  pub gap_outside : (gap < 1) ⊎ (65535 < gap) → (given < 1) ⊎ (65535 < given)
+  gap_outside outside = go (cases_lt 65535 given) outside where
+    go : (65535 < given) ⊎ (given ≤ 65535) → (gap < 1) ⊎ (65535 < gap) → (given < 1) ⊎ (65535 < given)
     go (inl wide) out = inr wide
     go (inr narrow) (inl none) = let is = same narrow in inl (omega (arith, is, none))
     go (inr narrow) (inr wide) = let is = same narrow in inr (omega (arith, is, wide))
 
-  pub gap_refused : (e : SeedTurnsError) → (e ≡ seeds.NoMemory → ⊥) → (e ≡ seeds.GapOutOfRange → (gap < 1) ⊎ (65535 < gap)) → IsRefusal (IsBadGap options) IsNothing (report_of (seed_turns_number e) None)
-  gap_refused seeds.NoMemory never outside = never refl
+  pub gap_refused : (e : SeedTurnsError) → (e ≡ seeds.NoMemory → ⊥) → (e ≡ seeds.GapOutOfRange → (gap < 1) ⊎ (65535 < gap)) → IsRefusal (IsBadGap given) IsMemory (report_of (seed_turns_number e) None)
+  gap_refused seeds.NoMemory never outside = refl
   gap_refused seeds.GapOutOfRange never outside = record { number_is = refl; place_is = refl; outside = gap_outside (outside refl) }
 
 -- the turns of rows are those of the table
 pub rows_are : (parts : List Instance) (table : List ℕ) (given : List Row) → Spells table given → (seen : List Row) → seen ≡ given → (turns : TableTurns) → ((i n : ℕ) → table_turn turns i n ≡ slice_get (turns_of seen i) n)
-    → AreSound parts seen → IsTableOf parts (table_turn turns) table
-rows_are parts table given spells seen same turns are sound ticks = record {
+    → AreSound parts seen → IsTabled parts table (table_turn turns)
+rows_are parts table given spells seen same turns are sound = record {
   rows = given;
   spelling = spells;
   sound = subst (AreSound parts) same sound;
-  is = ap (λ t. system_with parts t ticks) ((λ k i n. are i n k) ∙ ap (λ (l : List Row). λ i n. slice_get (turns_of l i) n) same);
+  is = (λ k i n. are i n k) ∙ ap (λ (l : List Row). λ i n. slice_get (turns_of l i) n) same;
 }
 
 module _ (parts : List Instance) (table : List ℕ) where
@@ -135,51 +133,15 @@ module _ (parts : List Instance) (table : List ℕ) where
   rows_refused given spells seen same (turns.TaskOutOfRange line) first = inr (record { rows = given; spelling = spells; first = subst (λ (l : List Row). IsFirstFault parts l 28 (Some line)) same (first (λ e. cc)) })
   rows_refused given spells seen same (turns.NoSuchComponent line) first = inr (record { rows = given; spelling = spells; first = subst (λ (l : List Row). IsFirstFault parts l 30 (Some line)) same (first (λ e. cc)) })
 
--- a table that was read
-module _ (has : List ℕ → Type 0) (lacks : Type 0) (parts : List Instance) (table : List ℕ) (is : has table) (small : length table ≤ most_bytes) where
-  pub table_given : (turn : ℕ → ℕ → Option Turn) → IsTableOf parts turn table → HasSmall has (IsTableOf parts turn)
-  table_given turn judged = record { bytes = table; is = is; small = small; judged = judged }
-
-  pub table_ungiven : (report : Report) → IsRefusal (IsRefused parts table) IsMemory report → GivesNone has lacks parts report
-  table_ungiven = refusal_otherwise _ _ _ _ (λ n p bad. record { bytes = table; is = is; small = small; judged = bad }) (λ n one. inl (inl one))
-
-module _ (has : List ℕ → List ℕ → Type 0) (lacks : List ℕ → Type 0) (parts : List Instance) (options : Options) where
-  -- the system with turns that are asked for
-  pub turns_asked : (turn : ℕ → ℕ → Option Turn) → AreTurns has parts options (table_of options) turn → HasTurns has parts options (table_of options) (system_with parts turn options.ticks)
-  turns_asked turn = go (table_of options) where
-    go : (t : Option (List ℕ)) → AreTurns has parts options t turn → HasTurns has parts options t (system_with parts turn options.ticks)
-    go None are = ap (λ t. system_with parts t options.ticks) are.0
-    go (Some name) are = record { bytes = are.bytes; is = are.is; small = are.small; judged = are.judged options.ticks }
-
-  pub asked_within : (turn : ℕ → ℕ → Option Turn) → AreTurns has parts options (table_of options) turn → table_of options ≡ None → IsWithin options
-  asked_within turn are none = (subst (λ t. AreTurns has parts options t turn) none are).1
-
+module _ (parts : List Instance) (given : Given) (ticks : ℕ) where
   -- turns that there aren't
-  pub no_turns_asked : (report : Report) → HasNone has lacks parts options (table_of options) report → HasNoSetup has lacks parts options report
-  no_turns_asked = refusal_otherwise _ _ _ _ (λ n p bad. inl bad) (λ n lacking. lacking)
+  pub no_turns : (report : Report) → IsRefusal (AreRefused parts given) IsMemory report → GivesNoSystem parts given ticks report
+  no_turns = refusal_otherwise _ _ _ _ (λ n p bad. inl bad) (λ n one. one)
 
   -- the last tick is out of its range
-  pub end_refused : (turn : ℕ → ℕ → Option Turn) → AreTurns has parts options (table_of options) turn → (e : SetupError) → (e ≡ setups.NoMemory → ⊥) → (e ≡ setups.HorizonTooLarge → 4294967296 < options.ticks) → HasNoSetup has lacks parts options (report_of (setup_number e) None)
+  pub end_refused : (turn : ℕ → ℕ → Option Turn) → AreTurns parts given turn → (e : SetupError) → (e ≡ setups.NoMemory → ⊥) → (e ≡ setups.HorizonTooLarge → 4294967296 < ticks) → GivesNoSystem parts given ticks (report_of (setup_number e) None)
   end_refused turn are setups.NoMemory never long = absurd (never refl)
-  end_refused turn are setups.HorizonTooLarge never long = inr (record { number_is = refl; place_is = refl; long = long refl; system = system_with parts turn options.ticks; turns = turns_asked turn are })
-
-  -- the same in the words of a report on turns
-  pub no_setup : (report : Report) → HasNoSetup has lacks parts options report
-      → HasNoTurns (HasBadTable has parts options) (λ n. IsMemory n ⊎ LacksTable has lacks options n) options report
-  no_setup Done r = absurd r
-  no_setup No r = absurd r
-  no_setup (Driven refused) r = absurd r
-  no_setup (Ran stats) r = absurd r
-  no_setup (Refused n p) (inl bad) = go (table_of options) refl bad where
-    go : (t : Option (List ℕ)) → table_of options ≡ t → AreRefused has parts options t n p → HasBadTable has parts options n p ⊎ IsBadOption options n p
-    go None none gap = inr (gap.place_is, inl (gap.number_is, gap.outside))
-    go (Some name) asked refused = inl (record { name = name; asked = asked; refused = refused })
-  no_setup (Refused n p) (inr long) = inr (long.place_is, inr (long.number_is, long.long))
-  no_setup (Fault n) r = go (table_of options) refl r where
-    go : (t : Option (List ℕ)) → table_of options ≡ t → AreLacking has lacks t n → IsMemory n ⊎ LacksTable has lacks options n
-    go None none lacking = absurd lacking
-    go (Some name) asked lacking = inr (record { name = name; asked = asked; unread = lacking })
-  no_setup Misused r = absurd r
+  end_refused turn are setups.HorizonTooLarge never long = inr (record { number_is = refl; place_is = refl; long = long refl; turn = turn; turns = are })
 
 -- what is not above a bound
 pub at_most : (most n : ℕ) → (most < n → ⊥) → n ≤ most
@@ -189,14 +151,22 @@ at_most most n h = go (cases_lt most n) where
   go (inr within) = within
 
 -- a setup of a plan
-pub setup_is : (has : List ℕ → List ℕ → Type 0) (plan : Plan) (options : Options) (turns : AnyTurns) → AreTurns has (composition plan) options (table_of options) (any_turn turns) → options.ticks ≤ 4294967296
-    → (setup : Setup AnyTurns) → plan_of setup ≡ plan → source_of setup ≡ turns → horizon_of setup ≡ options.ticks → IsSetup has plan options setup
-setup_is has plan options turns are short setup plan_is source_is horizon_is =
-    let same : system any_turn setup ≡ system_with (composition plan) (any_turn turns) options.ticks =
-    λ i. system_with (composition (plan_is i)) (any_turn (source_is i)) (horizon_is i) in
-    record {
-      plan_is = plan_is;
-      turns = subst (HasTurns has (composition plan) options (table_of options)) (sym same) (turns_asked has (λ name. ⊥) (composition plan) options (any_turn turns) are);
-      within = asked_within has (λ name. ⊥) (composition plan) options (any_turn turns) are;
+module _ (plan : Plan) (given : Given) (ticks : ℕ) (setup : Setup AnyTurns) where
+  pub setup_is : (turns : AnyTurns) → AreTurns (composition plan) given (any_turn turns) → ticks ≤ 4294967296
+      → plan_of setup ≡ plan → source_of setup ≡ turns → horizon_of setup ≡ ticks → IsSetup plan given ticks setup
+  setup_is turns are short plan_is source_is horizon_is = record {
+    plan_is = plan_is;
+    is = record {
+      composition_is = ap composition plan_is;
+      turns = subst (λ t. AreTurns (composition plan) given (any_turn t)) (sym source_is) are;
+      horizon_is = horizon_is;
       short = short;
-    }
+    };
+  }
+
+  -- what a source means by its plan
+  pub setup_means : (source : List ℕ) → IsComposed source plan → IsSetup plan given ticks setup → Means source given ticks (plan_of setup) (system any_turn setup)
+  setup_means source composed is = record {
+    composed = subst (IsComposed source) (sym is.plan_is) composed;
+    is = subst (λ p. IsSystem p given ticks (system any_turn setup)) (sym is.plan_is) is.is;
+  }

@@ -1,4 +1,4 @@
--- The report of `check` on a source file and a file of actions.
+-- The report of `check`.
 use Rattle.std.specs.Prelude.{◌≡◌, ◌≢◌, ◌⊎◌, ℕ, Option, List}
 use Rattle.plans.specs.declared.plan.Plan.{Plan}
 use Rattle.reference.specs.declared.checking.Verdict.{Verdict}
@@ -9,8 +9,8 @@ use Rattle.trace.specs.TraceFile.{IsTraceFault}
 use Rattle.commands.specs.Judged.{IsJudged}
 use Rattle.service.specs.declared.report.Report.{Report}
 use Rattle.service.specs.declared.report.Report.TheVariants.{Done, No, Driven, Ran, Refused, Fault, Misused}
-use Rattle.service.specs.Compositions.{HasBadSource, HasPlan}
-use Rattle.service.specs.Unread.{HasSmall, IsFileFault, IsUnread}
+use Rattle.service.specs.Compositions.{GivesNoPlan, HasPlan}
+use Rattle.service.specs.Parts.{IsMemory}
 
 -- the actions are a schedule
 abbrev pub IsYes : Verdict → Type 0
@@ -19,12 +19,6 @@ IsYes verdict = verdict ≡ Schedule
 -- they are none
 abbrev pub IsNo : Verdict → Type 0
 IsNo verdict = verdict ≢ Schedule
-
--- the source means a composition, and the file has bytes of which this holds
-pub record HasBoth (has : List ℕ → List ℕ → Type 0) (source trace : List ℕ) (Judged : Plan → List ℕ → Type 0) : Type 0 where
-  pub plan : Plan
-  pub meant : HasPlan (has source) plan
-  pub judged : HasSmall (has trace) (Judged plan)
 
 -- the actions have a verdict of this kind, and its line became this
 pub record IsVerdictOn (IsOne : Verdict → Type 0) (Became : List ℕ → Type 0) (plan : Plan) (bytes : List ℕ) : Type 0 where
@@ -40,12 +34,6 @@ pub record HasBadLine (IsFaulty : Plan → List ℕ → TraceError → Type 0) (
   pub number_is : number ≡ trace_number error
   pub place_is : place ≡ trace_place error
 
--- the source means a composition, and the file of actions isn't read
-pub record LacksTrace (has : List ℕ → List ℕ → Type 0) (lacks : List ℕ → Type 0) (source trace : List ℕ) (number : ℕ) : Type 0 where
-  pub plan : Plan
-  pub meant : HasPlan (has source) plan
-  pub unread : IsFileFault (has trace) (lacks trace) number
-
 -- the report of a verdict whose line was written
 abbrev pub verdict_report : Verdict → Report
 verdict_report Schedule = Done
@@ -57,18 +45,29 @@ abbrev pub IsAny : Verdict → Type 0
 IsAny verdict = Unit {0}
 
 -- a write failed (60), and the verdict's line is cut after so many bytes
-pub record IsCheckCut (has : List ℕ → List ℕ → Type 0) (source trace : List ℕ) (cut : List ℕ → ℕ → Type 0) (number : ℕ) : Type 0 where
+pub record IsCheckCut (plan : Plan) (bytes : List ℕ) (cut : List ℕ → ℕ → Type 0) (number : ℕ)
+    : Type 0 where
   pub number_is : number ≡ 60
   pub written : ℕ
-  pub stopped : HasBoth has source trace (IsVerdictOn IsAny (λ text. cut text written))
+  pub stopped : IsVerdictOn IsAny (λ text. cut text written) plan bytes
 
--- The report, where files have these bytes or can't be read, and the output was kept, a text was written to it, or a write failed after so many
--- bytes of a text. The source is judged before the actions.
-abbrev pub IsCheckReport : (List ℕ → List ℕ → Type 0) → (List ℕ → Type 0) → List ℕ → List ℕ → Type 0 → (List ℕ → Type 0) → (List ℕ → ℕ → Type 0) → Report → Type 0
-IsCheckReport has lacks source trace kept wrote cut Done = HasBoth has source trace (IsVerdictOn IsYes wrote)
-IsCheckReport has lacks source trace kept wrote cut No = HasBoth has source trace (IsVerdictOn IsNo wrote)
-IsCheckReport has lacks source trace kept wrote cut (Driven refused) = ⊥
-IsCheckReport has lacks source trace kept wrote cut (Ran stats) = ⊥
-IsCheckReport has lacks source trace kept wrote cut (Refused number place) = (HasBadSource (has source) number place ⊎ HasBoth has source trace (HasBadLine IsTraceFault number place)) × kept
-IsCheckReport has lacks source trace kept wrote cut (Fault number) = ((IsUnread (lacks source) number ⊎ LacksTrace has lacks source trace number) × kept) ⊎ IsCheckCut has source trace cut number
-IsCheckReport has lacks source trace kept wrote cut Misused = ⊥
+-- the report on the bytes of actions, for a plan
+abbrev pub IsActionsReport : Plan → List ℕ → Type 0 → (List ℕ → Type 0)
+    → (List ℕ → ℕ → Type 0) → Report → Type 0
+IsActionsReport plan bytes kept wrote cut Done = IsVerdictOn IsYes wrote plan bytes
+IsActionsReport plan bytes kept wrote cut No = IsVerdictOn IsNo wrote plan bytes
+IsActionsReport plan bytes kept wrote cut (Driven refused) = ⊥
+IsActionsReport plan bytes kept wrote cut (Ran stats) = ⊥
+IsActionsReport plan bytes kept wrote cut (Refused number place) =
+    HasBadLine IsTraceFault number place plan bytes × kept
+IsActionsReport plan bytes kept wrote cut (Fault number) =
+    (IsMemory number × kept) ⊎ IsCheckCut plan bytes cut number
+IsActionsReport plan bytes kept wrote cut Misused = ⊥
+
+-- The report of `check` on a source and actions, where the output was kept, a text was written to
+-- it, or a write failed after so many bytes of a text. The source is judged before the actions.
+abbrev pub IsCheckReport : List ℕ → List ℕ → Type 0 → (List ℕ → Type 0)
+    → (List ℕ → ℕ → Type 0) → Report → Type 0
+IsCheckReport source actions kept wrote cut report =
+    (GivesNoPlan source report × kept)
+    ⊎ HasPlan source (λ plan. IsActionsReport plan actions kept wrote cut report)

@@ -1,18 +1,14 @@
--- The report of `run` on a source file, with the turns of a seed or of a table.
+-- The report of `run`.
 use Rattle.std.specs.Prelude.{◌≡◌, ◌⊎◌, ℕ, Bool, true, false, if◌then◌else◌, List}
 use Rattle.plans.specs.declared.plan.Plan.{Plan}
-use Rattle.plans.specs.Plans.{composition}
 use Rattle.task_seed.specs.Turning.{System}
 use Rattle.trace.specs.declared.lines.Lines.{Lines}
-use Rattle.command_line.specs.declared.Options.{Options}
 use Rattle.workers.specs.declared.stats.Stats.{Stats}
 use Rattle.workers.specs.Runs.{IsBegun, IsCut, IsWhole}
 use Rattle.service.specs.declared.report.Report.{Report}
 use Rattle.service.specs.declared.report.Report.TheVariants.{Done, No, Driven, Ran, Refused, Fault, Misused}
-use Rattle.service.specs.Compositions.{HasNoPlan}
-use Rattle.service.specs.Drives.{HasPlanWith, IsTurnsReport}
-use Rattle.service.specs.Parts.{IsMemory}
-use Rattle.service.specs.Simulations.{HasBadTable, HasTurns, LacksTable, lines_for, table_of}
+use Rattle.service.specs.Setups.{Given}
+use Rattle.service.specs.Simulations.{IsEngineReport, Means, MeansNone}
 
 -- the text of all turns, however many there are, became this
 pub record IsFinished (plan : Plan) (system : System) (lines : Lines) (Became : List ℕ → Type 0) : Type 0 where
@@ -43,11 +39,10 @@ IsCrewReport plan system lines stats kept wrote cut Misused = ⊥
 abbrev pub done : Bool → Stats → Report
 done stats counts = if stats then Ran counts else Done
 
--- The report, where files have these bytes or can't be read, and the output was kept, a text was written to it, or a write failed after so many
--- bytes of a text. The source is judged first; where it means a plan, the turns that are asked for; and where there are some, workers take them.
-abbrev pub IsRunFileReport : (List ℕ → List ℕ → Type 0) → (List ℕ → Type 0) → List ℕ → Options → Bool → Type 0 → (List ℕ → Type 0) → (List ℕ → ℕ → Type 0) → Report → Type 0
-IsRunFileReport has lacks source options stats kept wrote cut report =
-    (HasNoPlan (has source) (lacks source) report × kept)
-    ⊎ HasPlanWith (has source) (λ plan.
-    IsTurnsReport (HasTurns has (composition plan) options (table_of options)) (HasBadTable has (composition plan) options) (λ n. IsMemory n ⊎ LacksTable has lacks options n) options kept
-    (λ s. IsCrewReport plan s (lines_for options.trace) stats kept wrote cut) report)
+-- The report of `run` on a source and turns, where the output was kept, a text was written to it,
+-- or a write failed after so many bytes of a text.
+abbrev pub IsRunReport : List ℕ → Given → ℕ → Lines → Bool → Type 0 → (List ℕ → Type 0)
+    → (List ℕ → ℕ → Type 0) → Report → Type 0
+IsRunReport source given ticks lines stats kept wrote cut =
+    IsEngineReport (Means source given ticks) (MeansNone source given ticks) kept
+    (λ plan system. IsCrewReport plan system lines stats kept wrote cut)

@@ -3,6 +3,7 @@ pub mod Compositions
 pub mod Counts
 pub mod Crews
 pub mod Drives
+pub mod FileReports
 pub mod Flushed
 pub mod Parts
 pub mod PrintRefusals

@@ -1,5 +1,5 @@
--- The report on one thread that simulates a plan with turns.
-use Rattle.std.specs.Prelude.{◌≡◌, ◌⊎◌, ℕ, List}
+-- The parts of which reports are made, and the report on one thread that simulates.
+use Rattle.std.specs.Prelude.{◌≡◌, ◌⊎◌, ℕ, Option, List}
 use Rattle.plans.specs.declared.plan.Plan.{Plan}
 use Rattle.task_seed.specs.Turning.{System}
 use Rattle.trace.specs.declared.lines.Lines.{Lines}
@@ -10,6 +10,20 @@ use Rattle.service.specs.declared.report.Report.TheVariants.{Done, No, Driven, R
 -- want of memory alone
 abbrev pub IsMemory : ℕ → Type 0
 IsMemory number = number ≡ 1
+
+-- the report that something is refused, or that something is lacking
+abbrev pub IsRefusal : (ℕ → Option ℕ → Type 0) → (ℕ → Type 0) → Report → Type 0
+IsRefusal Bad Lacks Done = ⊥
+IsRefusal Bad Lacks No = ⊥
+IsRefusal Bad Lacks (Driven refused) = ⊥
+IsRefusal Bad Lacks (Ran stats) = ⊥
+IsRefusal Bad Lacks (Refused number place) = Bad number place
+IsRefusal Bad Lacks (Fault number) = Lacks number
+IsRefusal Bad Lacks Misused = ⊥
+
+-- the report that something is lacking
+abbrev pub IsLacking : (ℕ → Type 0) → Report → Type 0
+IsLacking = IsRefusal (λ number place. ⊥)
 
 -- a write failed (60), and the text is cut after so many bytes
 pub record IsSimulationCut (plan : Plan) (system : System) (lines : Lines)

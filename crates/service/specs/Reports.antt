@@ -7,13 +7,10 @@ use Rattle.command_line.specs.Words.{AskNothing, HasFault, IsAsked, IsWrong, ver
 use Rattle.service.specs.declared.report.Report.{Report}
 use Rattle.service.specs.declared.report.Report.TheVariants.{Done, No, Driven, Ran, Refused, Fault, Misused}
 use Rattle.commands.specs.declared.driving.RefusedStep.{RefusedStep}
-use Rattle.service.specs.Checks.{IsCheckReport}
 use Rattle.service.specs.Counts.{stats_text}
-use Rattle.service.specs.Crews.{IsRunFileReport}
-use Rattle.service.specs.Drives.{IsDriveReport}
-use Rattle.service.specs.Unread.{IsUnread}
+use Rattle.service.specs.FileReports.{IsCheckFileReport, IsDriveFileReport, IsRunFileReport, IsSimulateFileReport}
+use Rattle.service.specs.Unread.{IsSourceWith, IsUnread}
 use Rattle.service.specs.Printing.{IsPrinted, IsRefusedSource}
-use Rattle.service.specs.Simulations.{IsSimulateReport}
 use Rattle.service.specs.Written.{SomeText}
 
 abbrev pub status_of : Report → ℕ
@@ -48,11 +45,6 @@ is_fault number = number == 1 || (nat_le 40 number && nat_le number 49 || nat_le
 abbrev pub report_of : ℕ → Option ℕ → Report
 report_of number place = if is_fault number then Fault number else Refused number place
 
-pub record IsSourceWith (has : List ℕ → Type 0) (Judged : List ℕ → Type 0) : Type 0 where
-  pub source : List ℕ
-  pub is : has source
-  pub judged : Judged source
-
 -- a write failed (60), and the source's layout is cut after so many bytes
 pub record IsPrintCut (has : List ℕ → Type 0) (cut : List ℕ → ℕ → Type 0) (number : ℕ) : Type 0 where
   pub number_is : number ≡ 60
@@ -72,10 +64,10 @@ IsPrintReport has lacks kept wrote cut Misused = ⊥
 -- the report on what is asked for
 abbrev pub IsReportOn : Asked → (List ℕ → List ℕ → Type 0) → (List ℕ → Type 0) → Type 0 → (List ℕ → Type 0) → (List ℕ → ℕ → Type 0) → Report → Type 0
 IsReportOn (asked.Print source) has lacks = IsPrintReport (has source.now) (lacks source.now)
-IsReportOn (asked.Reference source options) has lacks = IsSimulateReport has lacks source.now options
+IsReportOn (asked.Reference source options) has lacks = IsSimulateFileReport has lacks source.now options
 IsReportOn (asked.Run source options crew) has lacks = IsRunFileReport has lacks source.now options crew.stats
-IsReportOn (asked.Check source trace) has lacks = IsCheckReport has lacks source.now trace.now
-IsReportOn (asked.Drive source steps options) has lacks = IsDriveReport has lacks source.now steps.now options
+IsReportOn (asked.Check source trace) has lacks = IsCheckFileReport has lacks source.now trace.now
+IsReportOn (asked.Drive source steps options) has lacks = IsDriveFileReport has lacks source.now steps.now options
 
 -- the words ask for something, and this is the report on it
 pub record IsReportOnAsked (words : List (List ℕ)) (has : List ℕ → List ℕ → Type 0) (lacks : List ℕ → Type 0) (kept : Type 0) (wrote : List ℕ → Type 0) (cut : List ℕ → ℕ → Type 0) (report : Report) : Type 0 where

@@ -24,3 +24,9 @@ pub record HasSmall (has : List ℕ → Type 0) (Judged : List ℕ → Type 0) :
   pub is : has bytes
   pub small : length bytes ≤ most_bytes
   pub judged : Judged bytes
+
+-- a source file has bytes of which this holds
+pub record IsSourceWith (has : List ℕ → Type 0) (Judged : List ℕ → Type 0) : Type 0 where
+  pub source : List ℕ
+  pub is : has source
+  pub judged : Judged source

@@ -1,60 +1,53 @@
-//! Compositions driven by steps, from files.
+//! The engine of `drive`, over bytes.
 ghost use Rattle.std.specs.Prelude.{◌≡◌};
 ghost use Rattle.task_seed.specs.Setups.{plan_of, system};
 ghost use Rattle.trace.specs.Went.{IsStopped, IsWritten};
 ghost use Rattle.service.specs.Drives.{IsDriveReport, IsStepsReport};
+ghost use Rattle.service.specs.Setups.{given_of};
 
-use crate::files::Files;
+use crate::given::GivenTurns;
 use crate::report::{Report, report_of};
-use crate::serve::read_whole;
 use crate::setups::setup_of;
-use crate::simulation::{lines_for, plan_of};
-use command_line::Options;
 use commands::drive;
 use std::alloc::Global;
 use std::io::Write;
 use task_seed::{Setup, Turns};
 use trace::{Counted, Lines, read_steps};
 
-/// Drives the composition of the source in a file by the steps in another, with the turns of a seed, or of a table where `options` name one,
-/// and writes the lines of the turns that are committed after all steps. The source is judged before the table is read, and that before the
-/// steps are.
-pub fn drive_file<F: Files, W: Write>(
+/// Drives the composition of a source, with the turns that are given up to the last tick, by steps, and writes the lines of the turns that
+/// are committed after all of them. The source is judged before the turns, and those before the steps.
+pub fn drive_source<W: Write>(
     alloc: Global,
-    source: &str,
-    steps: &str,
-    options: Options,
-    files: &F,
+    source: &[u8],
+    given: GivenTurns,
+    ticks: u64,
+    steps: &[u8],
+    lines: Lines,
     out: &mut Counted<W>,
 ) -> Report
-    ensures { IsDriveReport (F.has files.now) (F.lacks files.now) source.now steps.now options.entry (out.new ≡ out.old) (IsWritten W.contents out.old out.new) (IsStopped W.contents out.old out.new) result }
+    ensures { IsDriveReport source.now (given_of given.entry) ticks steps.now lines
+        (out.new ≡ out.old) (IsWritten W.contents out.old out.new)
+        (IsStopped W.contents out.old out.new) result }
 {
-    let plan = match plan_of(alloc, source, files) {
-        Ok(plan) => plan,
-        Err(report) => return report,
-    };
-    match setup_of(alloc, plan, options, files) {
-        Ok(setup) => drive_setup(alloc, setup, steps, lines_for(options.trace), files, out),
+    match setup_of(alloc, source, given, ticks) {
+        Ok(setup) => drive_setup(alloc, setup, steps, lines, out),
         Err(report) => report,
     }
 }
 
-// Drives a setup by the steps in a file.
-fn drive_setup<T: Turns, F: Files, W: Write>(
+/// Drives a setup by steps.
+pub(crate) fn drive_setup<T: Turns, W: Write>(
     alloc: Global,
     setup: Setup<T>,
-    name: &str,
+    bytes: &[u8],
     lines: Lines,
-    files: &F,
     out: &mut Counted<W>,
 ) -> Report
-    ensures { IsStepsReport (F.has files.now name.now) (F.lacks files.now name.now) (plan_of setup) (system T.turn_of setup) lines (out.new ≡ out.old) (IsWritten W.contents out.old out.new) (IsStopped W.contents out.old out.new) result }
+    ensures { IsStepsReport (plan_of setup) (system T.turn_of setup) lines bytes.now
+        (out.new ≡ out.old) (IsWritten W.contents out.old out.new)
+        (IsStopped W.contents out.old out.new) result }
 {
-    let bytes = match read_whole(alloc, name, files) {
-        Ok(bytes) => bytes,
-        Err(number) => return Report::Fault(number),
-    };
-    let steps = match read_steps(alloc, setup.plan(), bytes.as_slice()) {
+    let steps = match read_steps(alloc, setup.plan(), bytes) {
         Ok(steps) => steps,
         Err(refused) => return report_of(&refused),
     };

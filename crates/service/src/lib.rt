@@ -1,11 +1,14 @@
-//! What the program `warp` answers to its words, over files and writers of any kind.
+//! The engines of the program `warp`, over bytes, and what it answers to its words, over files of any kind; all write to writers of any kind.
 #![tactic(auto)]
 
+mod asked;
 mod counts;
 pub mod driving;
 pub mod fault;
 pub mod files;
+mod given;
 pub mod printing;
+mod reading;
 pub mod report;
 pub mod running;
 pub mod serve;
@@ -14,3 +17,4 @@ pub mod simulation;
 mod writing;
 
 pub use files::{FileFault, Files};
+pub use given::GivenTurns;

@@ -23,7 +23,7 @@ pub enum Report {
     Driven(Vec<RefusedStep>),
     /// `run` is done, and what the workers did is told.
     Ran(Stats),
-    /// A file was refused, with the refusal's number and its place, where it has one.
+    /// A source, turns, steps or actions were refused, with the refusal's number and its place, where it has one.
     Refused(u8, Option<usize>),
     /// A run fault, or a file that couldn't be read: 1 for want of memory, 40 and 41 for a refused lease, 60 for a failed write, 61 for a
     /// worker that wasn't started, 62 for turns out of place, 63 and 64 for files.

@@ -1,15 +1,15 @@
-//! Compositions simulated by workers, from files.
+//! The engine of `run`, over bytes.
 ghost use Rattle.std.specs.Prelude.{◌≡◌};
 ghost use Rattle.std.specs.Arc.{arc_value};
 ghost use Rattle.task_seed.specs.Setups.{plan_of, system};
 ghost use Rattle.trace.specs.Went.{IsStopped, IsWritten};
-ghost use Rattle.service.specs.Crews.{IsCrewReport, IsRunFileReport, done};
+ghost use Rattle.service.specs.Crews.{IsCrewReport, IsRunReport, done};
+ghost use Rattle.service.specs.Setups.{given_of};
 
-use crate::files::Files;
+use crate::given::GivenTurns;
 use crate::report::{Report, report_of};
 use crate::setups::setup_of;
-use crate::simulation::{lines_for, plan_of};
-use command_line::{Crew, Options};
+use command_line::Crew;
 use std::alloc::Global;
 use std::io::Write;
 use std::sync::{Arc, Wait};
@@ -18,34 +18,33 @@ use task_seed::{AnyTurns, Setup, Turns};
 use trace::{Counted, Lines};
 use workers::{Gate, Stats, run_with_stats};
 
-/// Simulates the composition of the source in a file by workers, with the turns of a seed, or of a table where `options` name one, and
-/// writes the lines of the turns as they are committed. The source is judged before the table is read.
+/// Simulates the composition of a source by workers, with the turns that are given up to the last tick, and writes the lines of the turns as
+/// they are committed. The source is judged before the turns.
 ///
 /// It may wait. What went out is a beginning of the text of the simulator by one thread, and all of it where the report is `Done` or `Ran`.
-pub fn run_file<F: Files, W: Write + Drop, G: Gate<AnyTurns>, R: Threads + Wait + Sync>(
+pub fn run_source<W: Write + Drop, G: Gate<AnyTurns>, R: Threads + Wait + Sync>(
     rt: &R,
     alloc: Global,
-    source: &str,
-    options: Options,
+    source: &[u8],
+    given: GivenTurns,
+    ticks: u64,
     crew: Crew,
     gate: &G,
-    files: &F,
+    lines: Lines,
     out: &mut Counted<W>,
 ) -> Report
-    ensures { IsRunFileReport (F.has files.now) (F.lacks files.now) source.now options.entry crew.stats (out.new ≡ out.old) (IsWritten W.contents out.old out.new) (IsStopped W.contents out.old out.new) result }
+    ensures { IsRunReport source.now (given_of given.entry) ticks lines crew.stats
+        (out.new ≡ out.old) (IsWritten W.contents out.old out.new)
+        (IsStopped W.contents out.old out.new) result }
 {
-    let plan = match plan_of(alloc, source, files) {
-        Ok(plan) => plan,
-        Err(report) => return report,
-    };
-    match setup_of(alloc, plan, options, files) {
-        Ok(setup) => run_setup(rt, alloc, setup, crew, gate, lines_for(options.trace), out),
+    match setup_of(alloc, source, given, ticks) {
+        Ok(setup) => run_setup(rt, alloc, setup, crew, gate, lines, out),
         Err(report) => report,
     }
 }
 
-// Runs a setup.
-fn run_setup<T: Turns, W: Write + Drop, G: Gate<T>, R: Threads + Wait + Sync>(
+/// Runs a setup.
+pub(crate) fn run_setup<T: Turns, W: Write + Drop, G: Gate<T>, R: Threads + Wait + Sync>(
     rt: &R,
     alloc: Global,
     setup: Setup<T>,
@@ -54,7 +53,9 @@ fn run_setup<T: Turns, W: Write + Drop, G: Gate<T>, R: Threads + Wait + Sync>(
     lines: Lines,
     out: &mut Counted<W>,
 ) -> Report
-    ensures { IsCrewReport (plan_of setup) (system T.turn_of setup) lines crew.stats (out.new ≡ out.old) (IsWritten W.contents out.old out.new) (IsStopped W.contents out.old out.new) result }
+    ensures { IsCrewReport (plan_of setup) (system T.turn_of setup) lines crew.stats
+        (out.new ≡ out.old) (IsWritten W.contents out.old out.new)
+        (IsStopped W.contents out.old out.new) result }
 {
     let shared = match Arc::new(alloc, setup) {
         Ok(shared) => shared,

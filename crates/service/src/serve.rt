@@ -1,37 +1,28 @@
 //! The words of the command line, served.
-ghost use Rattle.std.specs.Prelude.{◌≡◌, ◌≢◌, ◌≤◌, ◌<◌, ◌⊎◌, true, ℕ, List, IfOk, IfErr, length, map, string_bytes};
+ghost use Rattle.std.specs.Prelude.{◌≡◌, ◌≢◌, ◌<◌, ◌⊎◌, true, ℕ, List, IfOk, length, map, string_bytes};
 ghost use Rattle.clap.specs.declared.error.ErrorKind.TheVariants.{DisplayHelp, DisplayVersion};
 ghost use Rattle.command_line.specs.Words.{HasFault, IsRefused};
 ghost use Rattle.service.specs.declared.report.Report.{Report};
 ghost use Rattle.service.specs.Flushed.{IsFlushedWhere};
-ghost use Rattle.service.specs.Reading.{IsReadOf};
-ghost use Rattle.service.specs.Reports.{is_served, status_of, IsFlushedReport, IsReport, IsReportOn, IsPrintReport, IsUnserved};
+ghost use Rattle.service.specs.Reports.{is_served, status_of, IsFlushedReport, IsReport, IsUnserved};
 ghost use Rattle.service.specs.Told.{IsTold, IsWarned};
-ghost use Rattle.service.specs.Unread.{IsFileFault, IsUnread, most_bytes};
 ghost use Rattle.trace.specs.Went.{IsStopped, IsWritten};
 
-use crate::driving::drive_file;
-use crate::files::{FileFault, Files};
-use crate::printing::print_source;
-use crate::report::{Report, report_of};
-use crate::running::run_file;
-use crate::simulation::{check_file, simulate_file};
+use crate::asked::do_asked;
+use crate::files::Files;
+use crate::report::Report;
 use crate::writing::say;
 use clap::error::Error;
-use command_line::{Asked, Refused, read_words, version};
+use command_line::{Refused, read_words, version};
 use std::alloc::{AllocError, Global};
 use std::io::Write;
 use std::sync::Wait;
 use std::thread::Threads;
 use terms::Refusal;
 use trace::{Counted, write_text};
-use workers::Unheld;
 
 /// The most bytes that a table, a file of actions or a file of steps may have.
 pub const MOST_BYTES: u64 = 16_777_216;
-
-/// One byte more than a source may have: a longer file is refused for its size.
-pub(crate) const SOURCE_BYTES: u64 = ioa_front::MOST_BYTES as u64 + 1;
 
 /// Serves the words after the program's name: what is asked goes to `out`, as help and the version do, and `out` is flushed where all is done;
 /// faults and what is wrong with the words go to `err`, up to the first write that fails there, and the answer is the exit status. It may wait
@@ -108,33 +99,6 @@ fn answer_words<F: Files, W: Write + Drop, E: Write, R: Threads + Wait + Sync>(
     }
 }
 
-// What is asked for.
-fn do_asked<F: Files, W: Write + Drop, R: Threads + Wait + Sync>(
-    rt: &R,
-    alloc: Global,
-    asked: Asked,
-    files: &F,
-    out: &mut Counted<W>,
-) -> Report
-    ensures report { IsReportOn asked.entry (F.has files.now) (F.lacks files.now) (out.new ≡ out.old) (IsWritten W.contents out.old out.new) (IsStopped W.contents out.old out.new) result }
-{
-    match asked {
-        Asked::Print { source } => print_file(alloc, source, files, out),
-        Asked::Reference { source, options } => simulate_file(alloc, source, options, files, out),
-        Asked::Run {
-            source,
-            options,
-            crew,
-        } => run_file(rt, alloc, source, options, crew, &Unheld, files, out),
-        Asked::Check { source, trace } => check_file(alloc, source, trace, files, out),
-        Asked::Drive {
-            source,
-            steps,
-            options,
-        } => drive_file(alloc, source, steps, options, files, out),
-    }
-}
-
 // Words that ask for nothing.
 fn refuse<W: Write, E: Write>(
     alloc: Global,
@@ -192,52 +156,5 @@ fn tell_version<W: Write>(out: &mut Counted<W>) -> Report
     match write_text(version().as_bytes(), out) {
         Ok(()) => Report::Done,
         Err(fault) => Report::Fault(fault.number()),
-    }
-}
-
-fn print_file<F: Files, W: Write>(
-    alloc: Global,
-    name: &str,
-    files: &F,
-    out: &mut Counted<W>,
-) -> Report
-    ensures report { IsPrintReport (F.has files.now name.now) (F.lacks files.now name.now) (out.new ≡ out.old) (IsWritten W.contents out.old out.new) (IsStopped W.contents out.old out.new) result }
-{
-    let source = match read_front(alloc, name, SOURCE_BYTES, files) {
-        Ok(source) => source,
-        Err(number) => return Report::Fault(number),
-    };
-    match print_source(alloc, source.as_slice(), out) {
-        Ok(()) => Report::Done,
-        Err(refused) => report_of(&refused),
-    }
-}
-
-// All of a table, or the number of the fault.
-pub(crate) fn read_whole<F: Files>(alloc: Global, name: &str, files: &F) -> Result<Vec<u8>, u8>
-    ensures ok { IfOk result (λ bytes. F.has files.now name.now bytes.items × (length bytes.items ≤ most_bytes)) }
-    ensures err { IfErr result (λ number. IsFileFault (F.has files.now name.now) (F.lacks files.now name.now) number) }
-{
-    match read_front(alloc, name, MOST_BYTES + 1, files) {
-        Ok(bytes) if bytes.len() as u64 <= MOST_BYTES => Ok(bytes),
-        Ok(_) => Err(64),
-        Err(number) => Err(number),
-    }
-}
-
-// The first bytes of a file, or the number of the fault.
-pub(crate) fn read_front<F: Files>(
-    alloc: Global,
-    name: &str,
-    most: u64,
-    files: &F,
-) -> Result<Vec<u8>, u8>
-    ensures ok { IfOk result (λ bytes. IsReadOf (F.has files.now name.now) most bytes.items) }
-    ensures err { IfErr result (λ number. IsUnread (F.lacks files.now name.now) number) }
-{
-    match files.read(alloc, name, most) {
-        Ok(bytes) => Ok(bytes),
-        Err(FileFault::NoMemory) => Err(1),
-        Err(FileFault::Failed) => Err(63),
     }
 }

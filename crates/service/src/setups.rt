@@ -1,70 +1,94 @@
-//! Setups of a composition with the turns that are asked for.
+//! What a source means with the turns that are given: the first stages of the engines.
 ghost use Rattle.std.specs.Prelude.{◌≡◌, ◌<◌, ◌≤◌, IfErr, IfOk};
+ghost use Rattle.compose.specs.Composed.{IsComposed};
 ghost use Rattle.plans.specs.Plans.{composition};
 ghost use Rattle.task_seed.specs.Any.{any_turn};
 ghost use Rattle.task_seed.specs.Drawn.{drawn_turn};
-ghost use Rattle.service.specs.Parts.{IsMemory};
-ghost use Rattle.service.specs.Setups.{AreTurns, GivesNone, HasNoSetup, HasNone, IsBadGap, IsNothing, IsRefusal, IsSetup, IsTableOf, IsWithin};
-ghost use Rattle.service.specs.Simulations.{table_of};
+ghost use Rattle.task_seed.specs.Setups.{plan_of, system};
+ghost use Rattle.service.specs.Compositions.{GivesNoPlan};
+ghost use Rattle.service.specs.Parts.{IsMemory, IsRefusal};
+ghost use Rattle.service.specs.Setups.{AreRefused, AreTurns, GivesNoSystem, IsBadGap, IsSetup, IsTabled, IsWithin, given_of};
+ghost use Rattle.service.specs.Simulations.{Means, MeansNone};
 ghost use Rattle.service.specs.Tables.{IsRefused};
-ghost use Rattle.service.specs.Unread.{HasSmall};
 
-use crate::files::Files;
+use crate::given::GivenTurns;
 use crate::report::{Report, report_of};
-use crate::serve::read_whole;
-use command_line::Options;
+use compose::compose_source;
+use compose::source_laws::number_law;
 use plans::Plan;
 use std::alloc::Global;
 use task_seed::{AnyTurns, SeedTurns, Setup, TableTurns, read_table};
 
-/// The setup of a plan with the turns of a seed, or of a table where `options` name one, or the report on why there is none. The table is
-/// judged before the last tick.
-pub(crate) fn setup_of<F: Files>(
+/// The setup that a source means with turns, or the report on why there is none. The source is judged first, then the turns, then the last
+/// tick.
+pub(crate) fn setup_of(
+    alloc: Global,
+    source: &[u8],
+    given: GivenTurns,
+    ticks: u64,
+) -> Result<Setup<AnyTurns>, Report>
+    ensures ok { IfOk result (λ setup.
+        Means source.now (given_of given.entry) ticks (plan_of setup) (system any_turn setup)) }
+    ensures err { IfErr result (MeansNone source.now (given_of given.entry) ticks) }
+{
+    match plan_of(alloc, source) {
+        Ok(plan) => setup_with(alloc, plan, given, ticks),
+        Err(report) => Err(report),
+    }
+}
+
+/// The composition of a source, or the report on why there is none.
+pub(crate) fn plan_of(alloc: Global, source: &[u8]) -> Result<Plan, Report>
+    ensures ok { IfOk result (IsComposed source.now) }
+    ensures err { IfErr result (GivesNoPlan source.now) }
+{
+    number_law();
+    match compose_source(alloc, source) {
+        Ok(plan) => Ok(plan),
+        Err(refused) => Err(report_of(&refused)),
+    }
+}
+
+/// The setup of a plan with turns, or the report on why there is none.
+pub(crate) fn setup_with(
     alloc: Global,
     plan: Plan,
-    options: Options,
-    files: &F,
+    given: GivenTurns,
+    ticks: u64,
 ) -> Result<Setup<AnyTurns>, Report>
-    ensures ok { IfOk result (IsSetup (F.has files.now) plan options.entry) }
-    ensures err { IfErr result
-        (HasNoSetup (F.has files.now) (F.lacks files.now) (composition plan) options.entry) }
+    ensures ok { IfOk result (IsSetup plan (given_of given.entry) ticks) }
+    ensures err { IfErr result (GivesNoSystem (composition plan) (given_of given.entry) ticks) }
 {
-    let turns = match turns_of(alloc, &plan, options, files) {
+    let turns = match turns_of(alloc, &plan, given) {
         Ok(turns) => turns,
         Err(report) => return Err(report),
     };
-    match Setup::new(plan, turns, options.ticks) {
+    match Setup::new(plan, turns, ticks) {
         Ok(setup) => Ok(setup),
         Err(refused) => Err(report_of(&refused)),
     }
 }
 
-// The turns that are asked for.
-fn turns_of<F: Files>(
-    alloc: Global,
-    plan: &Plan,
-    options: Options,
-    files: &F,
-) -> Result<AnyTurns, Report>
-    ensures ok { IfOk result (λ turns. AreTurns (F.has files.now) (composition plan.now)
-        options.entry (table_of options.entry) (any_turn turns)) }
-    ensures err { IfErr result (HasNone (F.has files.now) (F.lacks files.now)
-        (composition plan.now) options.entry (table_of options.entry)) }
+// The turns that are given.
+fn turns_of(alloc: Global, plan: &Plan, given: GivenTurns) -> Result<AnyTurns, Report>
+    ensures ok { IfOk result (λ turns.
+        AreTurns (composition plan.now) (given_of given.entry) (any_turn turns)) }
+    ensures err { IfErr result
+        (IsRefusal (AreRefused (composition plan.now) (given_of given.entry)) IsMemory) }
 {
-    match options.table {
-        Some(name) => turns_in(alloc, plan, name, files),
-        None => drawn(options),
+    match given {
+        GivenTurns::Seed { seed, stream, gap } => drawn(seed, stream, gap),
+        GivenTurns::Table(table) => tabled(alloc, plan, table),
     }
 }
 
 // The turns of a seed.
-fn drawn(options: Options) -> Result<AnyTurns, Report>
-    ensures ok { IfOk result (λ turns. any_turn turns
-        ≡ drawn_turn options.entry.seed options.entry.stream options.entry.gap) }
-    ensures within { IfOk result (λ turns. IsWithin options.entry) }
-    ensures err { IfErr result (IsRefusal (IsBadGap options.entry) IsNothing) }
+fn drawn(seed: u64, stream: u64, gap: u64) -> Result<AnyTurns, Report>
+    ensures ok { IfOk result (λ turns. any_turn turns ≡ drawn_turn seed stream gap) }
+    ensures within { IfOk result (λ turns. IsWithin gap) }
+    ensures err { IfErr result (IsRefusal (IsBadGap gap) IsMemory) }
 {
-    match SeedTurns::new(options.seed, options.stream, gap_of(options.gap)) {
+    match SeedTurns::new(seed, stream, gap_of(gap)) {
         Ok(turns) => Ok(AnyTurns::Seed(turns)),
         Err(refused) => Err(report_of(&refused)),
     }
@@ -78,23 +102,9 @@ fn gap_of(gap: u64) -> u32
     u32::try_from(gap).unwrap_or(u32::MAX)
 }
 
-// The turns of the table in a file.
-fn turns_in<F: Files>(alloc: Global, plan: &Plan, name: &str, files: &F) -> Result<AnyTurns, Report>
-    ensures ok { IfOk result (λ turns. HasSmall (F.has files.now name.now)
-        (IsTableOf (composition plan.now) (any_turn turns))) }
-    ensures err { IfErr result (GivesNone (F.has files.now name.now) (F.lacks files.now name.now)
-        (composition plan.now)) }
-{
-    let table = match read_whole(alloc, name, files) {
-        Ok(table) => table,
-        Err(number) => return Err(Report::Fault(number)),
-    };
-    tabled(alloc, plan, table.as_slice())
-}
-
 // The turns of a table.
 fn tabled(alloc: Global, plan: &Plan, table: &[u8]) -> Result<AnyTurns, Report>
-    ensures ok { IfOk result (λ turns. IsTableOf (composition plan.now) (any_turn turns) table.now) }
+    ensures ok { IfOk result (λ turns. IsTabled (composition plan.now) table.now (any_turn turns)) }
     ensures err { IfErr result (IsRefusal (IsRefused (composition plan.now) table.now) IsMemory) }
 {
     let rows = match read_table(alloc, table) {

@@ -1,20 +1,16 @@
-//! Compositions simulated and judged, from files.
-ghost use Rattle.std.specs.Prelude.{◌≡◌, IfErr, IfOk};
+//! The engines of `reference` and `check`, over bytes.
+ghost use Rattle.std.specs.Prelude.{◌≡◌};
 ghost use Rattle.task_seed.specs.Setups.{plan_of, system};
 ghost use Rattle.trace.specs.Went.{IsStopped, IsWritten};
-ghost use Rattle.service.specs.Checks.{IsCheckReport, verdict_report};
-ghost use Rattle.service.specs.Compositions.{HasNoPlan, HasPlan};
+ghost use Rattle.service.specs.Checks.{IsActionsReport, IsCheckReport, verdict_report};
 ghost use Rattle.service.specs.Parts.{IsSimulationReport};
-ghost use Rattle.service.specs.Simulations.{IsSimulateReport, lines_for};
+ghost use Rattle.service.specs.Setups.{given_of};
+ghost use Rattle.service.specs.Simulations.{IsSimulateReport};
 
-use crate::files::Files;
+use crate::given::GivenTurns;
 use crate::report::{Report, report_of};
-use crate::serve::{SOURCE_BYTES, read_front, read_whole};
-use crate::setups::setup_of;
-use command_line::Options;
+use crate::setups::{plan_of, setup_of};
 use commands::{check_trace, simulate};
-use compose::compose_source;
-use compose::source_laws::{front_law, number_law};
 use plans::Plan;
 use reference::Verdict;
 use std::alloc::Global;
@@ -22,52 +18,27 @@ use std::io::Write;
 use task_seed::{Setup, Turns};
 use trace::{Counted, Lines};
 
-// The composition of the source in a file, or the report on why there is none.
-pub(crate) fn plan_of<F: Files>(alloc: Global, name: &str, files: &F) -> Result<Plan, Report>
-    ensures ok { IfOk result (HasPlan (F.has files.now name.now)) }
-    ensures err { IfErr result (HasNoPlan (F.has files.now name.now) (F.lacks files.now name.now)) }
-{
-    front_law();
-    number_law();
-    let source = match read_front(alloc, name, SOURCE_BYTES, files) {
-        Ok(source) => source,
-        Err(number) => return Err(Report::Fault(number)),
-    };
-    match compose_source(alloc, source.as_slice()) {
-        Ok(plan) => Ok(plan),
-        Err(refused) => Err(report_of(&refused)),
-    }
-}
-
-/// Simulates the composition of the source in a file by one thread, with the turns of a seed, or of a table where `options` name one, and
-/// writes each turn's line as it is taken. The source is judged before the table is read.
-pub fn simulate_file<F: Files, W: Write>(
+/// Simulates the composition of a source by one thread, with the turns that are given up to the last tick, and writes each turn's line as it
+/// is taken. The source is judged before the turns.
+pub fn simulate_source<W: Write>(
     alloc: Global,
-    source: &str,
-    options: Options,
-    files: &F,
+    source: &[u8],
+    given: GivenTurns,
+    ticks: u64,
+    lines: Lines,
     out: &mut Counted<W>,
 ) -> Report
-    ensures { IsSimulateReport (F.has files.now) (F.lacks files.now) source.now options.entry (out.new ≡ out.old) (IsWritten W.contents out.old out.new) (IsStopped W.contents out.old out.new) result }
+    ensures { IsSimulateReport source.now (given_of given.entry) ticks lines (out.new ≡ out.old)
+        (IsWritten W.contents out.old out.new) (IsStopped W.contents out.old out.new) result }
 {
-    let plan = match plan_of(alloc, source, files) {
-        Ok(plan) => plan,
-        Err(report) => return report,
-    };
-    match setup_of(alloc, plan, options, files) {
-        Ok(setup) => simulate_setup(alloc, setup, lines_for(options.trace), out),
+    match setup_of(alloc, source, given, ticks) {
+        Ok(setup) => simulate_setup(alloc, setup, lines, out),
         Err(report) => report,
     }
 }
 
-pub(crate) fn lines_for(is_trace: bool) -> Lines
-    ensures { result ≡ lines_for is_trace }
-{
-    if is_trace { Lines::Trace } else { Lines::All }
-}
-
-// Simulates a setup.
-fn simulate_setup<T: Turns, W: Write>(
+/// Simulates a setup.
+pub(crate) fn simulate_setup<T: Turns, W: Write>(
     alloc: Global,
     setup: Setup<T>,
     lines: Lines,
@@ -82,26 +53,33 @@ fn simulate_setup<T: Turns, W: Write>(
     }
 }
 
-/// Judges the actions in a file by the composition of the source in another, and writes the line of the verdict. The source is judged before
-/// the actions are read.
-pub fn check_file<F: Files, W: Write>(
+/// Judges actions by the composition of a source, and writes the line of the verdict. The source is judged before the actions are read.
+pub fn check_source<W: Write>(
     alloc: Global,
-    source: &str,
-    trace: &str,
-    files: &F,
+    source: &[u8],
+    actions: &[u8],
     out: &mut Counted<W>,
 ) -> Report
-    ensures { IsCheckReport (F.has files.now) (F.lacks files.now) source.now trace.now (out.new ≡ out.old) (IsWritten W.contents out.old out.new) (IsStopped W.contents out.old out.new) result }
+    ensures { IsCheckReport source.now actions.now (out.new ≡ out.old)
+        (IsWritten W.contents out.old out.new) (IsStopped W.contents out.old out.new) result }
 {
-    let plan = match plan_of(alloc, source, files) {
-        Ok(plan) => plan,
-        Err(report) => return report,
-    };
-    let actions = match read_whole(alloc, trace, files) {
-        Ok(actions) => actions,
-        Err(number) => return Report::Fault(number),
-    };
-    match check_trace(alloc, &plan, actions.as_slice(), out) {
+    match plan_of(alloc, source) {
+        Ok(plan) => check_plan(alloc, &plan, actions, out),
+        Err(report) => report,
+    }
+}
+
+/// Judges actions by a plan.
+pub(crate) fn check_plan<W: Write>(
+    alloc: Global,
+    plan: &Plan,
+    actions: &[u8],
+    out: &mut Counted<W>,
+) -> Report
+    ensures { IsActionsReport plan.now actions.now (out.new ≡ out.old)
+        (IsWritten W.contents out.old out.new) (IsStopped W.contents out.old out.new) result }
+{
+    match check_trace(alloc, plan, actions, out) {
         Ok(verdict) => verdict_report(verdict),
         Err(fault) => report_of(&fault),
     }

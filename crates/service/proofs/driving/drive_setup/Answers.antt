@@ -10,14 +10,12 @@ returns g c =
     let known = g.W.Write.contents in
     let old = c.args.out.now in
     let new = c.drive.new.out in
-    let has = g.F.Files.has c.args.files.now c.args.name.now in
-    let lacks = g.F.Files.lacks c.args.files.now c.args.name.now in
     let plan = plan_of c.args.setup in
     let turns = system g.T.Turns.turn_of c.args.setup in
+    let bytes = c.args.bytes.now in
     let kept : Type 0 = new ≡ old in
     let wrote : List ℕ → Type 0 = IsWritten known old new in
-    let f = c.in-Ok.ensures.ok in
-    let bytes = c.in-Ok.bytes.items in
-    let given = given_here has lacks plan turns c.args.lines kept wrote (IsStopped known old new) bytes f.0 f.1 c.plan.result.now c.plan.ensures c.as_slice.result.now c.as_slice.ensures.value c.in-Ok-read_steps.steps.items c.as_slice-2.result.now c.as_slice-2.ensures.value c.in-Ok-read_steps.ensures.ok in
-    subst (IsStepsReport has lacks plan turns c.args.lines kept wrote (IsStopped known old new)) (sym c.report_of-in-Err-drive.ensures)
-    (steps_undriven has lacks plan turns c.args.lines kept wrote (IsStopped known old new) bytes f.0 f.1 known old new c.as_slice-2.result.now given c.in-Err-drive.fault c.in-Err-drive.ensures.undriven)
+    let cut : List ℕ → ℕ → Type 0 = IsStopped known old new in
+    let given = given_here plan turns c.args.lines bytes kept wrote cut c.plan.result.now c.plan.ensures c.in-Ok.steps.items c.as_slice.result.now c.as_slice.ensures.value c.in-Ok.ensures.ok in
+    subst (IsStepsReport plan turns c.args.lines bytes kept wrote cut) (sym c.report_of-in-Err-drive.ensures)
+    (steps_undriven plan turns c.args.lines bytes kept wrote cut known old new c.as_slice.result.now given c.in-Err-drive.fault c.in-Err-drive.ensures.undriven)

@@ -1,8 +1,7 @@
 use Rattle.std.proofs.Common.{ap, sym, subst}
 use Rattle.std.specs.Prelude.{Err}
 use Rattle.plans.specs.Plans.{composition}
-use Rattle.service.specs.Parts.{IsMemory}
-use Rattle.service.specs.Setups.{IsRefusal}
+use Rattle.service.specs.Parts.{IsMemory, IsRefusal}
 use Rattle.service.specs.Tables.{IsRefused}
 use Rattle.service.proofs.SetupReports.{rows_are, rows_refused, table_refused}
 use Rattle.service.proofs.setups.tabled.Goals as goal

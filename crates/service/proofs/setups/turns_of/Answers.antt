@@ -1,33 +1,21 @@
 use Rattle.std.proofs.Common.{ap, sym, subst}
-use Rattle.std.specs.Prelude.{IfErr, IfOk, option_map}
+use Rattle.std.specs.Prelude.{IfErr, IfOk}
 use Rattle.plans.specs.Plans.{composition}
 use Rattle.task_seed.specs.Any.{any_turn}
-use Rattle.service.specs.Setups.{AreTurns, HasNone}
+use Rattle.service.specs.Parts.{IsMemory, IsRefusal}
+use Rattle.service.specs.Setups.{AreRefused, AreTurns, given_of}
 use Rattle.service.proofs.SetupReports.{ok_both}
 use Rattle.service.proofs.setups.turns_of.Goals as goal
 
-pub returns-in-Some-clause-ok : goal.returns-in-Some-clause-ok
-returns-in-Some-clause-ok g c =
-    let has = g.F.Files.has c.args.files.now in
-    let asked = ap (option_map (λ s. s.now)) c.in-Some.is in
-    subst (λ t. IfOk c.turns_in.result (λ turns. AreTurns has (composition c.args.plan.now) c.args.options t (any_turn turns))) (sym asked) c.turns_in.ensures.ok
+pub returns-in-Table-clause-ok : goal.returns-in-Table-clause-ok
+returns-in-Table-clause-ok c = subst (λ t. IfOk c.tabled.result (λ turns. AreTurns (composition c.args.plan.now) t (any_turn turns))) (sym (ap given_of c.in-Table.is)) c.tabled.ensures.ok
 
-pub returns-in-Some-clause-err : goal.returns-in-Some-clause-err
-returns-in-Some-clause-err g c =
-    let has = g.F.Files.has c.args.files.now in
-    let lacks = g.F.Files.lacks c.args.files.now in
-    let asked = ap (option_map (λ s. s.now)) c.in-Some.is in
-    subst (λ t. IfErr c.turns_in.result (HasNone has lacks (composition c.args.plan.now) c.args.options t)) (sym asked) c.turns_in.ensures.err
+pub returns-in-Table-clause-err : goal.returns-in-Table-clause-err
+returns-in-Table-clause-err c = subst (λ t. IfErr c.tabled.result (IsRefusal (AreRefused (composition c.args.plan.now) t) IsMemory)) (sym (ap given_of c.in-Table.is)) c.tabled.ensures.err
 
-pub returns-in-None-clause-ok : goal.returns-in-None-clause-ok
-returns-in-None-clause-ok g c =
-    let has = g.F.Files.has c.args.files.now in
-    let asked = ap (option_map (λ s. s.now)) c.in-None.is in
-    subst (λ t. IfOk c.drawn.result (λ turns. AreTurns has (composition c.args.plan.now) c.args.options t (any_turn turns))) (sym asked) (ok_both _ _ c.drawn.result c.drawn.ensures.ok c.drawn.ensures.within)
+pub returns-in-Seed-clause-ok : goal.returns-in-Seed-clause-ok
+returns-in-Seed-clause-ok c =
+    subst (λ t. IfOk c.drawn.result (λ turns. AreTurns (composition c.args.plan.now) t (any_turn turns))) (sym (ap given_of c.in-Seed.is)) (ok_both _ _ c.drawn.result c.drawn.ensures.ok c.drawn.ensures.within)
 
-pub returns-in-None-clause-err : goal.returns-in-None-clause-err
-returns-in-None-clause-err g c =
-    let has = g.F.Files.has c.args.files.now in
-    let lacks = g.F.Files.lacks c.args.files.now in
-    let asked = ap (option_map (λ s. s.now)) c.in-None.is in
-    subst (λ t. IfErr c.drawn.result (HasNone has lacks (composition c.args.plan.now) c.args.options t)) (sym asked) c.drawn.ensures.err
+pub returns-in-Seed-clause-err : goal.returns-in-Seed-clause-err
+returns-in-Seed-clause-err c = subst (λ t. IfErr c.drawn.result (IsRefusal (AreRefused (composition c.args.plan.now) t) IsMemory)) (sym (ap given_of c.in-Seed.is)) c.drawn.ensures.err

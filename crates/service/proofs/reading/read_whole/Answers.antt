@@ -3,7 +3,7 @@ use Rattle.std.proofs.Common.{arith, ap, ◌∙◌, sym, subst, inr, refl}
 use Rattle.std.proofs.lemmas.List.{length-take}
 use Rattle.service.specs.Whole.{take_whole}
 use Rattle.service.specs.Unread.{most_bytes}
-use Rattle.service.proofs.serve.read_whole.Goals as goal
+use Rattle.service.proofs.reading.read_whole.Goals as goal
 
 pub returns-in-Ok-clause-ok : goal.returns-in-Ok-clause-ok
 returns-in-Ok-clause-ok g c =

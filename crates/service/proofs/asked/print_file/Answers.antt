@@ -3,7 +3,7 @@ use Rattle.service.specs.Printing.{IsPrinted, IsUnprinted}
 use Rattle.service.specs.Reports.{IsPrintReport}
 use Rattle.trace.specs.Went.{IsStopped, IsWritten}
 use Rattle.service.proofs.Printings.{print_reported, print_fault_reported}
-use Rattle.service.proofs.serve.print_file.Goals as goal
+use Rattle.service.proofs.asked.print_file.Goals as goal
 
 pub returns-in-Ok-print_source : goal.returns-in-Ok-print_source
 returns-in-Ok-print_source g c =
