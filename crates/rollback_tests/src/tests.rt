@@ -1,11 +1,14 @@
-//! One component of the ring of two, against values worked out by hand.
+//! One component of the ring of two, against values worked out by hand; worlds, and calls that are refused their memory.
 
 mod apart;
+mod calls;
 mod copied;
 mod given;
 mod matching;
 mod refused;
 mod steps;
+mod turns;
+mod worlds;
 
 use event_keys::Bound;
 use given::{AT_1, AT_2, AT_3, Given, PASS_2, UNSENT_2};

@@ -3,15 +3,21 @@ ghost use Rattle.std.specs.Prelude.{IfOk};
 ghost use Rattle.service.specs.Reading.{IsReadOf};
 
 use Text::{Has, Is};
+use command_line::Crew;
+use service::driving::drive_source;
+use service::report::Report;
+use service::running::run_source;
 use service::serve::serve;
-use service::{FileFault, Files};
+use service::simulation::{check_source, simulate_source};
+use service::{FileFault, Files, GivenTurns};
 use std::alloc::{AllocError, AllocGlobal, Global};
 use std::io::{self, Write};
 use std::process::Abort;
 use std::str;
 use std::sync::Wait;
 use std::thread::Threads;
-use trace::Counted;
+use trace::{Counted, Lines};
+use workers::Unheld;
 
 // Three files in memory, `source`, `table` and `more`.
 #[derive(Clone, Copy)]
@@ -340,6 +346,74 @@ fn an_output_that_is_not_flushed_is_a_failed_write(rt: HostRuntime) {
     };
     let row = ("--version", 1000, Has("warp"), Is("fault 60\n"), 3);
     assert!(rt; is_answered(&rt, &files, &row, true), "the version");
+}
+
+// Whether an engine wrote this, and this is said of its report.
+fn came_to(alloc: Global, report: &Report, out: Counted<Vec<u8>>, text: &str, said: &str) -> bool {
+    let mut err = Counted::new(Vec::new(alloc));
+    report.tell(&mut err);
+    let (out, err) = (out.into_inner(), err.into_inner());
+    let is_right = out.as_slice() == text.as_bytes() && err.as_slice() == said.as_bytes();
+    drop(out);
+    drop(err);
+    is_right
+}
+
+// The bytes of a source and of a table, the last tick, what is written and what is said.
+const SIMULATED: [(&str, &str, u64, &str, &str); 7] = [
+    (RING, ROWS, 4, TURNS, ""),
+    (RING, ROWS, 1, "1 1 0 idle\n", ""),
+    (RING, "0 1 1 0\n", 4, "", "refused 28 at 1\n"),
+    (RING, "0 1 0 0\n0\n", 4_294_967_297, "", "refused 29 at 2\n"),
+    (RING, ROWS, 4_294_967_297, "", "refused 26\n"),
+    // The source is judged before the table.
+    ("type\u{0}", "0 1 1 0\n", 4, "", "refused 3 at 4\n"),
+    (RING, "", 4, "", ""),
+];
+
+#[test]
+fn engines_take_bytes(rt: HostRuntime) {
+    let (alloc, ring) = (rt.alloc(), RING.as_bytes());
+    let crew = Crew {
+        workers: 3,
+        budget: 2,
+        stats: false,
+    };
+    for (k, (source, table, ticks, text, said)) in SIMULATED.iter().enumerate() {
+        let (source, given) = (source.as_bytes(), GivenTurns::Table(table.as_bytes()));
+        let mut out = Counted::new(Vec::new(alloc));
+        let report = simulate_source(alloc, source, given, *ticks, Lines::All, &mut out);
+        assert!(rt; came_to(alloc, &report, out, text, said), "reference {k}");
+        let mut out = Counted::new(Vec::new(alloc));
+        let (gate, lines) = (&Unheld, Lines::All);
+        let report = run_source(
+            &rt, alloc, source, given, *ticks, crew, gate, lines, &mut out,
+        );
+        assert!(rt; came_to(alloc, &report, out, text, said), "run {k}");
+    }
+    // The third step is refused: its bound is above global virtual time, that of the message in flight.
+    let steps = b"process 1\nprocess 0\ncommit 3 1 1\ncommit 2 0 0\n";
+    let given = GivenTurns::Table(ROWS.as_bytes());
+    let mut out = Counted::new(Vec::new(alloc));
+    let report = drive_source(alloc, ring, given, 4, steps, Lines::All, &mut out);
+    assert!(rt; came_to(alloc, &report, out, "1 1 0 idle\n", "step 3 refused 34\n"));
+    let given = GivenTurns::Seed {
+        seed: 1,
+        stream: 0,
+        gap: 0,
+    };
+    let mut out = Counted::new(Vec::new(alloc));
+    let report = drive_source(alloc, ring, given, 4, b"step", Lines::All, &mut out);
+    assert!(rt;
+        came_to(alloc, &report, out, "", "refused 27\n"),
+        "a gap of 0"
+    );
+    let mut out = Counted::new(Vec::new(alloc));
+    let report = check_source(alloc, ring, b"pass(1)\n", &mut out);
+    assert!(rt; report == Report::Done && came_to(alloc, &report, out, "schedule\n", ""));
+    let mut out = Counted::new(Vec::new(alloc));
+    let report = check_source(alloc, ring, b"pass(0)\n", &mut out);
+    assert!(rt; report == Report::No && came_to(alloc, &report, out, "not enabled at 0\n", ""));
 }
 
 fn reference_words(alloc: Global) -> Result<Vec<String>, AllocError> {

@@ -1,6 +1,6 @@
 //! The exchange of the ring of two and its leases, against answers worked out by hand.
 
-mod steps;
+pub(crate) mod steps;
 
 use event_keys::Bound::End;
 use exchange::MeetRefused::{self, OtherSetup, Stranger};
@@ -105,9 +105,44 @@ const ROUNDS: [Step; 50] = [
 
 #[test]
 fn all_turns_come_once_and_in_order(rt: HostRuntime) {
-    assert_steps(&rt, &FIRST_TURN);
-    assert_steps(&rt, &ROUNDS);
+    assert_steps(&rt, &FIRST_TURN, &[]);
+    assert_steps(&rt, &ROUNDS, &[]);
 }
+
+// Both leases run ahead, and all else is done without memory: the first turn is given, and what was told of the next is delivered.
+const AHEAD: [Step; 3] = [Of(0, Runs(1, 1)), Of(1, Runs(2, 2)), Of(4, Runs(1, 1))];
+
+const WITHOUT_MEMORY: [Step; 27] = [
+    Of(1, Number(1)),
+    On(0, Turn(1, 1, AT_3)),
+    Of(0, Waits(true, false)),
+    Judges(0, 0, Ok(())),
+    Meets(0, 0, Ok(START)),
+    Meets(0, 1, Ok(START)),
+    Of(1, Coming(AT_2)),
+    On(0, Commits(1, AT_2)),
+    On(0, Gives(0, 0)),
+    Of(1, Settles(1)),
+    Of(1, Stands(1, AT_2)),
+    Meets(0, 1, Ok(AT_2)),
+    Meets(0, 0, Ok(AT_2)),
+    On(0, Mail(1, false)),
+    On(0, Gives(0, 1)),
+    On(0, Finished(false)),
+    Of(0, Floor(AT_4)),
+    // strangers stay strangers
+    Meets(0, 6, Err(Stranger)),
+    Meets(0, 8, Err(OtherSetup)),
+    SameLeases(6, 2, true),
+    SameExchanges(1, 2, true),
+    // a lease of another exchange is known at the start, and the own one isn't then
+    Meets(1, 4, Ok(START)),
+    Meets(1, 2, Err(Stranger)),
+    Meets(1, 2, Err(Stranger)),
+    SameLeases(2, 6, true),
+    SameExchanges(1, 2, false),
+    Of(4, Settles(0)),
+];
 
 const AWAY: [Step; 26] = [
     On(0, Turn(1, 1, AT_3)),
@@ -170,8 +205,9 @@ const MAIL: [Step; 23] = [
 
 #[test]
 fn leases_tell_where_they_stand(rt: HostRuntime) {
-    assert_steps(&rt, &AWAY);
-    assert_steps(&rt, &MAIL);
+    assert_steps(&rt, &AHEAD, &WITHOUT_MEMORY);
+    assert_steps(&rt, &AWAY, &[]);
+    assert_steps(&rt, &MAIL, &[]);
 }
 
 const STRANGE: [Step; 19] = [
@@ -247,8 +283,8 @@ const SAME: [Step; 40] = [
 
 #[test]
 fn strangers_are_refused_and_equals_are_known(rt: HostRuntime) {
-    assert_steps(&rt, &STRANGE);
-    assert_steps(&rt, &SAME);
+    assert_steps(&rt, &STRANGE, &[]);
+    assert_steps(&rt, &SAME, &[]);
     assert!(rt; OtherSetup.number() == 40 && OtherSetup.place().is_none());
     assert!(rt; Stranger.number() == 41 && Stranger.place().is_none());
 }

@@ -61,9 +61,9 @@ fn a_worker_that_may_not_start_ends_the_run(rt: HostRuntime) {
     let ran = run_ring(&rt, (2, 64), &Few { workers: 0 }, &mut out);
     assert!(rt; ran == Err(RunFault::ThreadRefused));
     assert_held(&rt, out, b"");
-    for workers in [1u16, 2] {
+    for (crew, workers) in [((2u16, 64u32), 1u16), ((3, 64), 1), ((3, 64), 2)] {
         let mut out = page_of(rt.alloc(), 100, 100);
-        let ran = run_ring(&rt, (3, 64), &Few { workers }, &mut out);
+        let ran = run_ring(&rt, crew, &Few { workers }, &mut out);
         assert!(rt; ran == Err(RunFault::ThreadRefused));
         assert!(rt;
             TEXT.as_bytes()

@@ -10,4 +10,6 @@ mod gates;
 #[cfg(test)]
 mod passes;
 #[cfg(test)]
+mod refused;
+#[cfg(test)]
 mod rings;

@@ -1,14 +1,17 @@
-//! A pool of two marks.
-ghost use Rattle.std.specs.Prelude.{◌≡◌, ◌<◌, IfOk, Some, map};
+//! A pool of two marks, and one of the ring's two leases.
+ghost use Rattle.std.specs.Prelude.{◌≡◌, ℕ, ◌<◌, All, IfOk, Some, length, map};
 ghost use Rattle.pools.specs.Passes.{IsOf, holding};
 ghost use Rattle.pools.specs.Places.{AreAlike, AreOnce, times};
 
+use crate::exchanges::steps::setup;
+use exchange::{Exchange, Lease};
 use pools::{Numbered, Pass, Pool};
-use std::alloc::Global;
+use ring_source::memory::{Held, Refused, exhaust, refuse, room, serve};
+use std::alloc::{AllocGlobal, Global};
 use std::process::Abort;
-use std::sync::Wait;
-use std::test::Fail;
-use terms::NoMemory;
+use std::sync::{Arc, Wait};
+use task_seed::TableTurns;
+use terms::{NoMemory, Refusal};
 
 #[derive(Drop)]
 struct Mark {
@@ -70,17 +73,125 @@ fn take_both<R: Wait + Abort>(
     pool.give_back(rt, two, second);
 }
 
+// A pool of two marks, which isn't made where its memory is refused.
+fn pool_of_two<R: Wait + Abort + AllocGlobal>(
+    rt: &R,
+    held: &mut Held,
+) -> (Pool<Mark, u8>, Vec<Pass<Mark, u8>>)
+    ensures count { length result.1.items ≡ 2 }
+    ensures passes { All (λ pass. IsOf result.0 pass) result.1.items }
+{
+    let first = marks(rt.alloc()).expect(rt, "memory for marks");
+    let how = refuse(rt.alloc(), held);
+    let made = Pool::new(rt, rt.alloc(), first, 2);
+    serve(rt.alloc(), held);
+    match made {
+        Ok(both) => {
+            assert!(rt; how == Refused::One);
+            both
+        }
+        Err(refused) => {
+            assert!(rt; how != Refused::None && refused.number() == 1);
+            let again = marks(rt.alloc()).expect(rt, "memory for marks");
+            Pool::new(rt, rt.alloc(), again, 2).expect(rt, "memory for a pool")
+        }
+    }
+}
+
 #[test]
-fn each_mark_is_in_one_place(rt: HostRuntime) -> Result<(), Fail> {
-    let (pool, mut passes) = Pool::new(&rt, rt.alloc(), marks(rt.alloc())?, 2)?;
+fn each_mark_is_in_one_place(rt: HostRuntime) {
+    let mut held = room(rt.alloc()).expect(&rt, "room for blocks");
+    let (pool, mut passes) = pool_of_two(&rt, &mut held);
     let (Some(mut one), Some(mut two)) = (passes.pop(), passes.pop()) else {
         panic!(rt; "two passes are wanted")
     };
+    assert!(rt; exhaust(rt.alloc(), &mut held));
     take_both(&rt, &pool, &mut one, &mut two);
     take_both(&rt, &pool, &mut one, &mut two);
+    drop(held);
     drop(passes);
     drop(one);
     drop(two);
     drop(pool);
-    Ok(())
+}
+
+// A lease that may wait in a pool: `Numbered` and `Lease` are both of other crates.
+#[derive(Drop)]
+struct Loan {
+    lease: Lease<TableTurns>,
+}
+
+impl Numbered<u8> for Loan {
+    ghost number_of = { λ loan. loan.lease.component.number };
+
+    ghost kind_of = { λ _. 0 };
+}
+
+fn loans(first: Lease<TableTurns>, second: Lease<TableTurns>) -> [Loan; 2]
+    requires { (first.component.number ≡ 0) × (second.component.number ≡ 1) }
+    ensures once { AreOnce (map (λ loan. loan.lease.component.number) result) }
+    ensures alike { AreAlike {K = ℕ} (λ _. 0) result }
+{
+    [Loan { lease: first }, Loan { lease: second }]
+}
+
+// A pass takes a lease, which runs ahead, and gives it back.
+fn run_one<R: Wait + Abort>(
+    rt: &R,
+    alloc: Global,
+    pool: &Pool<Loan, u8>,
+    pass: &mut Pass<Loan, u8>,
+) -> (u16, u32)
+    requires { IsOf pool.now pass.old }
+    ensures { IsOf pool.now pass.new }
+{
+    let Some(mut loan) = pool.take(rt, pass) else {
+        panic!(rt; "no lease")
+    };
+    let number = loan.lease.number();
+    let done = loan
+        .lease
+        .run_ahead(alloc, 9)
+        .expect(rt, "memory for entries");
+    pool.give_back(rt, pass, loan);
+    (number, done)
+}
+
+fn last(rt: &impl Abort, leases: &mut Vec<Lease<TableTurns>>) -> Lease<TableTurns> {
+    match leases.pop() {
+        Some(lease) => lease,
+        None => panic!(rt; "a lease is wanted"),
+    }
+}
+
+// The two leases of the ring, to wait in a pool.
+fn two_loans(rt: &(impl Abort + AllocGlobal)) -> Vec<Loan>
+    ensures once { AreOnce (map (λ loan. loan.lease.component.number) result.items) }
+    ensures alike { AreAlike {K = ℕ} (λ _. 0) result.items }
+{
+    let setup = Arc::new(rt.alloc(), setup(rt, 1000)).expect(rt, "memory for a setup");
+    let (exchange, mut leases) = Exchange::new(rt.alloc(), setup).expect(rt, "an exchange");
+    drop(exchange);
+    let second = last(rt, &mut leases);
+    let first = last(rt, &mut leases);
+    drop(leases);
+    assert!(rt; first.number() == 0 && second.number() == 1);
+    Vec::from_array(rt.alloc(), loans(first, second)).expect(rt, "memory for leases")
+}
+
+#[test]
+fn leases_wait_in_a_pool(rt: HostRuntime) {
+    let made = Pool::new(&rt, rt.alloc(), two_loans(&rt), 1);
+    let (pool, mut passes) = made.expect(&rt, "memory for a pool");
+    let Some(mut pass) = passes.pop() else {
+        panic!(rt; "a pass is wanted")
+    };
+    // the first lease, the second, and the first again, which has nothing left
+    let first = run_one(&rt, rt.alloc(), &pool, &mut pass);
+    let second = run_one(&rt, rt.alloc(), &pool, &mut pass);
+    let third = run_one(&rt, rt.alloc(), &pool, &mut pass);
+    assert!(rt; first == (0, 2) && second == (1, 2) && third == (0, 0));
+    drop(passes);
+    drop(pass);
+    drop(pool);
 }

@@ -80,12 +80,13 @@ impl Write for Narrow {
     }
 }
 
+// Its memory is taken here, if there is any.
 pub(crate) fn page_of(alloc: Global, room: usize, most: usize) -> Counted<Narrow> {
-    Counted::new(Narrow {
-        held: Vec::new(alloc),
-        room,
-        most,
-    })
+    let held = match Vec::with_capacity(alloc, room) {
+        Ok(held) => held,
+        Err(_) => Vec::new(alloc),
+    };
+    Counted::new(Narrow { held, room, most })
 }
 
 /// A setup of the ring with the turns of a table.

@@ -1,4 +1,4 @@
-//! Bags of a few messages, by hand.
+//! Bags of a few messages, by hand. Every call is made with each request for memory refused.
 
 use super::{assert_all, key, may_cross};
 use Step::{
@@ -8,9 +8,10 @@ use Step::{
 use antimessage::Bag;
 use event_keys::Sign::{Minus, Plus};
 use event_keys::{Bound, Message, Sign, Signed};
-use raw_events::EventCell;
+use raw_events::{EventCell, EventList};
+use ring_source::memory::{Held, exhaust, room};
 use std::alloc::Global;
-use std::mem::swap;
+use std::mem::{replace, swap};
 use terms::Action;
 
 /// What is done with a bag and another one, with its answer, or what is seen. A message is told by its sign, its key's tick and its
@@ -62,13 +63,18 @@ fn signed(alloc: Global, sign: Sign, tick: u64, to: u16) -> Signed {
     Signed { message, sign }
 }
 
-fn posts(alloc: Global, bag: &mut Bag, signed: Signed) -> bool {
-    match EventCell::new(alloc, signed) {
-        Ok(cell) => {
+// A cell of the stock gets the message in the place of its own.
+fn posts(stock: &mut EventList<Signed>, bag: &mut Bag, signed: Signed) -> bool {
+    match stock.take_first() {
+        Some(mut cell) => {
+            drop(replace(cell.value_mut(), signed));
             bag.post(cell);
             true
         }
-        Err(_) => false,
+        None => {
+            drop(signed);
+            false
+        }
     }
 }
 
@@ -83,9 +89,15 @@ fn is(taken: Option<EventCell<Signed>>, wanted: &Signed) -> bool {
     }
 }
 
-fn does(alloc: Global, bag: &mut Bag, other: &mut Bag, step: Step) -> bool {
+fn does(
+    alloc: Global,
+    stock: &mut EventList<Signed>,
+    bag: &mut Bag,
+    other: &mut Bag,
+    step: Step,
+) -> bool {
     match step {
-        Post(sign, tick, to) => return posts(alloc, bag, signed(alloc, sign, tick, to)),
+        Post(sign, tick, to) => return posts(stock, bag, signed(alloc, sign, tick, to)),
         First(sign, tick, to) => return is(bag.take_first(), &signed(alloc, sign, tick, to)),
         Take(sign, tick, to) => return is(bag.take(to), &signed(alloc, sign, tick, to)),
         NoneTo(to) => return bag.take(to).is_none(),
@@ -113,10 +125,17 @@ fn does(alloc: Global, bag: &mut Bag, other: &mut Bag, step: Step) -> bool {
     true
 }
 
-// How many of the steps come out as they say, up to the first that doesn't.
-fn count(alloc: Global, bag: &mut Bag, other: &mut Bag, steps: &[Step]) -> usize {
+// How many of the steps come out as they say without memory, up to the first that doesn't.
+fn count(
+    alloc: Global,
+    held: &mut Held,
+    stock: &mut EventList<Signed>,
+    bag: &mut Bag,
+    other: &mut Bag,
+    steps: &[Step],
+) -> usize {
     for (k, step) in steps.iter().enumerate() {
-        if !does(alloc, bag, other, *step) {
+        if !exhaust(alloc, held) || !does(alloc, stock, bag, other, *step) {
             return k;
         }
     }
@@ -275,22 +294,25 @@ const MOVED: [Step; 56] = [
 
 #[test]
 fn bags_hold_what_was_posted(rt: HostRuntime) {
-    let (mut bag, mut other) = (Bag::new(), Bag::new());
-    assert_all(
-        &rt,
-        count(rt.alloc(), &mut bag, &mut other, &TAKEN),
-        TAKEN.len(),
-    );
-    assert_all(
-        &rt,
-        count(rt.alloc(), &mut bag, &mut other, &MET),
-        MET.len(),
-    );
-    assert_all(
-        &rt,
-        count(rt.alloc(), &mut bag, &mut other, &MOVED),
-        MOVED.len(),
-    );
+    let (mut bag, mut other, mut stock) = (Bag::new(), Bag::new(), EventList::new());
+    for _ in 0..100u32 {
+        let cell = EventCell::new(rt.alloc(), signed(rt.alloc(), Plus, 0, 0));
+        stock.push_last(cell.expect(&rt, "memory for a cell"));
+    }
+    let mut held = room(rt.alloc()).expect(&rt, "room for blocks");
+    for steps in [TAKEN.as_slice(), MET.as_slice(), MOVED.as_slice()] {
+        let right = count(
+            rt.alloc(),
+            &mut held,
+            &mut stock,
+            &mut bag,
+            &mut other,
+            steps,
+        );
+        assert_all(&rt, right, steps.len());
+    }
+    drop(held);
+    drop(stock);
     // the last rows leave two messages in the bag
     let mut messages = bag.iter();
     assert!(rt;

@@ -1,4 +1,4 @@
-//! Lists of nodes with a cursor, by hand.
+//! Lists of nodes with a cursor, by hand. Every call but the making of a node is made with each request for memory refused.
 
 use super::{assert_all, may_cross};
 use Step::{
@@ -6,7 +6,8 @@ use Step::{
     TakeAboveFive, TakeEqual, TakeFirst, TakeLast,
 };
 use raw_events::{EventCell, EventList};
-use std::alloc::{AllocError, Global};
+use ring_source::memory::{Held, exhaust, room};
+use std::alloc::Global;
 use std::mem::swap;
 use std::rc::Rc;
 
@@ -58,12 +59,16 @@ fn value_of(cell: Option<EventCell<u64>>) -> Option<u64> {
     }
 }
 
-// The cell is made with another value, and gets this one in its place.
-fn insert(alloc: Global, list: &mut EventList<u64>, value: u64) -> Result<(), AllocError> {
-    let mut cell = EventCell::new(alloc, 0)?;
-    *cell.value_mut() = value;
-    list.insert_sorted(cell);
-    Ok(())
+// A cell of the stock gets this value in the place of its own.
+fn insert(stock: &mut EventList<u64>, list: &mut EventList<u64>, value: u64) -> bool {
+    match stock.take_first() {
+        Some(mut cell) => {
+            *cell.value_mut() = value;
+            list.insert_sorted(cell);
+            true
+        }
+        None => false,
+    }
 }
 
 fn has_items(list: &EventList<u64>, wanted: [u64; 4]) -> bool {
@@ -76,9 +81,14 @@ fn has_items(list: &EventList<u64>, wanted: [u64; 4]) -> bool {
     items.next().is_none()
 }
 
-fn does(alloc: Global, list: &mut EventList<u64>, other: &mut EventList<u64>, step: Step) -> bool {
+fn does(
+    stock: &mut EventList<u64>,
+    list: &mut EventList<u64>,
+    other: &mut EventList<u64>,
+    step: Step,
+) -> bool {
     match step {
-        Insert(value) => return insert(alloc, list, value).is_ok(),
+        Insert(value) => return insert(stock, list, value),
         PassNext(wanted) => return list.pass_next() == wanted,
         PassBack(wanted) => return list.pass_back() == wanted,
         First(wanted) => return list.peek_first().copied() == wanted,
@@ -101,15 +111,17 @@ fn does(alloc: Global, list: &mut EventList<u64>, other: &mut EventList<u64>, st
     true
 }
 
-// How many of the steps come out as they say, up to the first that doesn't.
+// How many of the steps come out as they say without memory, up to the first that doesn't.
 fn count(
     alloc: Global,
+    held: &mut Held,
+    stock: &mut EventList<u64>,
     list: &mut EventList<u64>,
     other: &mut EventList<u64>,
     steps: &[Step],
 ) -> usize {
     for (k, step) in steps.iter().enumerate() {
-        if !does(alloc, list, other, *step) {
+        if !exhaust(alloc, held) || !does(stock, list, other, *step) {
             return k;
         }
     }
@@ -221,19 +233,29 @@ const CALLS: [Step; 62] = [
 
 #[test]
 fn lists_answer_on_both_sides_of_the_cursor(rt: HostRuntime) {
-    let (mut list, mut other) = (EventList::new(), EventList::new());
-    assert_all(
-        &rt,
-        count(rt.alloc(), &mut list, &mut other, &ROW),
-        ROW.len(),
-    );
-    assert_all(
-        &rt,
-        count(rt.alloc(), &mut list, &mut other, &CALLS),
-        CALLS.len(),
-    );
+    let (mut list, mut other, mut stock) = (EventList::new(), EventList::new(), EventList::new());
+    for value in 0..32u64 {
+        stock.push_last(EventCell::new(rt.alloc(), value).expect(&rt, "memory for a node"));
+    }
+    let mut held = room(rt.alloc()).expect(&rt, "room for blocks");
+    for steps in [ROW.as_slice(), CALLS.as_slice()] {
+        let right = count(
+            rt.alloc(),
+            &mut held,
+            &mut stock,
+            &mut list,
+            &mut other,
+            steps,
+        );
+        assert_all(&rt, right, steps.len());
+    }
+    let refused = EventCell::new(rt.alloc(), 9u64);
+    assert!(rt; matches!(&refused, Err(refused) if refused.value == 9));
+    drop(refused);
+    drop(held);
     drop(list);
     drop(other);
+    drop(stock);
 }
 
 #[test]

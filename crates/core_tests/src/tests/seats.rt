@@ -1,12 +1,15 @@
 //! What seats of a published word read of each other.
 
 use gvt::Published;
+use ring_source::memory::{exhaust, room};
 use std::test::Fail;
 use std::thread;
 
 #[test]
-fn a_seat_reads_the_greatest_count_of_all(rt: HostRuntime) -> Result<(), Fail> {
-    let (published, mut seats) = Published::new(rt.alloc(), 2)?;
+fn a_seat_reads_the_greatest_count_of_all(rt: HostRuntime) {
+    let mut held = room(rt.alloc()).expect(&rt, "room for blocks");
+    let made = Published::new(rt.alloc(), 2);
+    let (published, mut seats) = made.expect(&rt, "memory for a count");
     let Some(mut second) = seats.pop() else {
         panic!(rt; "no seat")
     };
@@ -14,6 +17,7 @@ fn a_seat_reads_the_greatest_count_of_all(rt: HostRuntime) -> Result<(), Fail> {
         panic!(rt; "one seat")
     };
     assert!(rt; seats.is_empty());
+    assert!(rt; exhaust(rt.alloc(), &mut held));
     published.publish(&mut first, 5);
     published.publish(&mut second, 3);
     assert_eq!(rt; published.read(&mut second), 5);
@@ -21,11 +25,11 @@ fn a_seat_reads_the_greatest_count_of_all(rt: HostRuntime) -> Result<(), Fail> {
     assert_eq!(rt; published.read(&mut first), 5);
     published.publish(&mut first, 9);
     assert_eq!(rt; published.read(&mut second), 9);
+    drop(held);
     drop(seats);
     drop(first);
     drop(second);
     drop(published);
-    Ok(())
 }
 
 #[test]

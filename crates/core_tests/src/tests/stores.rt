@@ -2,6 +2,7 @@
 
 use super::assert_all;
 use Step::{Clear, Forget, Mark, Marks, Number, Pair, Put, Same, Set, SetTwice, Start, Swap, Undo};
+use ring_source::memory::{Held, Refused, exhaust, refuse, room, serve};
 use std::alloc::Global;
 use std::mem::{replace, swap};
 use terms::{Cells, NoMemory, Scalar, State, Value};
@@ -291,8 +292,8 @@ const OF_TWO: [Step; 90] = [
 
 #[test]
 fn stores_go_back_to_their_marks(rt: HostRuntime) {
-    let mut one = made(rt.alloc()).expect(&rt, "memory for a store");
-    let mut other = made(rt.alloc()).expect(&rt, "memory for a store");
+    let mut one = store(rt.alloc(), START).expect(&rt, "memory for a store");
+    let mut other = store(rt.alloc(), START).expect(&rt, "memory for a store");
     assert_all(
         &rt,
         count(rt.alloc(), &mut one, &mut other, &OF_ONE),
@@ -311,44 +312,114 @@ fn stores_go_back_to_their_marks(rt: HostRuntime) {
     drop(fewer);
 }
 
-// A store that is made whichever single request for memory is refused.
-fn made(alloc: Global) -> Result<Store, NoMemory> {
-    match store(alloc, START) {
-        Ok(store) => Ok(store),
-        Err(_) => store(alloc, START),
+// Three marks, and what is then done without memory: a mark after an undone one takes none.
+const MARKED: [Step; 9] = [
+    Start(5, 2, 4),
+    Mark,
+    Set(6),
+    Put(1, 1, 9),
+    Mark,
+    Set(7),
+    Clear,
+    Mark,
+    Set(8),
+];
+
+const TAKEN_BACK: [Step; 18] = [
+    Marks(3),
+    Undo(true),
+    Number(7),
+    Marks(2),
+    Mark,
+    Marks(3),
+    Number(7),
+    Undo(true),
+    Undo(true),
+    Number(6),
+    Pair(1, 9),
+    Mark,
+    Forget,
+    Marks(1),
+    Undo(true),
+    Number(6),
+    Undo(false),
+    Same(false),
+];
+
+// The same with one mark, of a state whose sequence has two items.
+const UNDONE: [Step; 3] = [Start(5, 2, 4), Mark, Undo(true)];
+
+const MARKED_AGAIN: [Step; 6] = [Mark, Marks(1), Number(5), Same(true), Undo(true), Marks(0)];
+
+// The same as `count`, where each request for memory is refused.
+fn count_refused(
+    alloc: Global,
+    held: &mut Held,
+    one: &mut Store,
+    other: &mut Store,
+    steps: &[Step],
+) -> usize {
+    for (k, step) in steps.iter().enumerate() {
+        if !exhaust(alloc, held) || !does(alloc, one, other, *step) {
+            return k;
+        }
     }
+    steps.len()
 }
 
-/// Under `rt try --test --fail-alloc N`, with each N in turn: where a step is refused, the store has these marks, this number and this
-/// second item, and the step is served when it is made again.
+#[test]
+fn marks_are_taken_back_without_memory(rt: HostRuntime) {
+    let mut one = store(rt.alloc(), START).expect(&rt, "memory for a store");
+    let mut other = store(rt.alloc(), START).expect(&rt, "memory for a store");
+    let mut held = room(rt.alloc()).expect(&rt, "room for blocks");
+    for (before, after) in [
+        (MARKED.as_slice(), TAKEN_BACK.as_slice()),
+        (UNDONE.as_slice(), MARKED_AGAIN.as_slice()),
+    ] {
+        let right = count(rt.alloc(), &mut one, &mut other, before);
+        assert_all(&rt, right, before.len());
+        let right = count_refused(rt.alloc(), &mut held, &mut one, &mut other, after);
+        assert_all(&rt, right, after.len());
+        held.clear();
+    }
+    drop(held);
+    drop(one);
+    drop(other);
+}
+
+// Where the step is refused, the store is as these say, and the step is served when it is made again.
+fn is_kept_or_served(
+    alloc: Global,
+    held: &mut Held,
+    store: &mut Store,
+    other: &mut Store,
+    step: Step,
+    kept: &[Step],
+) -> bool {
+    let how = refuse(alloc, held);
+    let is_served = does(alloc, store, other, step);
+    let is_kept = is_served || count(alloc, store, other, kept) == kept.len();
+    serve(alloc, held);
+    how != Refused::None && is_kept && (is_served || does(alloc, store, other, step))
+}
+
 #[test]
 fn a_refused_call_leaves_the_store(rt: HostRuntime) {
-    let mut store = made(rt.alloc()).expect(&rt, "memory for a store");
-    let mut other = made(rt.alloc()).expect(&rt, "memory for a store");
+    let mut one = store(rt.alloc(), START).expect(&rt, "memory for a store");
+    let mut other = store(rt.alloc(), START).expect(&rt, "memory for a store");
+    let mut held = room(rt.alloc()).expect(&rt, "room for blocks");
     for (step, marks, n, second) in [
         (Mark, 0, 5, 2),
         (Set(6), 1, 5, 2),
         (Mark, 1, 6, 2),
         (Put(1, 1, 9), 2, 6, 2),
     ] {
-        if does(rt.alloc(), &mut store, &mut other, step) {
-            continue;
-        }
-        let kept = [Marks(marks), Number(n), Pair(1, second), step];
-        assert_all(&rt, count(rt.alloc(), &mut store, &mut other, &kept), 4);
+        let kept = [Marks(marks), Number(n), Pair(1, second)];
+        assert!(rt; is_kept_or_served(rt.alloc(), &mut held, &mut one, &mut other, step, &kept));
     }
     let last = [Marks(2), Number(6), Pair(1, 9)];
-    assert_all(&rt, count(rt.alloc(), &mut store, &mut other, &last), 3);
-    drop(store);
+    assert_all(&rt, count(rt.alloc(), &mut one, &mut other, &last), 3);
+    drop(held);
+    drop(one);
     drop(other);
-}
-
-/// Under `rt try --test --fail-alloc N`, with each N in turn: the last mark is served, as it asks for no memory.
-#[test]
-fn a_mark_after_undo_is_served(rt: HostRuntime) {
-    let mut store = made(rt.alloc()).expect(&rt, "memory for a store");
-    let is_marked = store.mark(rt.alloc()).is_ok() || store.mark(rt.alloc()).is_ok();
-    assert!(rt; is_marked && store.undo());
-    assert!(rt; store.mark(rt.alloc()).is_ok());
-    drop(store);
 }

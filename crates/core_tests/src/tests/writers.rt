@@ -4,6 +4,7 @@ mod turns;
 
 use std::alloc::AllocGlobal;
 use std::io::{self, ErrorKind, Write};
+use std::process::Abort;
 use trace::Counted;
 
 /// A writer over memory that takes at most `step` bytes a write and `room` bytes in all. Then it takes none, or gives an error of this
@@ -37,14 +38,15 @@ impl Write for Narrow {
     }
 }
 
+// It has taken the memory for what it holds.
 fn counted(
-    rt: &impl AllocGlobal,
+    rt: &(impl AllocGlobal + Abort),
     step: usize,
     room: usize,
     error: Option<ErrorKind>,
 ) -> Counted<Narrow> {
     Counted::new(Narrow {
-        held: Vec::new(rt.alloc()),
+        held: Vec::with_capacity(rt.alloc(), room).expect(rt, "memory for a page"),
         step,
         room,
         error,

@@ -22,11 +22,12 @@ pub(crate) enum Given {
     Fan,
 }
 
-const FAN: &str =
+/// The source of the fan.
+pub(crate) const FAN: &str =
     "automaton S signature output go(v: 0..1) states n: 0..1 := 0 transitions output go(v: 0..1) pre v = n eff n := 1 tasks { go } automaton L signature input go(v: 0..1) states s: Int := 0 transitions input go(v: 0..1) eff s := s + v + 1 automaton F components a: S; b: L; c: L";
 
-// The plan of a source without faults.
-fn plan_of(alloc: Global, text: &str) -> Result<Plan, NoMemory> {
+/// The plan of a source without faults.
+pub(crate) fn plan_of(alloc: Global, text: &str) -> Result<Plan, NoMemory> {
     let Ok(source) = read(alloc, text.as_bytes()) else {
         return Err(NoMemory);
     };
@@ -39,14 +40,14 @@ fn plan_of(alloc: Global, text: &str) -> Result<Plan, NoMemory> {
     }
 }
 
-fn plan(alloc: Global, given: Given) -> Result<Plan, NoMemory> {
+pub(crate) fn plan(alloc: Global, given: Given) -> Result<Plan, NoMemory> {
     match given {
         Given::Ring => ring(alloc),
         Given::Fan => plan_of(alloc, FAN),
     }
 }
 
-const fn row(component: u64, gap: u32) -> Row {
+pub(crate) const fn row(component: u64, gap: u32) -> Row {
     Row {
         component,
         gap,
@@ -66,7 +67,7 @@ fn turns(alloc: Global, plan: &Plan, given: Given) -> Result<TableTurns, TableTu
     }
 }
 
-fn setup(alloc: Global, given: Given) -> Result<Setup<TableTurns>, NoMemory> {
+pub(crate) fn setup(alloc: Global, given: Given) -> Result<Setup<TableTurns>, NoMemory> {
     let plan = plan(alloc, given)?;
     match turns(alloc, &plan, given) {
         Ok(turns) => timed(plan, turns),

@@ -1,9 +1,10 @@
-//! Calls that are refused their memory, under `rt try --test --fail-alloc N` with each N in turn.
+//! Entries that are refused their memory: each request, or under `.ci/refusals` one of them.
 
 use super::given::{AT_1, AT_2, AT_3, AT_4, Given, NOTHING, PASS_2, bag, cell, key, passes};
 use super::steps::{Bench, at_start, deliver};
 use antimessage::Bag;
 use event_keys::Key;
+use ring_source::memory::{Held, Refused, refuse, room, serve};
 use rollback::ProcessRefused;
 use std::alloc::{AllocGlobal, Global};
 use std::mem;
@@ -57,14 +58,6 @@ fn ready(alloc: Global, refusal: Refusal) -> Result<Box<Bench>, NoMemory> {
     }
 }
 
-// The same whichever single request for memory is refused.
-fn made(alloc: Global, refusal: Refusal) -> Result<Box<Bench>, NoMemory> {
-    match ready(alloc, refusal) {
-        Ok(bench) => Ok(bench),
-        Err(_) => ready(alloc, refusal),
-    }
-}
-
 fn next(alloc: Global, bench: &mut Bench, is_copied: bool) -> Result<Key, ProcessRefused> {
     if is_copied {
         bench
@@ -85,28 +78,31 @@ fn is_same(bench: &Bench, twin: &Bench) -> bool {
 // The next entry has the key; where it is refused, component and bags stay, and it goes on as its untouched twin does.
 fn is_served_or_kept(
     alloc: Global,
+    held: &mut Held,
     bench: &mut Bench,
     twin: &mut Bench,
-    is_copied: bool,
-    key: Key,
+    refusal: Refusal,
 ) -> bool {
-    match next(alloc, bench, is_copied) {
-        Ok(done) => done == key,
-        Err(ProcessRefused::NothingPending) => false,
-        Err(ProcessRefused::NoMemory) => {
-            is_same(bench, twin)
+    let (is_copied, key) = (refusal.is_copied, refusal.key);
+    let how = refuse(alloc, held);
+    let first = next(alloc, bench, is_copied);
+    let is_kept = first.is_ok() || is_same(bench, twin);
+    serve(alloc, held);
+    let is_right = match first {
+        Ok(done) => how == Refused::One && done == key,
+        Err(refused) => {
+            refused == ProcessRefused::NoMemory
+                && how != Refused::None
                 && next(alloc, bench, is_copied) == Ok(key)
-                && next(alloc, twin, is_copied) == Ok(key)
-                && is_same(bench, twin)
         }
-    }
+    };
+    is_kept && is_right && next(alloc, twin, is_copied) == Ok(key) && is_same(bench, twin)
 }
 
-fn assert_served_or_kept(rt: &(impl Abort + AllocGlobal), refusal: Refusal) {
-    let mut bench = made(rt.alloc(), refusal).expect(rt, "memory for a component");
-    let mut twin = made(rt.alloc(), refusal).expect(rt, "memory for its twin");
-    let (is_copied, key) = (refusal.is_copied, refusal.key);
-    let is_right = is_served_or_kept(rt.alloc(), &mut *bench, &mut *twin, is_copied, key);
+fn assert_served_or_kept(rt: &(impl Abort + AllocGlobal), held: &mut Held, refusal: Refusal) {
+    let mut bench = ready(rt.alloc(), refusal).expect(rt, "memory for a component");
+    let mut twin = ready(rt.alloc(), refusal).expect(rt, "memory for its twin");
+    let is_right = is_served_or_kept(rt.alloc(), held, &mut *bench, &mut *twin, refusal);
     assert!(rt; is_right);
     drop(bench);
     drop(twin);
@@ -174,7 +170,9 @@ const REFUSALS: [Refusal; 7] = [
 
 #[test]
 fn a_refused_entry_changes_nothing(rt: HostRuntime) {
+    let mut held = room(rt.alloc()).expect(&rt, "room for blocks");
     for refusal in &REFUSALS {
-        assert_served_or_kept(&rt, *refusal);
+        assert_served_or_kept(&rt, &mut held, *refusal);
     }
+    drop(held);
 }

@@ -3,6 +3,7 @@
 use crate::rings::ROWS;
 use event_keys::{Bound, Key, Outcome};
 use exchange::{Chunk, Exchange, Lease, MeetRefused};
+use ring_source::memory::{Held as Blocks, exhaust, room};
 use ring_source::ring;
 use std::alloc::{AllocGlobal, Global};
 use std::process::Abort;
@@ -96,7 +97,8 @@ pub(crate) const AT_4: Bound = Bound::At(Key {
 // All turns in order, and whether each is idle.
 const TURNS: [(Bound, bool); 4] = [(AT_1, true), (AT_2, false), (AT_3, false), (AT_4, false)];
 
-fn setup(rt: &(impl Abort + AllocGlobal), horizon: u64) -> Setup<TableTurns> {
+/// The ring's turns up to a last tick.
+pub(crate) fn setup(rt: &(impl Abort + AllocGlobal), horizon: u64) -> Setup<TableTurns> {
     let plan = ring(rt.alloc()).expect(rt, "memory for a plan");
     let turns = TableTurns::new(rt.alloc(), &plan, &ROWS).expect(rt, "turns of the ring");
     Setup::new(plan, turns, horizon).expect(rt, "a setup")
@@ -195,9 +197,27 @@ fn count(alloc: Global, exchanges: &mut [Shared], leases: &mut [Held], steps: &[
     steps.len()
 }
 
-/// All steps come out as they say; else the first number is the place of one that doesn't, counted from 0. There are four exchanges of
+// The same, where each request for memory is refused.
+fn count_refused(
+    alloc: Global,
+    exchanges: &mut [Shared],
+    leases: &mut [Held],
+    steps: &[Step],
+) -> usize {
+    let Ok(mut blocks) = room(alloc) else {
+        return 0;
+    };
+    for (k, step) in steps.iter().enumerate() {
+        if !exhaust(alloc, &mut blocks) || !does(alloc, exchanges, leases, *step) {
+            return k;
+        }
+    }
+    steps.len()
+}
+
+/// All steps come out as they say, the second ones without memory; else the first number is the place of one that doesn't, counted from 0. There are four exchanges of
 /// equal setups, and one with another horizon. The leases of the first are the leases 0 and 1, those of the next 2 and 3, and so on.
-pub(crate) fn assert_steps(rt: &(impl Abort + AllocGlobal), steps: &[Step]) {
+pub(crate) fn assert_steps(rt: &(impl Abort + AllocGlobal), steps: &[Step], refused: &[Step]) {
     let mut exchanges = Vec::new(rt.alloc());
     let mut leases = Vec::new(rt.alloc());
     for horizon in [1000, 1000, 1000, 1000, 999] {
@@ -215,6 +235,15 @@ pub(crate) fn assert_steps(rt: &(impl Abort + AllocGlobal), steps: &[Step]) {
         steps,
     );
     assert_eq!(rt; right, steps.len());
+    if !refused.is_empty() {
+        let right = count_refused(
+            rt.alloc(),
+            exchanges.as_mut_slice(),
+            leases.as_mut_slice(),
+            refused,
+        );
+        assert_eq!(rt; right, refused.len());
+    }
     drop(exchanges);
     drop(leases);
 }

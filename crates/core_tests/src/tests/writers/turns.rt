@@ -4,6 +4,7 @@ use super::super::key;
 use super::{Narrow, counted};
 use event_keys::{Key, Outcome, Turned};
 use plans::Plan;
+use ring_source::memory::{exhaust, room};
 use ring_source::ring;
 use std::alloc::AllocGlobal;
 use std::io::ErrorKind;
@@ -95,6 +96,11 @@ fn writes_turns_up_to_where_the_writer_fails(rt: HostRuntime) {
             assert!(rt; is_beginning, "room for {room}");
         }
     }
+    let all = counted(&rt, 100, 100, None);
+    let mut held = room(rt.alloc()).expect(&rt, "room for blocks");
+    assert!(rt; exhaust(rt.alloc(), &mut held));
+    assert!(rt; writes(all, &plan, &turns, Lines::All, 100, TEXT));
+    drop(held);
     drop(turns);
     let others = [
         turned(&rt, key(u64::MAX, u16::MAX, 10), Some(0), &TWO_ARGUMENTS),
