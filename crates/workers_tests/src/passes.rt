@@ -1,16 +1,18 @@
 //! A pool of two marks, and one of the ring's two leases.
-ghost use Rattle.std.specs.Prelude.{◌≡◌, ℕ, ◌<◌, All, IfOk, Some, length, map};
+ghost use Rattle.std.specs.Prelude.{◌≡◌, ◌<◌, All, IfOk, Some, length, map};
 ghost use Rattle.pools.specs.Passes.{IsOf, holding};
 ghost use Rattle.pools.specs.Places.{AreAlike, AreOnce, times};
+ghost use Rattle.exchange.specs.Start.{number_of, setup_of};
 
 use crate::exchanges::steps::setup;
+use exchange::laws::pooled_leases_law;
 use exchange::{Exchange, Lease};
 use pools::{Numbered, Pass, Pool};
 use ring_source::memory::{Held, Refused, exhaust, refuse, room, serve};
 use std::alloc::{AllocGlobal, Global};
 use std::process::Abort;
 use std::sync::{Arc, Wait};
-use task_seed::TableTurns;
+use task_seed::{Setup, TableTurns};
 use terms::{NoMemory, Refusal};
 
 #[derive(Drop)]
@@ -115,78 +117,45 @@ fn each_mark_is_in_one_place(rt: HostRuntime) {
     drop(pool);
 }
 
-// A lease that may wait in a pool: `Numbered` and `Lease` are both of other crates.
-#[derive(Drop)]
-struct Loan {
-    lease: Lease<TableTurns>,
-}
-
-impl Numbered<u8> for Loan {
-    ghost number_of = { λ loan. loan.lease.component.number };
-
-    ghost kind_of = { λ _. 0 };
-}
-
-fn loans(first: Lease<TableTurns>, second: Lease<TableTurns>) -> [Loan; 2]
-    requires { (first.component.number ≡ 0) × (second.component.number ≡ 1) }
-    ensures once { AreOnce (map (λ loan. loan.lease.component.number) result) }
-    ensures alike { AreAlike {K = ℕ} (λ _. 0) result }
-{
-    [Loan { lease: first }, Loan { lease: second }]
-}
-
 // A pass takes a lease, which runs ahead, and gives it back.
 fn run_one<R: Wait + Abort>(
     rt: &R,
     alloc: Global,
-    pool: &Pool<Loan, u8>,
-    pass: &mut Pass<Loan, u8>,
+    pool: &Pool<Lease<TableTurns>, Setup<TableTurns>>,
+    pass: &mut Pass<Lease<TableTurns>, Setup<TableTurns>>,
 ) -> (u16, u32)
     requires { IsOf pool.now pass.old }
     ensures { IsOf pool.now pass.new }
 {
-    let Some(mut loan) = pool.take(rt, pass) else {
+    let Some(mut lease) = pool.take(rt, pass) else {
         panic!(rt; "no lease")
     };
-    let number = loan.lease.number();
-    let done = loan
-        .lease
-        .run_ahead(alloc, 9)
-        .expect(rt, "memory for entries");
-    pool.give_back(rt, pass, loan);
+    let number = lease.number();
+    let done = lease.run_ahead(alloc, 9).expect(rt, "memory for entries");
+    pool.give_back(rt, pass, lease);
     (number, done)
 }
 
-fn last(rt: &impl Abort, leases: &mut Vec<Lease<TableTurns>>) -> Lease<TableTurns> {
-    match leases.pop() {
-        Some(lease) => lease,
-        None => panic!(rt; "a lease is wanted"),
-    }
-}
-
-// The two leases of the ring, to wait in a pool.
-fn two_loans(rt: &(impl Abort + AllocGlobal)) -> Vec<Loan>
-    ensures once { AreOnce (map (λ loan. loan.lease.component.number) result.items) }
-    ensures alike { AreAlike {K = ℕ} (λ _. 0) result.items }
+// The two leases of the ring.
+fn two_leases(rt: &(impl Abort + AllocGlobal)) -> Vec<Lease<TableTurns>>
+    ensures once { AreOnce (map number_of result.items) }
+    ensures alike { AreAlike setup_of result.items }
 {
+    pooled_leases_law::<TableTurns>();
     let setup = Arc::new(rt.alloc(), setup(rt, 1000)).expect(rt, "memory for a setup");
-    let (exchange, mut leases) = Exchange::new(rt.alloc(), setup).expect(rt, "an exchange");
+    let (exchange, leases) = Exchange::new(rt.alloc(), setup).expect(rt, "an exchange");
     drop(exchange);
-    let second = last(rt, &mut leases);
-    let first = last(rt, &mut leases);
-    drop(leases);
-    assert!(rt; first.number() == 0 && second.number() == 1);
-    Vec::from_array(rt.alloc(), loans(first, second)).expect(rt, "memory for leases")
+    leases
 }
 
 #[test]
 fn leases_wait_in_a_pool(rt: HostRuntime) {
-    let made = Pool::new(&rt, rt.alloc(), two_loans(&rt), 1);
+    let made = Pool::new(&rt, rt.alloc(), two_leases(&rt), 1);
     let (pool, mut passes) = made.expect(&rt, "memory for a pool");
     let Some(mut pass) = passes.pop() else {
         panic!(rt; "a pass is wanted")
     };
-    // the first lease, the second, and the first again, which has nothing left
+    // The first lease, the second, and the first again, which has nothing left.
     let first = run_one(&rt, rt.alloc(), &pool, &mut pass);
     let second = run_one(&rt, rt.alloc(), &pool, &mut pass);
     let third = run_one(&rt, rt.alloc(), &pool, &mut pass);
