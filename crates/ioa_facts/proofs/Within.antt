@@ -1,9 +1,13 @@
--- The enumerations of a source end within its members.
-use Rattle.std.proofs.Common.{◌≡◌, ◌≤◌, ℕ, ◌+◌, Bool, true, false, inl, inr, Option, Some, None, List, [], ◌∷◌, length, length-append, int_lt, refl, sym, subst, arith, if◌then◌else◌}
+-- The enumerations of a source end within its members, and its ranges are of numbers of 64 bits with a sign.
+use Rattle.std.specs.Prelude.{FitsSigned}
+use Rattle.std.specs.Int.{w64, cast_signed, cast_unsigned}
+use Rattle.std.proofs.Common.{◌≡◌, ◌≤◌, ℕ, ◌+◌, ◌-◌, ◌%◌, ◌^◌, ℤ, pos, neg_ℤ, Bool, true, false, ◌&&◌, inl, inr, Option, Some, None, List, [], ◌∷◌, length, length-append, int_le, int_lt, refl, sym, subst, arith, if◌then◌else◌}
 use Rattle.std.proofs.lemmas.Bool.{and_from, le-leb}
+use Rattle.std.proofs.lemmas.Int.{ints}
+use Rattle.ioa_trees.specs.declared.tree.Signed.{Signed}
 use Rattle.ioa_trees.specs.Trees as tree
 use Rattle.ioa_trees.specs.Trees.{Bytes, PlainType, PlainDeclared, PlainVariable, PlainTypeBody, PlainTypeDefinition}
-use Rattle.ioa_rules.specs.Kinds.{Kind, Range, Enum, ArrayOf, number, can_be_listed}
+use Rattle.ioa_rules.specs.Kinds.{Kind, Range, Enum, ArrayOf, whole_number, number, can_be_listed}
 use Rattle.ioa_rules.specs.Scopes.{Scope, Meaning, OfType, OfMember, OfFormal, named, declare, kind_meant}
 use Rattle.ioa_rules.specs.TypeRules.{kind_of, seq_of, array_of}
 use Rattle.ioa_rules.specs.AutomatonRules.{with_formals}
@@ -28,11 +32,35 @@ within_by members x y m (inr e) f g = subst (λ z. may_stand members (kind_meant
 pub within_with : (members : ℕ) (q : Bytes) (m : Meaning) (s : Scope) → may_stand members (kind_meant (Some m)) ≡ true → Within members s → Within members (declare q m s)
 within_with members q m s f w p = within_by members (named p s) (named p (declare q m s)) m (grown p q m s) f (w p)
 
+-- ---- numbers
+
+-- what is read from bits has no more bits
+bits_fit : (n : ℕ) → FitsSigned w64 (cast_signed w64 n)
+bits_fit n = omega (arith, ints)
+
+sign_fits : (b : Bool) (m n : ℕ) → FitsSigned w64 (if b then cast_signed w64 m else cast_signed w64 n)
+sign_fits true m n = bits_fit m
+sign_fits false m n = bits_fit n
+
+number_fits : (s : Signed) → FitsSigned w64 (number s)
+number_fits s = sign_fits s.is_negative ((2 ^ 64 - cast_unsigned w64 (whole_number s.size)) % 2 ^ 64) s.size
+
+not_below : (z : ℤ) → FitsSigned w64 z → int_le (neg_ℤ (pos (2 ^ 63))) z ≡ true
+not_below z fits = grind (arith, ints)
+
+not_above : (z : ℤ) → FitsSigned w64 z → int_lt z (pos (2 ^ 63)) ≡ true
+not_above z fits = grind (arith, ints)
+
+in_order : (low high : ℤ) → int_lt high low ≡ false → int_le low high ≡ true
+in_order low high h = grind (arith, ints)
+
 -- ---- types
 
-range_by : (members : ℕ) (b : Bool) (k : Kind) → is_within members k ≡ true → may_stand members (if b then None else Some k) ≡ true
-range_by members true k h = refl
-range_by members false k h = h
+range_by : (members : ℕ) (low high : ℤ) → FitsSigned w64 low → FitsSigned w64 high → (b : Bool) → int_lt high low ≡ b → may_stand members (if b then None else Some (Range low high)) ≡ true
+range_by members low high l h true is = refl
+range_by members low high l h false is =
+    let least = int_le (neg_ℤ (pos (2 ^ 63))) low in let most = int_lt high (pos (2 ^ 63)) in
+    and_from (int_le low high) (least && most) (in_order low high is) (and_from least most (not_below low l) (not_above high h))
 
 seq_by : (members n : ℕ) (k : Option Kind) → may_stand members k ≡ true → may_stand members (seq_of n k) ≡ true
 seq_by members n None h = refl
@@ -51,7 +79,7 @@ array_by members (Some r) (Some k) h i = listed_by members (can_be_listed r) (Ar
 pub kind_within : (members : ℕ) (s : Scope) → Within members s → (t : PlainType) → may_stand members (kind_of s t) ≡ true
 kind_within members s w tree.Bools = refl
 kind_within members s w tree.Ints = refl
-kind_within members s w (tree.Range a b) = range_by members (int_lt (number b) (number a)) (Range (number a) (number b)) refl
+kind_within members s w (tree.Range a b) = range_by members (number a) (number b) (number_fits a) (number_fits b) (int_lt (number b) (number a)) refl
 kind_within members s w (tree.Named q) = w q
 kind_within members s w (tree.SeqOf t n) = seq_by members n (kind_of s t) (kind_within members s w t)
 kind_within members s w (tree.ArrayOf r t) = array_by members (kind_of s r) (kind_of s t) (kind_within members s w r) (kind_within members s w t)

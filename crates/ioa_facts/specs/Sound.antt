@@ -1,5 +1,5 @@
 -- What holds of the automata that a source without faults means.
-use Rattle.std.specs.Prelude.{◌≡◌, ℕ, ◌+◌, Bool, true, false, ◌&&◌, ◌||◌, Option, Some, None, nat_le, bytes_eq, if◌then◌else◌, List, length, sum_by, slice_get}
+use Rattle.std.specs.Prelude.{◌≡◌, ℕ, ◌+◌, ◌^◌, pos, neg_ℤ, int_le, int_lt, Bool, true, false, ◌&&◌, ◌||◌, Option, Some, None, nat_le, bytes_eq, if◌then◌else◌, List, length, sum_by, slice_get}
 use Rattle.plans.specs.WellFormed.{times, all_places}
 use Rattle.ioa_rules.specs.Kinds.{Kind, Truth, Whole, Range, Enum, SeqOf, ArrayOf, count, can_be_listed, is_scalar}
 use Rattle.ioa_rules.specs.EntryRules.{Meant, Slot, Fixed, Free, is_input, is_controlled}
@@ -14,11 +14,11 @@ share (Some e) = if is_controlled e.kind then 1 else 0
 abbrev pub collide : Meant → Meant → Bool
 collide e f = bytes_eq e.name f.name && ((is_input e.kind && is_input f.kind) || (is_controlled e.kind && is_controlled f.kind))
 
--- an enumeration inside this kind ends within so many members
+-- an enumeration inside this kind ends within so many members, and a range is of numbers of 64 bits with a sign, the least first
 abbrev pub is_within : ℕ → Kind → Bool
 is_within members Truth = true
 is_within members Whole = true
-is_within members (Range low high) = true
+is_within members (Range low high) = int_le low high && (int_le (neg_ℤ (pos (2 ^ 63))) low && int_lt high (pos (2 ^ 63)))
 is_within members (Enum first n) = nat_le (first + n) members
 is_within members (SeqOf k n) = is_within members k
 is_within members (ArrayOf r k) = is_within members r && is_within members k

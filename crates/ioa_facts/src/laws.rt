@@ -11,7 +11,8 @@ use ioa_rules::meant::sources_meant_law;
 
 /// In what a source without faults means, a name stands at most once as an input and at most once as an output or
 /// internal action of an automaton; the tasks of an automaton are a partition of what it controls; the parameters of
-/// actions are scalar and within the members of the source, and those of what is controlled can be listed.
+/// actions are scalar, within the members of the source and within 64 bits with a sign, and those of what is controlled
+/// can be listed.
 pub fn sources_law()
     ensures sound { (x : PlainSource) → source_faults x ≡ [] → All (IsSoundAutomaton (length (source_meaning x).members)) (source_meaning x).automata }
 {
