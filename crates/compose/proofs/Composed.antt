@@ -1,5 +1,5 @@
 -- What is known of a checked source, and of the parts that it means.
-use Rattle.std.proofs.Common.{arith, ◌≡◌, ◌≤◌, ◌<◌, ◌^◌, ℕ, ◌+◌, Option, None, Some, IfSome, IfNone, List, [], map, length, true, false, refl, sym, ◌∙◌, ap, subst}
+use Rattle.std.proofs.Common.{arith, ◌≡◌, ◌≤◌, ◌<◌, ◌^◌, ℕ, ◌+◌, Option, None, Some, IfSome, IfNone, List, [], map, length, true, false, sym, ◌∙◌, ap, subst}
 use Rattle.std.specs.List.{All}
 use Rattle.std.proofs.lemmas.List.{length-map}
 use Rattle.ioa_trees.specs.Spelling.{spell}

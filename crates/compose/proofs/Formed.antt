@@ -1,5 +1,5 @@
 -- A composition of a source without faults is well formed.
-use Rattle.std.proofs.Common.{arith, ◌≡◌, ◌≤◌, ◌<◌, ◌⊎◌, inl, inr, ℕ, zero, suc, ◌+◌, ◌^◌, ℤ, pos, neg_ℤ, unsigned_abs, ◌+ℤ◌, ◌-ℤ◌, int_le, int_lt, nat_le, nat_lt, nat_eq, Bool, true, false, not, ◌&&◌, ◌||◌, bytes_eq, if◌then◌else◌, Option, None, Some, List, [], ◌∷◌, map, slice_get, length, refl, sym, ◌∙◌, ap, subst}
+use Rattle.std.proofs.Common.{arith, ◌≡◌, ◌≤◌, ◌⊎◌, inl, inr, ℕ, zero, suc, ◌+◌, ◌^◌, ℤ, pos, neg_ℤ, unsigned_abs, ◌+ℤ◌, ◌-ℤ◌, int_le, int_lt, nat_le, nat_eq, Bool, true, false, not, ◌&&◌, ◌||◌, bytes_eq, if◌then◌else◌, Option, None, Some, List, [], ◌∷◌, map, slice_get, length, refl, sym, ◌∙◌, ap, subst}
 use Rattle.std.proofs.lemmas.Bool.Decides.{nat_tests}
 use Rattle.std.proofs.lemmas.Bool.{and_from, le-leb}
 use Rattle.std.proofs.lemmas.Int.{ints}
@@ -13,11 +13,11 @@ use Rattle.terms.specs.declared.scalar.Listed.TheVariants as listed
 use Rattle.ioa_trees.specs.Trees.{Bytes}
 use Rattle.ioa_trees.specs.declared.tree.EntryKind.{EntryKind}
 use Rattle.ioa_trees.specs.declared.tree.EntryKind.TheVariants as kind
-use Rattle.ioa_rules.specs.Kinds.{Kind, Truth, Whole, Range, Enum, SeqOf, ArrayOf, count, small, listed_of, is_scalar}
+use Rattle.ioa_rules.specs.Kinds.{Kind, Truth, Whole, Range, Enum, SeqOf, ArrayOf, count, small, listed_of, can_be_listed, is_scalar}
 use Rattle.ioa_rules.specs.EntryRules.{Meant, Slot, Fixed, Free, is_input, is_controlled}
 use Rattle.ioa_rules.specs.AutomatonRules.{MeantAutomaton}
 use Rattle.ioa_rules.specs.SourceRules.{MeantComponent, MeantSource}
-use Rattle.ioa_facts.specs.Sound.{IsSoundAutomaton, share, collide, is_within, is_slot}
+use Rattle.ioa_facts.specs.Sound.{IsSoundAutomaton, share, is_within, is_slot, is_listed}
 use Rattle.plans.specs.declared.automaton.Kind.{Kind as ActionKind}
 use Rattle.plans.specs.declared.automaton.Kind.TheVariants as action
 use Rattle.plans.specs.declared.automaton.Param.{Param}
@@ -26,9 +26,9 @@ use Rattle.plans.specs.Automata.{Transition, Instance, component_at, absent}
 use Rattle.plans.specs.Signatures.{has, fits, has_as, any_as, same_kind}
 use Rattle.plans.specs.WellFormed as formed
 use Rattle.plans.specs.WellFormed.{IsWellFormed, is_complete, times, all_places}
-use Rattle.compatibility.specs.Rules.{Breaks, IsTwice, OwnOverlap}
+use Rattle.compatibility.specs.Rules.{Breaks, IsTwice}
 use Rattle.compatibility.specs.declared.rule.Rule.TheVariants as rule
-use Rattle.instances.specs.Instances.{kind_as, is_short, param_in, param_of, place_in, transition, argument, built, instance, instances}
+use Rattle.instances.specs.Instances.{kind_as, is_short, param_in, param_of, place_in, transition, argument, built, instances}
 use Rattle.instances.specs.Names.{AreNames, automaton_at}
 use Rattle.compose.proofs.Named.{one_place, in_table, instance_or_absent, component_is, mapped_at}
 
@@ -39,12 +39,14 @@ record IsFormed (c : Instance) : Type 0 where
   single : (m n : ℕ) (e f : Transition) (act : Named) → slice_get c.entries m ≡ Some e → slice_get c.entries n ≡ Some f → has c.formals act e ≡ true → has c.formals act f ≡ true → m ≡ n
   tasks : (place : ℕ) → times place (all_places c.tasks) ≡ formed.share (slice_get c.entries place)
   complete : (place k : ℕ) (entry : Transition) (members : Listed) → slice_get c.entries place ≡ Some entry → slice_get entry.params k ≡ Some (param.Member members) → is_complete members ≡ true
+  listed : (place k : ℕ) (entry : Transition) (p : Param) → slice_get c.entries place ≡ Some entry → same_kind action.Input entry.kind ≡ false → slice_get entry.params k ≡ Some p → formed.is_listed p ≡ true
 
 nothing_there : (formals : List Scalar) → IsFormed (record absent { formals = formals })
 nothing_there formals = record {
   single = λ m n e f act p q h g. cc;
   tasks = λ place. refl;
   complete = λ place k entry members p q. cc;
+  listed = λ place k entry p q h g. cc;
 }
 
 -- ---- names
@@ -172,6 +174,35 @@ slot_complete most None members w l e = cc
 slot_complete most (Some (Fixed n)) members w l e = cc
 slot_complete most (Some (Free k)) members w l e = kind_complete most k members (both_true (is_scalar k) (is_within most k) w).1 l e
 
+-- what is controlled takes listed values
+fewer : (n : ℕ) → nat_le n 256 ≡ true → nat_le n 65535 ≡ true
+fewer n few = grind (arith, nat_tests)
+
+short_by : (most : ℕ) (low high : ℤ) → is_within most (Range low high) ≡ true → nat_le (count (Range low high)) 256 ≡ true → is_short low high ≡ true
+short_by most low high w few =
+    let bits = int_le (neg_ℤ (pos (2 ^ 63))) low && int_lt high (pos (2 ^ 63)) in
+    let parts = both_true (int_le low high) bits w in
+    and_from (int_le low high) (nat_le (count (Range low high)) 65535 && bits) parts.0
+    (and_from (nat_le (count (Range low high)) 65535) bits (fewer (count (Range low high)) few) parts.1)
+
+kind_listed : (most : ℕ) (k : Kind) → is_within most k ≡ true → (can_be_listed k && nat_le (count k) 256) ≡ true → formed.is_listed (param_in k) ≡ true
+kind_listed most Truth w l = refl
+kind_listed most Whole w l = cc
+kind_listed most (Range low high) w l = ap (λ b. formed.is_listed (if b then param.Member (listed_of (Range low high)) else param.Between low high)) (short_by most low high w l)
+kind_listed most (Enum first n) w l = refl
+kind_listed most (SeqOf k n) w l = cc
+kind_listed most (ArrayOf r k) w l = cc
+
+slot_listed : (most : ℕ) (s : Option Slot) → is_slot most s ≡ true → is_listed s ≡ true → formed.is_listed (param_of s) ≡ true
+slot_listed most None w l = cc
+slot_listed most (Some (Fixed n)) w l = refl
+slot_listed most (Some (Free k)) w l = kind_listed most k (both_true (is_scalar k) (is_within most k) w).1 l
+
+controlled_by : (k : EntryKind) → same_kind action.Input (kind_as k) ≡ false → is_controlled k ≡ true
+controlled_by kind.Input h = cc
+controlled_by kind.Output h = refl
+controlled_by kind.Internal h = refl
+
 found_slot : (ss : List (Option Slot)) (k : ℕ) (p : Param) → slice_get (map param_of ss) k ≡ Some p → (s : Option Slot) × ((slice_get ss k ≡ Some s) × (param_of s ≡ p))
 found_slot [] k p h = cc
 found_slot (s ∷ ss) zero p h = let same : param_of s ≡ p = cc in (s, (refl, same))
@@ -190,7 +221,7 @@ sound_at m all (Some n) a e = all_at (IsSoundAutomaton (length m.members)) m.aut
 
 module _ (m : MeantSource) (names : List Bytes) (are : AreNames names m) (sound : All (IsSoundAutomaton (length m.members)) m.automata) (few : length m.members ≤ 2 ^ 16) (apart : (j : ℕ) → Breaks rule.Own (instances names m) j → ⊥) where
   formed_as : (i : ℕ) (c : MeantComponent) (a : MeantAutomaton) → slice_get m.components i ≡ Some c → automaton_at m.automata c.automaton ≡ Some a → component_at (instances names m) i ≡ built names (map argument c.arguments) (Some a) → IsFormed (built names (map argument c.arguments) (Some a))
-  formed_as i c a at found is = record { single = single; tasks = tasks; complete = complete }
+  formed_as i c a at found is = record { single = single; tasks = tasks; complete = complete; listed = values }
     where
       formals : List Scalar
       formals = map argument c.arguments
@@ -239,6 +270,13 @@ module _ (m : MeantSource) (names : List Bytes) (are : AreNames names m) (sound 
           let y = found_slot x.0.parameters k (param.Member members) (subst (λ t. slice_get t.params k ≡ Some (param.Member members)) x.1.1 q) in
           slot_complete (length m.members) y.0 members (own.slots place k x.0 y.0 x.1.0 y.1.0) few y.1.1
 
+      values : (place k : ℕ) (entry : Transition) (p : Param) → slice_get (map (transition names) a.entries) place ≡ Some entry → same_kind action.Input entry.kind ≡ false → slice_get entry.params k ≡ Some p → formed.is_listed p ≡ true
+      values place k entry p q local h =
+          let x = found_meant names a.entries place entry q in
+          let y = found_slot x.0.parameters k p (subst (λ t. slice_get t.params k ≡ Some p) x.1.1 h) in
+          let controlled = controlled_by x.0.kind (subst (λ t. same_kind action.Input t.kind ≡ false) x.1.1 local) in
+          subst (λ z. formed.is_listed z ≡ true) y.1.1 (slot_listed (length m.members) y.0 (own.slots place k x.0 y.0 x.1.0 y.1.0) (own.listed place k x.0 y.0 x.1.0 controlled y.1.0))
+
   formed_by : (i : ℕ) (o : Option MeantComponent) → slice_get m.components i ≡ o → component_at (instances names m) i ≡ instance_or_absent names m.automata o → IsFormed (instance_or_absent names m.automata o)
   formed_by i None at is = nothing_there []
   formed_by i (Some c) at is = by (automaton_at m.automata c.automaton) refl
@@ -255,4 +293,5 @@ module _ (m : MeantSource) (names : List Bytes) (are : AreNames names m) (sound 
     single = λ i. (formed_at i).single;
     tasks = λ i. (formed_at i).tasks;
     complete = λ i. (formed_at i).complete;
+    listed = λ i. (formed_at i).listed;
   }

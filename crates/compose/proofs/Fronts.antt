@@ -9,7 +9,7 @@ use Rattle.ioa_front.specs.Reading.{IsRefusal, most_bytes}
 use Rattle.plans.specs.declared.plan.Plan.{Plan}
 use Rattle.compose.specs.declared.source_error.SourceError.{SourceError}
 use Rattle.compose.specs.declared.source_error.SourceError.TheVariants as fault
-use Rattle.compose.specs.Composed.{IsComposed, IsFaulty, IsRead, IsRefused, IsUncomposed}
+use Rattle.compose.specs.Composed.{IsComposed, IsFaulty, IsRefused, IsUncomposed}
 
 take_whole : (xs : List ℕ) (n : ℕ) → length (take n xs) < n → take n xs ≡ xs
 take_whole [] zero h = refl

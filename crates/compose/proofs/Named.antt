@@ -1,5 +1,5 @@
 -- Tables of names, and entries of components.
-use Rattle.std.proofs.Common.{◌≡◌, ℕ, zero, suc, Bool, true, false, ◌||◌, bytes_eq, if◌then◌else◌, Option, None, Some, List, [], ◌∷◌, ◌++◌, map, slice_get, refl, sym, ◌∙◌, ap, subst}
+use Rattle.std.proofs.Common.{◌≡◌, ℕ, zero, suc, Bool, true, false, ◌||◌, bytes_eq, if◌then◌else◌, Option, None, Some, List, [], ◌∷◌, map, slice_get, refl, sym, ◌∙◌, ap}
 use Rattle.std.specs.List.{list_any}
 use Rattle.std.specs.Option.{option_map}
 use Rattle.std.proofs.lemmas.List.{map-append}
@@ -10,8 +10,8 @@ use Rattle.ioa_rules.specs.EntryRules.{Meant}
 use Rattle.ioa_rules.specs.AutomatonRules.{MeantAutomaton}
 use Rattle.ioa_rules.specs.SourceRules.{MeantComponent, MeantSource}
 use Rattle.plans.specs.Automata.{Instance, absent, component_at}
-use Rattle.instances.specs.Instances.{place_in, built, argument, instance, instances}
-use Rattle.instances.specs.Names.{Signature, signature_of, signatures_in, signatures_of, automaton_at, used_names, AreNames}
+use Rattle.instances.specs.Instances.{place_in, instance}
+use Rattle.instances.specs.Names.{Signature, signature_of, signatures_in, signatures_of, automaton_at, AreNames}
 
 or_right : (a b : Bool) → b ≡ true → (a || b) ≡ true
 or_right true b h = refl

@@ -1,5 +1,5 @@
 -- The numbers of refused sources.
-use Rattle.std.specs.Prelude.{◌≡◌, ◌≤◌, ◌⊎◌, ℕ, refl}
+use Rattle.std.specs.Prelude.{◌≡◌, ◌≤◌, ◌⊎◌, refl}
 use Rattle.std.proofs.Common.{inl, inr, arith}
 use Rattle.ioa_front.specs.declared.fault.ReadError.TheVariants as read
 use Rattle.ioa_check.specs.declared.fault.CheckError.TheVariants as check

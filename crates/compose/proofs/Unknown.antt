@@ -1,5 +1,5 @@
 -- The first component without an automaton.
-use Rattle.std.proofs.Common.{arith, ◌≡◌, ◌≤◌, ◌<◌, ◌⊎◌, inl, inr, ℕ, zero, suc, nat_le, Bool, true, false, Option, None, Some, List, [], ◌∷◌, map, slice_get, refl, sym, ◌∙◌, ap, subst}
+use Rattle.std.proofs.Common.{arith, ◌≡◌, ◌≤◌, ◌<◌, ◌⊎◌, inl, inr, ℕ, nat_le, Bool, true, false, Option, None, Some, List, map, slice_get, refl, sym, ◌∙◌, ap}
 use Rattle.std.specs.Option.{option_map}
 use Rattle.std.proofs.lemmas.Bool.Decides.{nat_tests}
 use Rattle.ioa_rules.specs.SourceRules.{MeantComponent}

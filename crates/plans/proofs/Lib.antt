@@ -4,6 +4,7 @@ mod Candidates
 mod Chosen
 mod Counted
 mod Fitting
+mod Listing
 mod Noted
 mod OneEntry
 mod Pairs

@@ -2,6 +2,7 @@ pub mod Alike
 pub mod Automata
 pub mod Compatible
 pub mod Each
+pub mod Enabling
 pub mod External
 pub mod Found
 pub mod Lists

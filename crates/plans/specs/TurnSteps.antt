@@ -32,7 +32,7 @@ both_true false b h = cc
 and_true : (a b : Truth) → a ≡ true → b ≡ true → (a && b) ≡ true
 and_true a b p q = rw (p, q) refl
 
-wraps_not : (low : ℤ) (size k : ℕ) → is_complete (listed.Range low size) ≡ true → k < size → whole (low +ℤ pos k) ≡ low +ℤ pos k
+pub wraps_not : (low : ℤ) (size k : ℕ) → is_complete (listed.Range low size) ≡ true → k < size → whole (low +ℤ pos k) ≡ low +ℤ pos k
 wraps_not low size k complete below = int_wrap_fits w64 (low +ℤ pos k) fit where
   parts : (int_le (neg_ℤ (pos (2 ^ 63))) low ≡ true) × (int_le (low +ℤ pos size) (pos (2 ^ 63)) ≡ true)
   parts = both_true (int_le (neg_ℤ (pos (2 ^ 63))) low) (int_le (low +ℤ pos size) (pos (2 ^ 63))) complete
@@ -69,7 +69,7 @@ members_fit : (members' : Listed) → is_complete members' ≡ true → Each (λ
 members_fit members' complete = members_fit_from members' 0 (count members') complete (omega arith)
 
 -- the parameter's type, if it is listed, has all its members
-abbrev IsComplete : Param → Type 0
+abbrev pub IsComplete : Param → Type 0
 IsComplete (Const n) = Unit {0}
 IsComplete (Member members) = is_complete members ≡ true
 IsComplete (Between low high) = Unit {0}
@@ -96,6 +96,22 @@ tuples_fit formals (Member listed ∷ params) complete =
 tuples_fit formals (Between low high ∷ params) complete = tt
 tuples_fit formals (Whole ∷ params) complete = tt
 
+same_name : (n : ℕ) → (n == n) ≡ true
+same_name n = grind (arith, nat_tests)
+
+-- an entry stands for the action, and its precondition holds
+pub record IsMade (formals : List Scalar) (state : List Datum) (entry : Transition) (action : Named) : Type 0 where
+  pub has : has formals action entry ≡ true
+  pub holding : holds entry formals state action.args ≡ true
+
+pub entry_makes : (formals : List Scalar) (state : List Datum) (entry : Transition) → Each IsComplete entry.params → Each (IsMade formals state entry) (enabled_by formals state (Some entry))
+entry_makes formals state entry complete =
+    each_map (IsMade formals state entry) (named entry.name) (filter (holds entry formals state) (tuples formals entry.params))
+    (each_filter (λ args. IsMade formals state entry (named entry.name args)) (holds entry formals state) (tuples formals entry.params)
+    (each_weaker (λ args. fits formals entry.params args ≡ true) (λ args. holds entry formals state args ≡ true → IsMade formals state entry (named entry.name args)) (tuples formals entry.params)
+    (λ args fit holding. record { has = and_true (entry.name == entry.name) (fits formals entry.params args) (same_name entry.name) fit; holding = holding })
+    (tuples_fit formals entry.params complete)))
+
 -- an action that a task of a component offers: an entry that is locally controlled has it, and its precondition holds
 pub record IsOffered (component : Instance) (state : List Datum) (action : Named) : Type 0 where
   pub entry : Transition
@@ -105,23 +121,18 @@ pub record IsOffered (component : Instance) (state : List Datum) (action : Named
   pub has : has component.formals action entry ≡ true
   pub holding : holds entry component.formals state action.args ≡ true
 
-same_name : (n : ℕ) → (n == n) ≡ true
-same_name n = grind (arith, nat_tests)
-
 entry_offers : (component : Instance) (state : List Datum) (place : ℕ) (entry : Transition) → slice_get component.entries place ≡ Some entry → same_kind Input entry.kind ≡ false → Each IsComplete entry.params → Each (IsOffered component state) (enabled_by component.formals state (Some entry))
 entry_offers component state place entry at local complete =
-    each_map (IsOffered component state) (named entry.name) (filter (holds entry component.formals state) (tuples component.formals entry.params))
-    (each_filter (λ args. IsOffered component state (named entry.name args)) (holds entry component.formals state) (tuples component.formals entry.params)
-    (each_weaker (λ args. fits component.formals entry.params args ≡ true) (λ args. holds entry component.formals state args ≡ true → IsOffered component state (named entry.name args)) (tuples component.formals entry.params)
-    (λ args fit holding. record { entry = entry; place = place; at = at; local = local; has = and_true (entry.name == entry.name) (fits component.formals entry.params args) (same_name entry.name) fit; holding = holding })
-    (tuples_fit component.formals entry.params complete)))
+    each_weaker (IsMade component.formals state entry) (IsOffered component state) (enabled_by component.formals state (Some entry))
+    (λ action made. record { entry = entry; place = place; at = at; local = local; has = made.has; holding = made.holding })
+    (entry_makes component.formals state entry complete)
 
-local_from : (a : Truth) → 1 ≤ cond a 0 1 → a ≡ false
+pub local_from : (a : Truth) → 1 ≤ cond a 0 1 → a ≡ false
 local_from true h = absurd (omega (arith, h))
 local_from false h = refl
 
 module _ (composition : List Instance) (formed : IsWellFormed composition) where
-  complete_at : (i place : ℕ) (entry : Transition) → slice_get (component_at composition i).entries place ≡ Some entry → Each IsComplete entry.params
+  pub complete_at : (i place : ℕ) (entry : Transition) → slice_get (component_at composition i).entries place ≡ Some entry → Each IsComplete entry.params
   complete_at i place entry at = each_from IsComplete entry.params (λ k param found. go param k found) where
     go : (param : Param) (k : ℕ) → slice_get entry.params k ≡ Some param → IsComplete param
     go (Const n) k found = tt

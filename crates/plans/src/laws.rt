@@ -1,5 +1,5 @@
 //! Laws of compositions that the crates above cite.
-ghost use Rattle.std.specs.Prelude.{◌≡◌, ℕ, List, true, false, Some};
+ghost use Rattle.std.specs.Prelude.{◌≡◌, ℕ, List, true, false, Some, Contains};
 ghost use Rattle.terms.specs.Named.{Named};
 ghost use Rattle.plans.specs.Automata.{Instance};
 ghost use Rattle.plans.specs.Compatible.{IsCompatible};
@@ -7,7 +7,8 @@ ghost use Rattle.plans.specs.Plans.{composition};
 ghost use Rattle.plans.specs.Signatures.{inputs, receives, receivers_of};
 ghost use Rattle.plans.specs.Receivers.{Rising, IsIn};
 ghost use Rattle.plans.specs.Steps.{Joint, applied};
-ghost use Rattle.plans.specs.Outcomes.{outcome_of};
+ghost use Rattle.plans.specs.Enabling.{IsEnabled, IsOnce};
+ghost use Rattle.plans.specs.Outcomes.{outcome_of, enabled_of};
 ghost use Rattle.plans.specs.WellFormed.{IsWellFormed};
 ghost use Rattle.terms.specs.Datum.{Datum};
 ghost use Rattle.plans.specs.Plans.{action_texts, member_texts};
@@ -24,6 +25,17 @@ pub fn compatible(plan: &Plan)
 /// The action that a turn takes is a joint step of the composition, whatever states the others are in.
 pub fn turn_is_step(plan: &Plan)
     ensures { (i task choice : ℕ) (state : ℕ → List Datum) (action : Named) → outcome_of (composition plan.now) i task choice (state i) ≡ Some action → Joint (composition plan.now) state action (λ j. applied (composition plan.now) j action (state j)) }
+{}
+
+/// Each action that an entry of a task stands for, and whose precondition holds, is listed as enabled, and listed once;
+/// nothing else is listed.
+pub fn enabled_is_complete(plan: &Plan)
+    ensures once { (i task : ℕ) (state : List Datum) (action : Named)
+        → IsEnabled (composition plan.now) i task state action
+        → IsOnce action (enabled_of (composition plan.now) i task state) }
+    ensures only { (i task : ℕ) (state : List Datum) (action : Named)
+        → Contains (enabled_of (composition plan.now) i task state) action
+        → IsEnabled (composition plan.now) i task state action }
 {}
 
 /// Nobody receives its own action; each receiver is listed once and in order; the receivers are all other components that

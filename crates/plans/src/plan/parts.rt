@@ -15,7 +15,7 @@ use terms::NoMemory;
 
 impl Plan {
     /// A plan of compatible components: fewer than 65,536, each action of a component in one entry, and with tasks that are a
-    /// partition of what the component controls.
+    /// partition of what the component controls. The parameters of that have a formal's value or a listed type.
     pub fn new(
         alloc: Global,
         automata: Vec<Automaton>,

@@ -5,7 +5,7 @@ use Rattle.plans.specs.Automata.{composed}
 use Rattle.plans.specs.Compatible.{IsCompatible}
 use Rattle.plans.specs.Plans.{text_of}
 use Rattle.plans.specs.WellFormed.{IsWellFormed}
-use Rattle.compose.specs.Faults.{Fault, HasFault, IsRefused}
+use Rattle.compose.specs.Faults.{IsRefused}
 use Rattle.compose.proofs.Composed.{sound_of, members_of, refused, faultless, compatible, formed}
 use Rattle.compose.proofs.composing.compose.Goals as goal
 
