@@ -31,14 +31,14 @@ drawn n g word left e =
     )
 
 -- a turn by three draws, and what is left after them
-pub turn_drawn : (gap n x y z : ℕ) (start there after_one after_two after_three : Lcg)
+pub turn_drawn : (least gap n x y z : ℕ) (start there after_one after_two after_three : Lcg)
     → IsAfter start (3 * n) there
     → (x, stream_of (steps_u32 pcg32) after_one) ≡ next_u32 (stream_of (steps_u32 pcg32) there)
     → (y, stream_of (steps_u32 pcg32) after_two) ≡ next_u32 (stream_of (steps_u32 pcg32) after_one)
     → (z, stream_of (steps_u32 pcg32) after_three) ≡ next_u32 (stream_of (steps_u32 pcg32) after_two)
-    → (record { gap = 1 + x % gap; task = y; choice = z } ≡ turn_after start gap n)
+    → (record { gap = least + x % gap; task = y; choice = z } ≡ turn_after start least gap n)
     × IsAfter start (3 * (n + 1)) after_three
-turn_drawn gap n x y z start there after_one after_two after_three stands first_draw second_draw third_draw =
+turn_drawn least gap n x y z start there after_one after_two after_three stands first_draw second_draw third_draw =
     let draws = steps_u32 pcg32 in
     let one = drawn (3 * n) start x (stream_of draws after_one) (first_draw ∙ ap next_u32 stands) in
     let two = drawn (3 * n + 1) start y (stream_of draws after_two) (second_draw ∙ ap next_u32 one.1) in

@@ -30,8 +30,8 @@ first_at composition rows k number line d inside sound counted has least =
       least = least;
     }
 
-gap_passes : (gap : ℕ) → 1 ≤ gap → gap ≤ 65535 → (leb 1 gap && leb gap 65535) ≡ true
-gap_passes gap low high = grind (arith, nat_tests)
+gap_passes : (gap : ℕ) → gap ≤ 65535 → leb gap 65535 ≡ true
+gap_passes gap high = grind (arith, nat_tests)
 
 -- a row without faults is of a component that exists
 pub row_exists : (composition : List Instance) (row : Row) → ((n : ℕ) → HasFault composition row n → ⊥) → row.component < length composition
@@ -41,9 +41,7 @@ row_exists composition row sound =
 -- a row without faults has its gap in range
 row_in_range : (composition : List Instance) (row : Row) → ((n : ℕ) → HasFault composition row n → ⊥) → is_in_range (turn_of_row row) ≡ true
 row_in_range composition row sound =
-    let low : 1 ≤ row.gap = elim (cases_lt row.gap 1) [ inl l ↦ absurd (sound 27 (inl (refl, inl l))) | inr g ↦ g ] in
-    let high : row.gap ≤ 65535 = elim (cases_lt 65535 row.gap) [ inl l ↦ absurd (sound 27 (inl (refl, inr l))) | inr g ↦ g ] in
-    gap_passes row.gap low high
+    gap_passes row.gap (elim (cases_lt 65535 row.gap) [ inl l ↦ absurd (sound 27 (inl (refl, l))) | inr g ↦ g ])
 
 -- one row more
 put : (test : Bool) (row : Row) (rows : List Row) → is_in_range (turn_of_row row) ≡ true → list_all is_in_range (map turn_of_row rows) ≡ true → list_all is_in_range (map turn_of_row (cond test (row ∷ rows) rows)) ≡ true

@@ -2,6 +2,9 @@ pub mod Drawing
 pub mod EitherKind
 pub mod FirstLine
 pub mod Judged
+pub mod Keeping
 pub mod KnownWords
+pub mod Looking
 pub mod Walking
 pub mod Words
+pub mod Reaching

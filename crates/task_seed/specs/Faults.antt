@@ -4,9 +4,9 @@ use Rattle.plans.specs.Automata.{Instance}
 use Rattle.plans.specs.Outcomes.{task_count}
 use Rattle.task_seed.specs.declared.table.Row.{Row}
 
--- the gap isn't 1 to 65,535
+-- the gap isn't 0 to 65,535
 abbrev pub IsGapOutOfRange : Row → Type 0
-IsGapOutOfRange row = (row.gap < 1) ⊎ (65535 < row.gap)
+IsGapOutOfRange row = 65535 < row.gap
 
 -- the component exists and hasn't the task; one that has no tasks takes task 0
 abbrev pub IsTaskOutOfRange : List Instance → Row → Type 0

@@ -1,12 +1,12 @@
 -- The gaps of turns.
-use Rattle.std.specs.Prelude.{◌&&◌, nat_le, Bool, List}
+use Rattle.std.specs.Prelude.{nat_le, Bool, List}
 use Rattle.std.specs.List.{list_all}
 use Rattle.std.specs.declared.vec.Vec.{Vec}
 use Rattle.task_seed.specs.declared.turns.Turn.{Turn}
 
--- the gap is 1 to 65,535
+-- the gap is 0 to 65,535
 abbrev pub is_in_range : Turn → Bool
-is_in_range turn = nat_le 1 turn.gap && nat_le turn.gap 65535
+is_in_range turn = nat_le turn.gap 65535
 
 -- so are all
 abbrev pub all_in_range : {A : Type 0} → List (Vec Turn A) → Bool

@@ -29,10 +29,10 @@ in_list [] i h = refl
 in_list (turns ∷ lists) zero h = (and_parts (list_all is_in_range turns.items) (all_in_range lists) h).0
 in_list (turns ∷ lists) (suc i) h = in_list lists i (and_parts (list_all is_in_range turns.items) (all_in_range lists) h).1
 
-range : (turn : Turn) → is_in_range turn ≡ true → (1 ≤ turn.gap) × (turn.gap ≤ 65535)
+range : (turn : Turn) → is_in_range turn ≡ true → turn.gap ≤ 65535
 range turn h = grind (arith, nat_tests)
 
-pub table_gap_range : (t : TableTurns) (i n : ℕ) (turn : Turn) → table_turn t i n ≡ Some turn → (1 ≤ turn.gap) × (turn.gap ≤ 65535)
+pub table_gap_range : (t : TableTurns) (i n : ℕ) (turn : Turn) → table_turn t i n ≡ Some turn → turn.gap ≤ 65535
 table_gap_range t i n turn e =
     range turn (passes is_in_range (turns_at t.turns.items i) n turn (in_list t.turns.items i t.in_range) e)
 

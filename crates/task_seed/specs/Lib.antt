@@ -16,5 +16,6 @@ pub mod Ticks
 pub mod Turning
 pub mod Walks
 pub mod Machines
-pub mod Reading
+pub mod Clocks
 pub mod MachineLaws
+pub mod ClockLaws

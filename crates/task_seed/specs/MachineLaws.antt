@@ -1,6 +1,5 @@
 -- The machine of a setup meets the laws of the theory.
-use Rattle.std.specs.Prelude.{◌≡◌, ℕ, zero, suc, ◌+◌, ◌^◌, ◌<◌, ◌≤◌, ◌==◌, nat_lt, nat_le, Bool, true, false, not, ◌&&◌, Some, is_some, List, [], ◌∷◌, length, refl}
-use Rattle.std.specs.List.{list_all}
+use Rattle.std.specs.Prelude.{◌≡◌, ℕ, zero, suc, ◌+◌, ◌^◌, ◌<◌, ◌≤◌, ◌==◌, nat_lt, Bool, true, false, not, ◌&&◌, List, [], ◌∷◌, length, refl}
 use Rattle.std.specs.declared.cmp.Ordering.{Ordering}
 use Rattle.std.specs.declared.cmp.Ordering.TheVariants.{Less, Equal, Greater}
 use Rattle.std.specs.Ordering.{is_eq, is_gt, ordering_reverse}
@@ -15,16 +14,14 @@ use Rattle.virtual_time.specs.Machine.{Lawful, HasCount}
 use Rattle.plans.specs.Automata.{Instance, component_at, absent}
 use Rattle.plans.specs.Signatures.{receives}
 use Rattle.plans.specs.Receivers.{no_own}
-use Rattle.task_seed.specs.declared.turns.Turn.{Turn}
-use Rattle.task_seed.specs.Turning.{System, ticks, has_turns, first_turns, key_at}
-use Rattle.task_seed.specs.Ticks.{none_stays, few, gap_of_next}
+use Rattle.task_seed.specs.Turning.{System, ticks, has_turns, key_at}
+use Rattle.task_seed.specs.Ticks.{none_stays, has_parts, later_next}
 use Rattle.task_seed.specs.Machines.{machine, turn_rank, end_rank, same_action, action_before}
 
 -- what a setup's type says of its system
 pub record IsSmall (s : System) : Type 0 where
   pub components : length s.composition < 2 ^ 16
   pub horizon : s.horizon ≤ 4294967296
-  pub gaps : (i n : ℕ) (turn : Turn) → s.turn i n ≡ Some turn → 1 ≤ turn.gap
 
 end_is : end_rank ≡ 2 ^ 144
 unfolding end_rank
@@ -54,14 +51,13 @@ module _ (s : System) (small : IsSmall s) where
 
   small_number : (i n : ℕ) → Exists s i n → (i < 2 ^ 16) × (n < 2 ^ 64) × (ticks s i (n + 1) < 2 ^ 64)
   small_number i n e =
-      let parts = both (list_all is_some (first_turns s i (n + 1))) (nat_le (ticks s i (n + 1)) s.horizon) e.there in
-      let tick = parts.1 in
-      let low : ticks s i (n + 1) ≤ s.horizon = grind (arith, nat_tests) in
-      let count = few s i (n + 1) (small.gaps i) parts.0 in
+      let has = has_parts s i (n + 1) e.there in
+      let low = has.within in
+      let count = has.few in
       let w = e.within in
       let c = small.components in
       let h = small.horizon in
-      (omega (arith, w, c), omega (arith, low, count, h), omega (arith, low, h))
+      (omega (arith, w, c), omega (arith, count), omega (arith, low, h))
 
   -- the rank of a turn that exists is below the end, and tells its component
   below_end : (i n : ℕ) → Exists s i n → rank (key_at i n (ticks s i (n + 1))) < end_rank
@@ -85,7 +81,7 @@ module _ (s : System) (small : IsSmall s) where
         let later = small_number i (suc m) e in
         let number = now.1 in
         let next = later.1 in
-        let more = gap_of_next s i m (small.gaps i) e.there in
+        let more = later_next s i m in
         rw (rank_there i m h, rank_there i (suc m) g) (omega (arith, number, next, more))
 
   ends : (i m : ℕ) → end_rank ≤ turn_rank s i m → turn_rank s i (suc m) ≡ end_rank

@@ -25,9 +25,13 @@ gap_of (Some turn) = turn.gap
 abbrev pub ticks : System → ℕ → ℕ → ℕ
 ticks s i n = sum_by gap_of (first_turns s i n)
 
--- component i has n turns or more, with ticks up to the horizon
+-- how many turns a component has at most
+abbrev pub most_turns : ℕ
+most_turns = 4294967296
+
+-- component i has n turns or more: the first n are there, with ticks up to the horizon, and aren't more than a component may have
 abbrev pub has_turns : System → ℕ → ℕ → Bool
-has_turns s i n = list_all is_some (first_turns s i n) && nat_le (ticks s i n) s.horizon
+has_turns s i n = list_all is_some (first_turns s i n) && (nat_le (ticks s i n) s.horizon && nat_le n most_turns)
 
 -- the key of turn n of component i, at a tick
 abbrev pub key_at : ℕ → ℕ → ℕ → Key
@@ -42,6 +46,7 @@ pub record Reaches (s : System) (i n tick : ℕ) : Type 0 where
   pub exist : list_all is_some (first_turns s i n) ≡ true
   pub sum : tick ≡ ticks s i n
   pub within : tick ≤ s.horizon
+  pub few : n ≤ most_turns
 
 -- a number below the number of the tasks, 0 where there is none
 abbrev pub task_below : ℕ → ℕ → ℕ

@@ -2,7 +2,8 @@
 
 use crate::seed_turns::SeedTurns;
 use crate::table_turns::TableTurns;
-use crate::turns::{Turn, Turns, Walk};
+use crate::turns::{Turn, Turns};
+use crate::walk::Walk;
 use std::marker::{Send, Sync};
 
 /// The turns of a seed, or those of a table. Values of different kinds aren't equal.
@@ -15,8 +16,8 @@ pub enum AnyTurns {
 }
 
 impl Turns for AnyTurns {
-    ghost use Rattle.task_seed.specs.Any.{any_turn, stands_in_any};
-    ghost use Rattle.task_seed.specs.AnyLaws.{any_alike, any_ended, any_gap_range, any_numbered};
+    ghost use Rattle.task_seed.specs.Any.{any_turn};
+    ghost use Rattle.task_seed.specs.AnyLaws.{any_alike, any_ended, any_gap_range};
 
     ghost turn_of = { any_turn };
 
@@ -26,27 +27,16 @@ impl Turns for AnyTurns {
 
     ghost ended = { any_ended };
 
-    ghost stands = { stands_in_any };
-
-    ghost numbered = { any_numbered };
-
-    fn walk(&self, i: u16, n: u64) -> Walk {
-        match self {
-            AnyTurns::Seed(turns) => turns.walk(i, n),
-            AnyTurns::Table(turns) => turns.walk(i, n),
-        }
-    }
-
-    fn step(&self, i: u16, walk: &mut Walk) -> Option<Turn> {
-        match self {
-            AnyTurns::Seed(turns) => turns.step(i, walk),
-            AnyTurns::Table(turns) => turns.step(i, walk),
-        }
-    }
-
     fn turn(&self, i: u16, n: u64) -> Option<Turn> {
         match self {
             AnyTurns::Seed(turns) => turns.turn(i, n),
+            AnyTurns::Table(turns) => turns.turn(i, n),
+        }
+    }
+
+    fn turn_by(&self, i: u16, n: u64, walk: &mut Walk) -> Option<Turn> {
+        match self {
+            AnyTurns::Seed(turns) => turns.turn_by(i, n, walk),
             AnyTurns::Table(turns) => turns.turn(i, n),
         }
     }

@@ -2,19 +2,21 @@
 #![tactic(auto)]
 
 pub mod any_turns;
+pub mod clock;
 pub mod laws;
 pub mod lines;
 pub mod seed_turns;
 pub mod setup;
 pub mod table;
 pub mod table_turns;
-pub mod turn_reader;
 pub mod turns;
+pub mod walk;
 
 pub use any_turns::AnyTurns;
+pub use clock::Clock;
 pub use seed_turns::{SeedTurns, SeedTurnsError};
 pub use setup::{Setup, SetupError};
 pub use table::{ReadTableError, Row, read_table};
 pub use table_turns::{TableTurns, TableTurnsError};
-pub use turn_reader::TurnReader;
-pub use turns::{KeyedTurn, Turn, Turns, Walk};
+pub use turns::{KeyedTurn, Turn, Turns};
+pub use walk::Walk;

@@ -1,21 +1,13 @@
 //! The turns that a generator gives.
 ghost use Rattle.std.specs.Prelude.{◌≤◌};
 
-use crate::turns::{Turn, Turns, Walk};
+use crate::turns::{GREATEST_GAP, MOST_TURNS, Turn, Turns};
+use crate::walk::{Place, Walk};
 use rand_core::Rng;
 use rand_pcg::Lcg64Xsh32;
 use std::marker::{Send, Sync};
 use terms::Refusal;
 use thiserror::Error;
-
-/// The greatest gap that a turn may have, in ticks.
-pub const GREATEST_GAP: u32 = 65_535;
-
-/// How many turns each component has.
-pub const TURNS_OF_A_COMPONENT: u64 = 4_294_967_296;
-
-// One for its gap, one for its task and one for its choice.
-const WORDS_OF_A_TURN: u64 = 3;
 
 /// Why there are no turns of a seed.
 #[derive(Clone, Copy, Debug, PartialEq, Eq, Error)]
@@ -49,13 +41,15 @@ impl Refusal for SeedTurnsError {
 }
 
 /// Turns drawn from a generator: component `i` has the words of the stream `stream + i` (modulo 2^64)
-/// of the generator with this seed, three of them a turn.
+/// of the generator with this seed, three of them a turn. The gap of a turn is its word modulo `gap`, and `least` more.
 #[derive(Clone, Copy, Debug, PartialEq, Eq)]
 pub struct SeedTurns {
     seed: u64,
     stream: u64,
+    least: u32,
     gap: u32,
     ghost in_range: { (1 ≤ gap) × (gap ≤ 65535) },
+    ghost from: { least ≤ 1 },
 }
 
 impl SeedTurns {
@@ -67,24 +61,50 @@ impl SeedTurns {
 
     /// The turns of a seed, whose gaps are 1 to `gap` ticks, where `gap` is 1 to 65,535.
     pub fn new(seed: u64, stream: u64, gap: u32) -> Result<SeedTurns, SeedTurnsError>
-        ensures numbers { IfOk result (λ t. (t.seed ≡ seed) × (t.stream ≡ stream) × (t.gap ≡ gap)) }
-        ensures turns { IfOk result (λ t. (i n : ℕ) → seed_turn t i n ≡ drawn_turn seed stream gap i n) }
+        ensures numbers { IfOk result (λ t. (t.seed ≡ seed) × (t.stream ≡ stream) × (t.least ≡ 1) × (t.gap ≡ gap)) }
+        ensures turns { IfOk result (λ t. (i n : ℕ) → seed_turn t i n ≡ drawn_turn seed stream 1 gap i n) }
+        ensures refused { IsErrOf result SeedTurnsError.GapOutOfRange ↔ ((gap < 1) ⊎ (65535 < gap)) }
+        ensures memory { IsErrOf result SeedTurnsError.NoMemory → ⊥ }
+    {
+        SeedTurns::from(seed, stream, 1, gap)
+    }
+
+    /// The turns of a seed, whose gaps are 0 to `gap - 1` ticks, where `gap` is 1 to 65,535.
+    pub fn from_zero(seed: u64, stream: u64, gap: u32) -> Result<SeedTurns, SeedTurnsError>
+        ensures numbers { IfOk result (λ t. (t.seed ≡ seed) × (t.stream ≡ stream) × (t.least ≡ 0) × (t.gap ≡ gap)) }
+        ensures turns { IfOk result (λ t. (i n : ℕ) → seed_turn t i n ≡ drawn_turn seed stream 0 gap i n) }
+        ensures refused { IsErrOf result SeedTurnsError.GapOutOfRange ↔ ((gap < 1) ⊎ (65535 < gap)) }
+        ensures memory { IsErrOf result SeedTurnsError.NoMemory → ⊥ }
+    {
+        SeedTurns::from(seed, stream, 0, gap)
+    }
+
+    // The turns of a seed, whose gaps are so many from the least one on.
+    fn from(seed: u64, stream: u64, least: u32, gap: u32) -> Result<SeedTurns, SeedTurnsError>
+        requires { least ≤ 1 }
+        ensures numbers { IfOk result (λ t. (t.seed ≡ seed) × (t.stream ≡ stream) × (t.least ≡ least) × (t.gap ≡ gap)) }
         ensures refused { IsErrOf result SeedTurnsError.GapOutOfRange ↔ ((gap < 1) ⊎ (65535 < gap)) }
         ensures memory { IsErrOf result SeedTurnsError.NoMemory → ⊥ }
     {
         if gap >= 1 && gap <= GREATEST_GAP {
-            Ok(SeedTurns { seed, stream, gap })
+            Ok(SeedTurns {
+                seed,
+                stream,
+                least,
+                gap,
+            })
         } else {
             Err(SeedTurnsError::GapOutOfRange)
         }
     }
 
     // Draws a turn.
+    #[inline(always)]
     fn draw(&self, words: &mut Lcg64Xsh32) -> Turn
-        ensures turn { (start : Lcg) (n : ℕ) → IsAfter start (3 * n) words.old → result ≡ turn_after start self.now.gap n }
+        ensures turn { (start : Lcg) (n : ℕ) → IsAfter start (3 * n) words.old → result ≡ turn_after start self.now.least self.now.gap n }
         ensures words { (start : Lcg) (n : ℕ) → IsAfter start (3 * n) words.old → IsAfter start (3 * (n + 1)) words.new }
     {
-        let gap = 1 + words.next_u32() % self.gap;
+        let gap = self.least + words.next_u32() % self.gap;
         let task = words.next_u32();
         let choice = words.next_u32();
         Turn { gap, task, choice }
@@ -104,33 +124,28 @@ impl Turns for SeedTurns {
 
     ghost ended = { seed_ended };
 
-    ghost use Rattle.task_seed.specs.Walks.{stands_before, stands_at_number};
-
-    ghost stands = { stands_before };
-
-    ghost numbered = { stands_at_number };
-
-    fn walk(&self, i: u16, n: u64) -> Walk {
-        let mut words = Lcg64Xsh32::new(self.seed, self.stream.wrapping_add(u64::from(i)));
-        words.advance(WORDS_OF_A_TURN.wrapping_mul(n));
-        Walk {
-            words: Some(words),
-            number: n,
-        }
+    fn turn(&self, i: u16, n: u64) -> Option<Turn> {
+        self.turn_by(i, n, &mut Walk::new())
     }
 
-    fn step(&self, _i: u16, walk: &mut Walk) -> Option<Turn> {
-        if walk.number >= TURNS_OF_A_COMPONENT {
+    fn turn_by(&self, i: u16, n: u64, walk: &mut Walk) -> Option<Turn> {
+        if n >= MOST_TURNS {
             return None;
         }
-        let words = walk.words.as_mut()?;
-        let turn = self.draw(words);
-        walk.number += 1;
+        let stream = self.stream.wrapping_add(u64::from(i));
+        let Place {
+            seed,
+            stream,
+            number: _,
+            mut words,
+        } = walk.take_place(self.seed, stream, n);
+        let turn = self.draw(&mut words);
+        walk.place = Some(Place {
+            seed,
+            stream,
+            number: n + 1,
+            words,
+        });
         Some(turn)
-    }
-
-    fn turn(&self, i: u16, n: u64) -> Option<Turn> {
-        let mut walk = self.walk(i, n);
-        self.step(i, &mut walk)
     }
 }

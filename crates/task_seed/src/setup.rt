@@ -1,7 +1,8 @@
 //! The setup of a simulation, and the keys of its turns.
 ghost use Rattle.std.specs.Prelude.{◌≡◌, ℕ, ◌≤◌, ◌<◌, ◌+◌, ◌↔◌, Option, None, Some, IfSome, IfOk, IsErrOf, IsSome};
 
-use crate::turns::{KeyedTurn, Timed, Turn, Turns, Walk};
+use crate::turns::{KeyedTurn, MOST_TURNS, Timed, Turn, Turns};
+use crate::walk::Walk;
 use event_keys::Key;
 use plans::Plan;
 use terms::Refusal;
@@ -51,7 +52,7 @@ impl Refusal for SetupError {
 }
 
 impl<T: Turns> Setup<T> {
-    ghost use Rattle.std.specs.Prelude.{◌≡◌, ℕ, ◌≤◌, ◌<◌, ◌+◌, ◌↔◌, Option, None, Some, IfSome, IfOk, IsErrOf, IsSome, IsSomeAnd, option_map};
+    ghost use Rattle.std.specs.Prelude.{◌≡◌, ℕ, ◌≤◌, ◌<◌, ◌+◌, ◌↔◌, Option, None, Some, IfSome, IfOk, IsErrOf, IsSome, option_map};
     ghost use Rattle.plans.specs.Outcomes.{task_count};
     ghost use Rattle.plans.specs.Plans.{composition};
     ghost use Rattle.task_seed.specs.Turning.{key_at, key_of, turn_in, with_task_below, Reaches};
@@ -84,12 +85,15 @@ impl<T: Turns> Setup<T> {
         &self.plan
     }
 
-    // The tick of turn `n` of component `i` where it comes after `tick`.
+    // The tick of turn `n` of component `i`, where that of the turn before is `tick`.
     fn tick_after(&self, i: u16, n: u64, tick: u64) -> Option<u64>
         requires { tick ≤ horizon_of self.now }
         ensures value { result ≡ tick_after (system T.turn_of self.now) i n tick }
-        ensures later { IfSome result (λ next. tick < next) }
+        ensures later { IfSome result (λ next. tick ≤ next) }
     {
+        if n >= MOST_TURNS {
+            return None;
+        }
         self.tick_of(self.turns.turn(i, n)?, tick)
     }
 
@@ -97,9 +101,8 @@ impl<T: Turns> Setup<T> {
     #[inline(always)]
     fn tick_of(&self, turn: Turn, tick: u64) -> Option<u64>
         requires in_time { tick ≤ horizon_of self.now }
-        requires gap { 1 ≤ turn.gap }
         ensures value { result ≡ tick_with (horizon_of self.now) tick (Some turn) }
-        ensures later { IfSome result (λ next. tick < next) }
+        ensures later { IfSome result (λ next. tick ≤ next) }
     {
         let next = tick + u64::from(turn.gap);
         if next <= self.horizon {
@@ -109,17 +112,18 @@ impl<T: Turns> Setup<T> {
         }
     }
 
-    // The turn before which a walk stands, and its tick where it comes after `tick`.
+    // Turn `n` of component `i`, read by the walk, and its tick, where that of the turn before is `tick`.
     #[inline(always)]
     fn walk_after(&self, i: u16, n: u64, tick: u64, walk: &mut Walk) -> Option<Timed>
-        requires in_time { tick ≤ horizon_of self.now }
-        requires stands { T.stands (source_of self.now) walk.old i n }
+        requires { tick ≤ horizon_of self.now }
         ensures value { option_map (λ (timed : Timed). timed.tick) result ≡ tick_after (system T.turn_of self.now) i n tick }
         ensures turn { IfSome result (λ timed. (system T.turn_of self.now).turn i n ≡ Some timed.turn) }
-        ensures stands { IfSome result (λ _. T.stands (source_of self.now) walk.new i (n + 1)) }
-        ensures later { IfSome result (λ timed. tick < timed.tick) }
+        ensures later { IfSome result (λ timed. tick ≤ timed.tick) }
     {
-        let turn = self.turns.step(i, walk)?;
+        if n >= MOST_TURNS {
+            return None;
+        }
+        let turn = self.turns.turn_by(i, n, walk)?;
         let tick = self.tick_of(turn, tick)?;
         Some(Timed { tick, turn })
     }
@@ -130,23 +134,19 @@ impl<T: Turns> Setup<T> {
         requires { Reaches (system T.turn_of self.now) i n tick }
         ensures key { option_map (key_at i n) result ≡ key_of (system T.turn_of self.now) i n }
         ensures reached { IfSome result (λ next. Reaches (system T.turn_of self.now) i (n + 1) next) }
-        ensures later { IfSome result (λ next. tick < next) }
+        ensures later { IfSome result (λ next. tick ≤ next) }
         ensures bounded { IfSome result (λ _. n < 4294967296) }
     {
         self.tick_after(i, n, tick)
     }
 
-    // Turn `n` of component `i` with its tick, if that turn exists, read off a walk that stands before it, where `tick` is that of the turn
-    // before (0 for the first). The walk then stands before the next turn. Nothing is drawn but that turn.
+    // Turn `n` of component `i` with its tick, if that turn exists, where `tick` is that of the turn before (0 for the first). It is read by the
+    // walk: one question to the turns.
     #[inline(always)]
     fn next_turn(&self, i: u16, n: u64, tick: u64, walk: &mut Walk) -> Option<Timed>
-        requires reaches { Reaches (system T.turn_of self.now) i n tick }
-        requires stands { T.stands (source_of self.now) walk.old i n }
+        requires { Reaches (system T.turn_of self.now) i n tick }
         ensures key { option_map (λ (timed : Timed). key_at i n timed.tick) result ≡ key_of (system T.turn_of self.now) i n }
         ensures turn { IfSome result (λ timed. turn_in (system T.turn_of self.now) i n ≡ Some timed.turn) }
-        ensures reached { IfSome result (λ timed. Reaches (system T.turn_of self.now) i (n + 1) timed.tick) }
-        ensures stands { IfSome result (λ _. T.stands (source_of self.now) walk.new i (n + 1)) }
-        ensures later { IfSome result (λ timed. tick < timed.tick) }
         ensures bounded { IfSome result (λ _. n < 4294967296) }
     {
         let timed = self.walk_after(i, n, tick, walk)?;
@@ -206,48 +206,25 @@ impl<T: Turns> Setup<T> {
         })
     }
 
-    /// The turn of component `i` after the one of this key, with its own key, if there is one. It is read off the walk, if that stands there; else
-    /// a new one jumps there along the generator's words. The walk that is left stands before the turn after that, if there is one.
+    /// The turn of component `i` after the one of this key, with its own key, if there is one. It is read by the walk: one question to the turns.
     #[inline(always)]
-    pub fn turn_after(&self, i: u16, key: Key, walk: &mut Option<Walk>) -> Option<KeyedTurn>
+    pub fn turn_after(&self, i: u16, key: Key, walk: &mut Walk) -> Option<KeyedTurn>
         requires there { Some key ≡ key_of (system T.turn_of self.now) i key.number }
         requires small { key.number < 4294967296 }
-        requires stands { IfSome walk.old (λ walk. T.stands (source_of self.now) walk i walk.number) }
         ensures key { option_map (λ (next : KeyedTurn). next.key) result ≡ key_of (system T.turn_of self.now) i (key.number + 1) }
         ensures turn { IfSome result (λ next. turn_in (system T.turn_of self.now) i next.key.number ≡ Some next.turn) }
         ensures bounded { IfSome result (λ next. next.key.number < 4294967296) }
-        ensures stands { IfSome walk.new (λ walk. T.stands (source_of self.now) walk i walk.number) }
     {
         let number = key.number + 1;
-        self.put_before(i, number, walk);
-        let Some(own) = walk else {
-            return None;
-        };
-        let Some(timed) = self.next_turn(i, number, key.tick, own) else {
-            *walk = None;
-            return None;
-        };
-        let key = Key {
-            tick: timed.tick,
-            component: i,
-            number,
-        };
+        let timed = self.next_turn(i, number, key.tick, walk)?;
         Some(KeyedTurn {
-            key,
+            key: Key {
+                tick: timed.tick,
+                component: i,
+                number,
+            },
             turn: timed.turn,
         })
-    }
-
-    // Has a walk stand before turn `n`; it stays if it does.
-    #[inline(always)]
-    fn put_before(&self, i: u16, n: u64, walk: &mut Option<Walk>)
-        requires { IfSome walk.old (λ walk. T.stands (source_of self.now) walk i walk.number) }
-        ensures { IsSomeAnd walk.new (λ walk. T.stands (source_of self.now) walk i n) }
-    {
-        match walk {
-            Some(own) if own.number == n => {}
-            _ => *walk = Some(self.turns.walk(i, n)),
-        }
     }
 
     /// Turn `n` of component `i`, if it exists, its task below the number of the component's tasks (0

@@ -4,7 +4,7 @@ ghost use Rattle.task_seed.specs.Gaps.{all_in_range};
 ghost use Rattle.task_seed.specs.declared.table_turns.TableTurnsError.TheVariants.{NoMemory as OutOfMemory};
 
 use crate::table::Row;
-use crate::turns::{Turn, Turns, Walk};
+use crate::turns::{GREATEST_GAP, Turn, Turns};
 use plans::Plan;
 use std::alloc::{AllocError, AllocFailed, Global};
 use std::marker::{Send, Sync};
@@ -17,7 +17,7 @@ use thiserror::Error;
 pub enum TableTurnsError {
     #[error("out of memory")]
     NoMemory,
-    /// The gap isn't 1 to 65,535.
+    /// The gap is above 65,535.
     #[error("line {0}: the gap is out of range")]
     GapOutOfRange(usize),
     /// The component hasn't the task.
@@ -97,7 +97,7 @@ fn check_row(plan: &Plan, row: &Row, line: usize) -> Result<(), TableTurnsError>
         × HasFault (composition plan.now) row.now (table_turns_number e)
         × ((number : ℕ) → HasFault (composition plan.now) row.now number → table_turns_number e ≤ number)) }
 {
-    if row.gap < 1 || row.gap > 65_535 {
+    if row.gap > GREATEST_GAP {
         return Err(TableTurnsError::GapOutOfRange(line));
     }
     let component = match u16::try_from(row.component) {
@@ -187,25 +187,6 @@ impl Turns for TableTurns {
     ghost alike = { table_alike };
 
     ghost ended = { table_ended };
-
-    ghost use Rattle.task_seed.specs.Walks.{is_at_row, row_is_number};
-
-    ghost stands = { is_at_row };
-
-    ghost numbered = { row_is_number };
-
-    fn walk(&self, _i: u16, n: u64) -> Walk {
-        Walk {
-            words: None,
-            number: n,
-        }
-    }
-
-    fn step(&self, i: u16, walk: &mut Walk) -> Option<Turn> {
-        let turn = self.turn(i, walk.number)?;
-        walk.number = walk.number.saturating_add(1);
-        Some(turn)
-    }
 
     fn turn(&self, i: u16, n: u64) -> Option<Turn> {
         let turns = self.turns.get(usize::from(i))?;

@@ -1,14 +1,20 @@
 //! Turns, and what gives them.
-ghost use Rattle.std.specs.Prelude.{◌≡◌, ℕ, ◌≤◌, ◌+◌, Option, None, Some, IfSome, true};
+ghost use Rattle.std.specs.Prelude.{◌≡◌, ℕ, ◌≤◌, ◌+◌, Option, None, Some, true};
 
+use crate::walk::Walk;
 use event_keys::Key;
-use rand_pcg::Lcg64Xsh32;
 use std::marker::{Send, Sync};
+
+/// How many turns a component has at most: a turn whose number is this or more doesn't exist.
+pub const MOST_TURNS: u64 = 4_294_967_296;
+
+/// The greatest gap that a turn may have, in ticks.
+pub const GREATEST_GAP: u32 = 65_535;
 
 /// A turn of a component.
 #[derive(Clone, Copy, Debug, PartialEq, Eq)]
 pub struct Turn {
-    /// The ticks from the turn before, or from tick 0, to this turn: 1 to 65,535.
+    /// The ticks from the turn before, or from tick 0, to this turn: 0 to 65,535.
     pub gap: u32,
     /// The number of the task whose turn it is, counted from 0.
     pub task: u32,
@@ -16,7 +22,7 @@ pub struct Turn {
     pub choice: u32,
 }
 
-// A turn, and its tick, from 1 on.
+// A turn, and its tick.
 #[derive(Clone, Copy)]
 pub(crate) struct Timed {
     pub(crate) tick: u64,
@@ -30,16 +36,7 @@ pub struct KeyedTurn {
     pub turn: Turn,
 }
 
-/// A place among the turns of a component, from where they are read one after another.
-#[derive(Drop)]
-pub struct Walk {
-    // The generator of the turns, if they are drawn.
-    pub(crate) words: Option<Lcg64Xsh32>,
-    // The number of the turn before which it stands.
-    pub(crate) number: u64,
-}
-
-/// What gives the components their turns. Its values never change what they answer.
+/// What gives the components their turns. Its values never change what they answer. Who writes one writes `turn` and proves the laws.
 pub trait Turns: Eq + Send + Sync + Drop {
     ghost use Rattle.task_seed.specs.declared.turns.Turn.{Turn};
 
@@ -49,26 +46,16 @@ pub trait Turns: Eq + Send + Sync + Drop {
     fn turn(&self, i: u16, n: u64) -> Option<Turn>
         ensures { result ≡ turn_of self.now i n };
 
-    ghost use Rattle.task_seed.specs.declared.turns.Walk.{Walk};
+    /// The same turn, whatever the walk. Turns that are drawn are read off a walk that stands before this one, without a jump along the
+    /// generator's words, and the walk then stands before the next one.
+    fn turn_by(&self, i: u16, n: u64, _walk: &mut Walk) -> Option<Turn>
+        ensures { result ≡ turn_of self.now i n }
+    {
+        self.turn(i, n)
+    }
 
-    // The walk stands before turn `n` of component `i`.
-    ghost stands: { Self → Walk → ℕ → ℕ → Type 0 };
-
-    // A walk stands before the turn of its number.
-    ghost numbered: { (t : Self) (walk : Walk) (i n : ℕ) → stands t walk i n → walk.number ≡ n };
-
-    /// A walk that stands before turn `n` of component `i`.
-    fn walk(&self, i: u16, n: u64) -> Walk
-        ensures { stands self.now result i n };
-
-    /// The turn before which a walk of component `i` stands, if there is one; the walk then stands before the next.
-    fn step(&self, i: u16, walk: &mut Walk) -> Option<Turn>
-        ensures turn { (n : ℕ) → stands self.now walk.old i n → result ≡ turn_of self.now i n }
-        ensures walk { (n : ℕ) → stands self.now walk.old i n → IfSome result (λ _. stands self.now walk.new i (n + 1)) };
-
-    // Every gap is 1 to 65,535 ticks.
-    ghost gap_range: { (t : Self) (i n : ℕ) (turn : Turn) → turn_of t i n ≡ Some turn
-        → (1 ≤ turn.gap) × (turn.gap ≤ 65535) };
+    // Every gap is 0 to 65,535 ticks.
+    ghost gap_range: { (t : Self) (i n : ℕ) (turn : Turn) → turn_of t i n ≡ Some turn → turn.gap ≤ 65535 };
 
     // Equal values answer every question alike.
     ghost alike: { (s t : Self) → Self.eq s t ≡ true → (i n : ℕ) → turn_of s i n ≡ turn_of t i n };

@@ -8,9 +8,8 @@ use Rattle.task_seed.proofs.laws.machine_is_lawful.Goals as goal
 
 pub returns-clause-lawful : goal.returns-clause-lawful
 returns-clause-lawful g c =
-    let turns = g.met.T.Turns g.world.𝓛 g.world.𝓜 g.world.𝓡 ((λ s x. x), (λ x. x), (λ x. x), λ x. x) in
     let few = c.args.setup.now.plan.few in
-    machine_lawful (system g.T.Turns.turn_of c.args.setup.now) (record { components = omega (arith, few, c.args.setup.now.plan.components.ok.0, length-map c.args.setup.now.plan.components.items (instance_of c.args.setup.now.plan.automata.items)); horizon = c.args.setup.now.in_range; gaps = λ i n turn is. (turns.gap_range c.args.setup.now.turns i n turn is).0 }) total-law
+    machine_lawful (system g.T.Turns.turn_of c.args.setup.now) (record { components = omega (arith, few, c.args.setup.now.plan.components.ok.0, length-map c.args.setup.now.plan.components.items (instance_of c.args.setup.now.plan.automata.items)); horizon = c.args.setup.now.in_range }) total-law
 
 pub returns-clause-counted : goal.returns-clause-counted
 returns-clause-counted g c = machine_counted (system g.T.Turns.turn_of c.args.setup.now)

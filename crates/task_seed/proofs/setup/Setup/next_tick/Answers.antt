@@ -17,5 +17,4 @@ returns-clause-reached g c =
 pub returns-clause-bounded : goal.returns-clause-bounded
 returns-clause-bounded g c =
     rw c.tick_after.ensures.value
-    (few_after (system g.T.Turns.turn_of c.args.self.now) c.args.i c.args.n c.args.tick
-    (λ k turn e. ((g.met.T.Turns g.world.𝓛 g.world.𝓜 g.world.𝓡 ((λ s x. x), (λ x. x), (λ x. x), λ x. x)).gap_range c.args.self.now.turns c.args.i k turn e).0) c.args.self.now.in_range c.requires)
+    (few_after (system g.T.Turns.turn_of c.args.self.now) c.args.i c.args.n c.args.tick)

@@ -1,0 +1,70 @@
+-- Clocks: which ticks of a component's turns are kept, and which turn was read last.
+use Rattle.std.specs.Prelude.{◌≡◌, ℕ, ◌+◌, ◌*◌, ◌/◌, ◌%◌, ◌<◌, ◌≤◌, ◌==◌, ◌&&◌, ◌⊎◌, max, nat_le, Bool, if◌then◌else◌, Option, None, Some, IfSome, option_map, List, [], length, slice_get}
+use Rattle.event_keys.specs.declared.key.Key.{Key}
+use Rattle.event_keys.specs.Ranks.{rank}
+use Rattle.task_seed.specs.declared.clock.Clock.{Clock}
+use Rattle.task_seed.specs.declared.setup.Setup.{Setup}
+use Rattle.task_seed.specs.declared.turns.KeyedTurn.{KeyedTurn}
+use Rattle.task_seed.specs.declared.turns.Turn.{Turn}
+use Rattle.task_seed.specs.Machines.{end_rank}
+use Rattle.task_seed.specs.Setups.{system}
+use Rattle.task_seed.specs.Turning.{System, key_of, turn_in}
+
+-- a key that may be that of a turn
+abbrev pub IsTurnKey : Key → Type 0
+IsTurnKey key = (key.number < 4294967296) × (rank key < end_rank)
+
+-- the tick of turn n of component i, if that turn exists
+abbrev pub tick_of : System → ℕ → ℕ → Option ℕ
+tick_of s i n = option_map (λ (key : Key). key.tick) (key_of s i n)
+
+-- the ticks of the turns 0, 256, 512 and so on of component i up to turn n, as far as they exist
+abbrev pub AreKept : System → ℕ → ℕ → List ℕ → Type 0
+AreKept s i n ticks = (k : ℕ) → slice_get ticks k ≡ (if nat_le (256 * k) n then tick_of s i (256 * k) else None)
+
+-- the tick of turn n is to be kept, and isn't
+abbrev pub is_due : List ℕ → ℕ → Bool
+is_due ticks n = (n % 256 == 0) && nat_le (length ticks) (n / 256)
+
+-- of component i of a setup whose turns are read by turn_of
+module _ {T : Type 0} (turn_of : T → ℕ → ℕ → Option Turn) (setup : Setup T) (i : ℕ) where
+  -- this is a turn of the component, with its key
+  abbrev pub IsOwnTurn : KeyedTurn → Type 0
+  IsOwnTurn own = (Some own.key ≡ key_of (system turn_of setup) i own.key.number)
+      × (turn_in (system turn_of setup) i own.key.number ≡ Some own.turn)
+
+  -- the clock is the component's, and what it read is a turn of it
+  pub record IsClock (clock : Clock) : Type 0 where
+    pub component : clock.component ≡ i
+    pub read : IfSome clock.read IsOwnTurn
+
+  -- it reached no turn
+  pub record ReachedNone (clock : Clock) : Type 0 where
+    pub own : IsClock clock
+    pub none : clock.ticks.items ≡ []
+
+  -- it reached turn n, and none after it
+  pub record Reached (clock : Clock) (n : ℕ) : Type 0 where
+    pub own : IsClock clock
+    pub kept : AreKept (system turn_of setup) i n clock.ticks.items
+
+  -- it reached turn n, and perhaps later ones
+  pub record HasReached (clock : Clock) (n : ℕ) : Type 0 where
+    pub last : ℕ
+    pub within : n ≤ last
+    pub reached : Reached clock last
+
+  -- the last turn that it reached is one before turn n, or none is: later ones are the rest
+  pub record IsPast (clock : Clock) (n : ℕ) : Type 0 where
+    pub last : ℕ
+    pub within : n ≤ last + 1
+    pub reached : Reached clock last
+
+  -- turn n is the first, where none was reached, or at most one after the last that was reached
+  abbrev pub CanReach : Clock → ℕ → Type 0
+  CanReach clock n = (ReachedNone clock × (n ≡ 0)) ⊎ IsPast clock n
+
+  -- what reaching turn n makes of a clock
+  pub record Reaching (old : Clock) (n : ℕ) (new : Clock) : Type 0 where
+    pub first : n ≡ 0 → ReachedNone old → Reached new 0
+    pub further : (last : ℕ) → n ≤ last + 1 → Reached old last → Reached new (max last n)

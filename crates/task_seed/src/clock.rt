@@ -1,0 +1,214 @@
+//! The clock of a component: the keys of its turns, on demand.
+ghost use Rattle.std.specs.Prelude.{◌≡◌, ◌<◌, ◌≤◌, ◌+◌, [], None, Some, ◌∷◌, ◌++◌, IfSome, IfNone, IfOk, OnOk, OnErr, IsSome, vec_len, vec_capacity};
+ghost use Rattle.event_keys.specs.Ranks.{rank};
+ghost use Rattle.task_seed.specs.Clocks.{CanReach, HasReached, IsClock, IsTurnKey, Reaching, is_due};
+ghost use Rattle.task_seed.specs.Machines.{end_rank};
+ghost use Rattle.task_seed.specs.Setups.{system};
+ghost use Rattle.task_seed.specs.Turning.{key_of, turn_in};
+
+use crate::setup::Setup;
+use crate::turns::{KeyedTurn, Turn, Turns};
+use crate::walk::Walk;
+use event_keys::Key;
+use event_keys::laws::rank_law;
+use std::alloc::Global;
+use terms::NoMemory;
+
+// A clock keeps the tick of one turn in so many.
+const TURNS_A_TICK: u64 = 256;
+
+/// The clock of a component: it gives the key of any turn that it has reached, by at most 256 questions to the turns and without memory.
+/// For it keeps the tick of each turn that it reached whose number is a multiple of 256. Turns that are taken one after another are read one
+/// after another; where turns were taken back, the next one is looked up.
+#[derive(Drop)]
+pub struct Clock {
+    pub(crate) component: u16,
+    pub(crate) ticks: Vec<u64>,
+    // The turn that was read last, mostly the next one.
+    pub(crate) read: Option<KeyedTurn>,
+    pub(crate) walk: Walk,
+}
+
+impl Clock {
+    /// The clock of a component, which has reached no turn.
+    pub fn new(alloc: Global, component: u16) -> Clock
+        ensures component { result.component ≡ component }
+        ensures ticks { result.ticks.items ≡ [] }
+        ensures read { result.read ≡ None }
+    {
+        Clock {
+            component,
+            ticks: Vec::new(alloc),
+            read: None,
+            walk: Walk::new(),
+        }
+    }
+
+    /// Reaches turn `n`: from here on `key` gives its key. The turn is the first, where none was reached, or at most one after the last that
+    /// was reached.
+    ///
+    /// # Errors
+    ///
+    /// `NoMemory`; then nothing has changed.
+    pub fn reach<T: Turns>(&mut self, setup: &Setup<T>, n: u64) -> Result<(), NoMemory>
+        requires { CanReach T.turn_of setup.now self.old.component self.old n }
+        ensures ok { OnOk result (Reaching T.turn_of setup.now self.old.component self.old n self.new) }
+        ensures err { OnErr result (self.new ≡ record self.old { ticks = self.new.ticks }) }
+        ensures err_ticks { OnErr result (self.new.ticks.items ≡ self.old.ticks.items) }
+    {
+        if n == 0 {
+            return self.reach_first(setup);
+        }
+        if !self.is_due(n) {
+            return Ok(());
+        }
+        match self.key(setup, n - 1) {
+            None => Ok(()),
+            Some(key) => {
+                self.reach_after(setup, key)?;
+                Ok(())
+            }
+        }
+    }
+
+    // Reaches the first turn.
+    fn reach_first<T: Turns>(&mut self, setup: &Setup<T>) -> Result<(), NoMemory>
+        requires { CanReach T.turn_of setup.now self.old.component self.old 0 }
+        ensures ok { OnOk result (Reaching T.turn_of setup.now self.old.component self.old 0 self.new) }
+        ensures err { OnErr result (self.new ≡ record self.old { ticks = self.new.ticks }) }
+        ensures err_ticks { OnErr result (self.new.ticks.items ≡ self.old.ticks.items) }
+    {
+        if self.ticks.is_empty() {
+            if let Some(key) = setup.first_key(self.component) {
+                self.ticks.push(key.tick)?;
+            }
+        }
+        Ok(())
+    }
+
+    // Whether the tick of turn `n` is to be kept, and isn't.
+    #[inline(always)]
+    fn is_due(&self, n: u64) -> bool
+        ensures { result ≡ is_due self.now.ticks.items n }
+    {
+        n % TURNS_A_TICK == 0 && self.ticks.len() as u64 <= n / TURNS_A_TICK
+    }
+
+    /// Reaches the turn after the one of this key, which was reached, and gives its key, if there is one. One question to the turns.
+    ///
+    /// # Errors
+    ///
+    /// `NoMemory`; then nothing has changed.
+    #[inline(always)]
+    pub fn reach_after<T: Turns>(
+        &mut self,
+        setup: &Setup<T>,
+        key: Key,
+    ) -> Result<Option<Key>, NoMemory>
+        requires there { Some key ≡ key_of (system T.turn_of setup.now) self.old.component key.number }
+        requires small { key.number < 4294967296 }
+        requires reached { HasReached T.turn_of setup.now self.old.component self.old key.number }
+        ensures key { IfOk result (λ next. next ≡ key_of (system T.turn_of setup.now) self.old.component (key.number + 1)) }
+        ensures small { IfOk result (λ next. IfSome next IsTurnKey) }
+        ensures ok { OnOk result (Reaching T.turn_of setup.now self.old.component self.old (key.number + 1) self.new) }
+        ensures err { OnErr result (self.new ≡ record self.old { ticks = self.new.ticks }) }
+        ensures err_ticks { OnErr result (self.new.ticks.items ≡ self.old.ticks.items) }
+    {
+        if self.is_due(key.number + 1) {
+            self.ticks.reserve(1)?;
+            return Ok(self.read_and_keep(setup, key));
+        }
+        Ok(self.read_on(setup, key))
+    }
+
+    // The same, where the tick of that turn is to be kept, and there is room for it. It stays a call, so that most turns don't pay for it.
+    #[inline(never)]
+    fn read_and_keep<T: Turns>(&mut self, setup: &Setup<T>, key: Key) -> Option<Key>
+        requires there { Some key ≡ key_of (system T.turn_of setup.now) self.old.component key.number }
+        requires small { key.number < 4294967296 }
+        requires room { vec_len self.old.ticks < vec_capacity self.old.ticks }
+        ensures key { result ≡ key_of (system T.turn_of setup.now) self.old.component (key.number + 1) }
+        ensures small { IfSome result IsTurnKey }
+        ensures own { IsClock T.turn_of setup.now self.old.component self.old → IsClock T.turn_of setup.now self.old.component self.new }
+        ensures some { IfSome result (λ next. self.new.ticks.items ≡ self.old.ticks.items ++ next.tick ∷ []) }
+        ensures none { IfNone result (self.new.ticks.items ≡ self.old.ticks.items) }
+    {
+        let next = self.read_on(setup, key)?;
+        self.ticks.push_reserved(next.tick);
+        Some(next)
+    }
+
+    // Reads the turn after the one of this key.
+    #[inline(always)]
+    fn read_on<T: Turns>(&mut self, setup: &Setup<T>, key: Key) -> Option<Key>
+        requires there { Some key ≡ key_of (system T.turn_of setup.now) self.old.component key.number }
+        requires small { key.number < 4294967296 }
+        ensures key { result ≡ key_of (system T.turn_of setup.now) self.old.component (key.number + 1) }
+        ensures small { IfSome result IsTurnKey }
+        ensures own { IsClock T.turn_of setup.now self.old.component self.old → IsClock T.turn_of setup.now self.old.component self.new }
+        ensures ticks { self.new.ticks ≡ self.old.ticks }
+    {
+        let next = setup.turn_after(self.component, key, &mut self.walk)?;
+        is_timed(next.key);
+        self.read = Some(next);
+        Some(next.key)
+    }
+
+    /// The key of turn `n`, which was reached, if that turn exists. At most 256 questions to the turns, and no memory.
+    pub fn key<T: Turns>(&self, setup: &Setup<T>, n: u64) -> Option<Key>
+        requires { HasReached T.turn_of setup.now self.now.component self.now n }
+        ensures value { result ≡ key_of (system T.turn_of setup.now) self.now.component n }
+        ensures bounded { IfSome result (λ key. key.number < 4294967296) }
+    {
+        if let Some(read) = self.read {
+            if read.key.number == n {
+                return Some(read.key);
+            }
+        }
+        let tick = *self.ticks.get((n / TURNS_A_TICK) as usize)?;
+        let kept = Key {
+            tick,
+            component: self.component,
+            number: n - n % TURNS_A_TICK,
+        };
+        key_from(setup, kept, n)
+    }
+
+    /// Turn `n`, which exists, its task below the number of the component's tasks (0 where it has none). One question to the turns, and none
+    /// where this turn was read last.
+    #[inline]
+    pub fn turn<T: Turns>(&self, setup: &Setup<T>, n: u64) -> Option<Turn>
+        requires there { IsSome (key_of (system T.turn_of setup.now) self.now.component n) }
+        requires own { IsClock T.turn_of setup.now self.now.component self.now }
+        ensures { result ≡ turn_in (system T.turn_of setup.now) self.now.component n }
+    {
+        match self.read {
+            Some(read) if read.key.number == n => Some(read.turn),
+            _ => setup.turn_at(self.component, n),
+        }
+    }
+}
+
+// The key of turn `n`, if it exists, by the key of one before it, or its own.
+fn key_from<T: Turns>(setup: &Setup<T>, from: Key, n: u64) -> Option<Key>
+    requires there { Some from ≡ key_of (system T.turn_of setup.now) from.component from.number }
+    requires small { from.number < 4294967296 }
+    requires low { from.number ≤ n }
+    ensures value { result ≡ key_of (system T.turn_of setup.now) from.component n }
+    ensures bounded { IfSome result (λ key. key.number < 4294967296) }
+{
+    let mut key = from;
+    let mut walk = Walk::new();
+    while key.number < n {
+        key = setup.turn_after(from.component, key, &mut walk)?.key;
+    }
+    Some(key)
+}
+
+// The rank of a key is below the end's.
+#[tactic(auto, unfolding(crate::specs::Machines::end_rank))]
+fn is_timed(key: Key)
+    ensures { rank key < end_rank }
+{
+    rank_law(key);
+}
