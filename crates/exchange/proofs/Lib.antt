@@ -1,7 +1,7 @@
 mod Leasing
 mod Delivering
 mod Passing
-mod Walking
+mod Repeated
 mod Committing
 mod Starting
 mod Below

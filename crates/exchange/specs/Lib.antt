@@ -9,5 +9,4 @@ pub mod Refusals
 pub mod Same
 pub mod SameLaws
 pub mod Core
-pub mod Walks
 pub mod Seen

@@ -16,7 +16,6 @@ ghost use Rattle.rollback.specs.ComponentView.{machine_of};
 ghost use Rattle.gvt.specs.Least.{IsLeast};
 ghost use Rattle.exchange.specs.declared.stub.Stub.{Stub as StubValue};
 ghost use Rattle.exchange.specs.ExchangeView.{ArePassing, HavePassed, clear_until, has_mail, is_end, is_ended, IsValidExchange};
-ghost use Rattle.exchange.specs.Walks.{AreWalks};
 ghost use Rattle.std.specs.List.{list_all};
 ghost use Rattle.exchange.specs.Seen.{HasCommitted, IsOneCommit, IsSoundExchange};
 
@@ -40,8 +39,8 @@ use virtual_time::reference::reference_is_counted;
 pub struct Exchange<T: Turns> {
     pub(crate) setup: Arc<Setup<T>>,
     pub(crate) stubs: Vec<Stub>,
-    // For each component what its turns are read off as they are committed.
-    pub(crate) walks: Vec<Option<Walk>>,
+    // For each component the walk by which its turns are read as they are committed.
+    pub(crate) walks: Vec<Walk>,
     pub(crate) bound: Bound,
     // For each component its turns that were taken in and not given.
     pub(crate) held: Vec<Queue>,
@@ -50,11 +49,12 @@ pub struct Exchange<T: Turns> {
 }
 
 impl<T: Turns> Model for Exchange<T> {
+    ghost use Rattle.std.specs.Prelude.{◌≡◌, length};
     ghost use Rattle.std.specs.Arc.{arc_value};
+    ghost use Rattle.plans.specs.Plans.{composition};
     ghost use Rattle.task_seed.specs.declared.setup.Setup.{Setup};
-    ghost use Rattle.task_seed.specs.Setups.{system};
+    ghost use Rattle.task_seed.specs.Setups.{plan_of, system};
     ghost use Rattle.exchange.specs.ExchangeView.{ExchangeView, IsValidExchange};
-    ghost use Rattle.exchange.specs.Walks.{AreWalks};
     ghost use Rattle.std.specs.Coded.{codes};
     ghost use Rattle.terms.specs.Datum.{datum_code};
     ghost use Rattle.terms.specs.contracts.scalar.Shape as shape;
@@ -67,7 +67,7 @@ impl<T: Turns> Model for Exchange<T> {
 
     ghost view = { λ e. record { setup = arc_value e.setup; stubs = e.stubs.items; bound = e.bound; held = e.held.items; given = e.given } };
 
-    ghost invariant = { λ e. AreWalks T.stands (arc_value e.setup) e.walks.items × IsValidExchange (system T.turn_of (arc_value e.setup)) (record { setup = arc_value e.setup; stubs = e.stubs.items; bound = e.bound; held = e.held.items; given = e.given }) };
+    ghost invariant = { λ e. (length e.walks.items ≡ length (composition (plan_of (arc_value e.setup)))) × IsValidExchange (system T.turn_of (arc_value e.setup)) (record { setup = arc_value e.setup; stubs = e.stubs.items; bound = e.bound; held = e.held.items; given = e.given }) };
 }
 
 impl<T: Turns> Exchange<T> {
@@ -201,17 +201,11 @@ pub(crate) fn is_bounded(bound: Bound)
 }
 
 // Counts all turns below a bound.
-fn pass_all<T: Turns>(
-    setup: &Setup<T>,
-    stubs: &mut [Stub],
-    walks: &mut [Option<Walk>],
-    bound: Bound,
-) -> u64
-    requires walks { AreWalks T.stands setup.now walks.old }
+fn pass_all<T: Turns>(setup: &Setup<T>, stubs: &mut [Stub], walks: &mut [Walk], bound: Bound) -> u64
+    requires walks { length walks.old ≡ length (composition (plan_of setup.now)) }
     requires many { length stubs.old ≡ length (composition (plan_of setup.now)) }
     requires passing { ArePassing (system T.turn_of setup.now) bound stubs.old }
     requires end { rank_of_bound bound ≤ end_rank }
-    ensures walks { AreWalks T.stands setup.now walks.new }
     ensures items { length walks.new ≡ length walks.old }
     ensures stubs { HavePassed (system T.turn_of setup.now) bound stubs.old stubs.new }
     ensures many { length stubs.new ≡ length stubs.old }

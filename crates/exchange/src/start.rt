@@ -17,7 +17,7 @@ use rollback::{Component, Copies};
 use std::alloc::Global;
 use std::sync::Arc;
 use task_seed::laws::machine_is_lawful;
-use task_seed::{Setup, Turns};
+use task_seed::{Setup, Turns, Walk};
 use terms::{Action, NoMemory, State};
 use virtual_time::exchanges::{exchange_is_core, exchange_is_sound};
 use virtual_time::worlds::{committed_is_reference, each_step_is_answered};
@@ -105,7 +105,7 @@ impl<T: Turns> Exchange<T> {
         let mut leases = Vec::new(alloc);
         for i in 0..setup.plan().components() {
             stubs.push(start_stub(&setup, i))?;
-            walks.push(None)?;
+            walks.push(Walk::new())?;
             held.push(Queue::empty())?;
             leases.push(start_lease(alloc, Arc::try_clone(&setup)?, i)?)?;
         }

@@ -6,7 +6,6 @@ ghost use Rattle.task_seed.specs.Setups.{system, plan_of};
 ghost use Rattle.task_seed.specs.Turning.{key_of};
 ghost use Rattle.task_seed.specs.Machines.{turn_rank, end_rank};
 ghost use Rattle.exchange.specs.ExchangeView.{earlier, clear_until, is_ahead_below};
-ghost use Rattle.exchange.specs.Walks.{StandsBeforeTurn};
 
 use antimessage::Bag;
 use event_keys::laws::bound_rank_law;
@@ -57,21 +56,19 @@ impl Stub {
         }
     }
 
-    // Counts the turns of the component `i` below a bound, and reads on by its walk.
+    // Counts the turns of the component `i` below a bound, which are read by its walk.
     pub(crate) fn pass_turns<T: Turns>(
         &mut self,
         setup: &Setup<T>,
         i: u16,
-        walk: &mut Option<Walk>,
+        walk: &mut Walk,
         bound: Bound,
     )
-        requires walk { IfSome walk.old (StandsBeforeTurn T.stands setup.now i) }
         requires there { i < length (composition (plan_of setup.now)) }
         requires ahead { self.old.ahead ≡ key_of (system T.turn_of setup.now) i self.old.passed }
         requires small { IfSome self.old.ahead (λ key. key.number < 4294967296) }
         requires few { self.old.passed ≤ 4294967296 }
         requires before { (n : ℕ) → n < self.old.passed → turn_rank (system T.turn_of setup.now) i n < rank_of_bound bound }
-        ensures walk { IfSome walk.new (StandsBeforeTurn T.stands setup.now i) }
         ensures rest { self.new ≡ record self.old { passed = self.new.passed; ahead = self.new.ahead } }
         ensures ahead { self.new.ahead ≡ key_of (system T.turn_of setup.now) i self.new.passed }
         ensures small { IfSome self.new.ahead (λ key. key.number < 4294967296) }
@@ -90,13 +87,11 @@ impl Stub {
 }
 
 // The key of the turn of component `i` after the one of this key, if there is one.
-fn key_after<T: Turns>(setup: &Setup<T>, i: u16, key: Key, walk: &mut Option<Walk>) -> Option<Key>
+fn key_after<T: Turns>(setup: &Setup<T>, i: u16, key: Key, walk: &mut Walk) -> Option<Key>
     requires there { Some key ≡ key_of (system T.turn_of setup.now) i key.number }
     requires small { key.number < 4294967296 }
-    requires walk { IfSome walk.old (StandsBeforeTurn T.stands setup.now i) }
     ensures key { result ≡ key_of (system T.turn_of setup.now) i (key.number + 1) }
     ensures small { IfSome result (λ next. next.number < 4294967296) }
-    ensures walk { IfSome walk.new (StandsBeforeTurn T.stands setup.now i) }
 {
     let next = setup.turn_after(i, key, walk)?;
     Some(next.key)

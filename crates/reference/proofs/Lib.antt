@@ -5,6 +5,6 @@ pub mod Runs
 mod Scheduled
 mod Stepping
 mod Takers
-mod Unread
+mod Reached
 pub mod Taken
 mod Owning

@@ -1,5 +1,5 @@
 pub mod Queues
-pub mod Reading
+pub mod Clocks
 pub mod Schedules
 pub mod Standing
 pub mod Taking

@@ -7,13 +7,13 @@ ghost use Rattle.task_seed.specs.Setups.{system, plan_of};
 ghost use Rattle.task_seed.specs.Machines.{machine};
 ghost use Rattle.task_seed.specs.Taken.{turned_of};
 ghost use Rattle.reference.specs.Queues.{ArePlaced, HasItsNumber, IsSmall, least_key, place_of};
-ghost use Rattle.reference.specs.Reading.{AreRead};
+ghost use Rattle.reference.specs.Clocks.{AreClocks};
 ghost use Rattle.reference.specs.Standing.{taken_at, IsBeforeLeast};
 ghost use Rattle.reference.specs.Taking.{plain};
 ghost use Rattle.gvt.specs.Tournaments.{IsTournament, node};
 ghost use Rattle.reference.specs.Views.{IsNextTurn, IsComplete};
 
-use crate::readers::Readers;
+use crate::clocks::Clocks;
 use crate::taking::{put_none, take_turn};
 use event_keys::{Key, Outcome, Turned};
 use gvt::tournament::put;
@@ -34,10 +34,10 @@ pub(crate) struct Frontier {
     numbers: Vec<u64>,
     // One state for each component, but inside a call.
     states: Vec<Store>,
-    readers: Readers,
+    clocks: Clocks,
 }
 
-// A component's keys are told apart by their places, since their ticks rise.
+// The tick and the component of a key as one number. No two of the next keys have one, since they are of different components.
 #[inline(always)]
 fn place_of(key: Option<Key>) -> u64
     requires { IfSome key IsSmall }
@@ -133,7 +133,7 @@ impl Frontier {
     pub(crate) fn start<T: Turns>(alloc: Global, setup: &Setup<T>) -> Result<Frontier, NoMemory>
         ensures stands { IfOk result (λ frontier. IsBeforeLeast (system T.turn_of setup.now) frontier.places.items frontier.numbers.items frontier.states.items) }
         ensures none { IfOk result (λ frontier. taken_at (system T.turn_of setup.now) frontier.places.items frontier.numbers.items ≡ []) }
-        ensures read { IfOk result (λ f. AreRead T.turn_of T.stands setup.now f.readers.readers.items) }
+        ensures clocks { IfOk result (λ f. AreClocks T.turn_of setup.now f.numbers.items f.clocks.clocks.items) }
     {
         machine_is_lawful(setup);
         reference_is_one::<State, Action>();
@@ -141,12 +141,12 @@ impl Frontier {
         let places = first_places(alloc, setup)?;
         let numbers = first_numbers(alloc, setup.plan().components())?;
         let states = start_states(alloc, setup.plan())?;
-        let readers = Readers::new(alloc, setup)?;
+        let clocks = Clocks::new(alloc, setup)?;
         Ok(Frontier {
             places,
             numbers,
             states,
-            readers,
+            clocks,
         })
     }
 
@@ -158,9 +158,9 @@ impl Frontier {
         setup: &Setup<T>,
     ) -> Result<Option<Turned>, NoMemory>
         requires stands { IsBeforeLeast (system T.turn_of setup.now) self.old.places.items self.old.numbers.items self.old.states.items }
-        requires read { AreRead T.turn_of T.stands setup.now self.old.readers.readers.items }
+        requires clocks { AreClocks T.turn_of setup.now self.old.numbers.items self.old.clocks.clocks.items }
         ensures stands { IsBeforeLeast (system T.turn_of setup.now) self.new.places.items self.new.numbers.items self.new.states.items }
-        ensures read { AreRead T.turn_of T.stands setup.now self.new.readers.readers.items }
+        ensures clocks { AreClocks T.turn_of setup.now self.new.numbers.items self.new.clocks.clocks.items }
         ensures ok { IfOk result (λ turn. IsNextTurn (machine (system T.turn_of setup.now)) (taken_at (system T.turn_of setup.now) self.old.places.items self.old.numbers.items) turn (taken_at (system T.turn_of setup.now) self.new.places.items self.new.numbers.items)) }
         ensures err_places { OnErr result (self.new.places.items ≡ self.old.places.items) }
         ensures err_numbers { OnErr result (self.new.numbers.items ≡ self.old.numbers.items) }
@@ -180,9 +180,9 @@ impl Frontier {
         found: &mut Option<Action>,
     ) -> Result<Option<Key>, NoMemory>
         requires stands { IsBeforeLeast (system T.turn_of setup.now) self.old.places.items self.old.numbers.items self.old.states.items }
-        requires read { AreRead T.turn_of T.stands setup.now self.old.readers.readers.items }
+        requires clocks { AreClocks T.turn_of setup.now self.old.numbers.items self.old.clocks.clocks.items }
         ensures stands { IsBeforeLeast (system T.turn_of setup.now) self.new.places.items self.new.numbers.items self.new.states.items }
-        ensures read { AreRead T.turn_of T.stands setup.now self.new.readers.readers.items }
+        ensures clocks { AreClocks T.turn_of setup.now self.new.numbers.items self.new.clocks.clocks.items }
         ensures ok { IfOk result (λ key. IsNextTurn (machine (system T.turn_of setup.now)) (taken_at (system T.turn_of setup.now) self.old.places.items self.old.numbers.items) (option_map (turned_of found.new) key) (taken_at (system T.turn_of setup.now) self.new.places.items self.new.numbers.items)) }
         ensures last { IfOk result (λ key. IfNone key (found.new ≡ None)) }
         ensures err_places { OnErr result (self.new.places.items ≡ self.old.places.items) }
@@ -197,9 +197,12 @@ impl Frontier {
             put_none(found);
             return Ok(None);
         };
-        let turn = self.readers.turn(setup, key);
+        let turn = self.clocks.turn(setup, key, &self.numbers);
+        let Ok(next) = self.clocks.reach_after(setup, key, &self.numbers) else {
+            put_none(found);
+            return Err(NoMemory);
+        };
         take_turn(alloc, setup, key, turn, &mut self.states, found)?;
-        let next = self.readers.read_on(setup, key);
         move_on(&mut self.places, &mut self.numbers, key, next);
         Ok(Some(key))
     }

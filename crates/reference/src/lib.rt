@@ -2,9 +2,9 @@
 #![tactic(auto)]
 
 pub mod checking;
+mod clocks;
 mod frontier;
 pub mod laws;
-mod readers;
 pub mod scheduling;
 pub mod simulator;
 mod taking;

@@ -4,7 +4,7 @@ ghost use Rattle.task_seed.specs.Setups.{system, plan_of};
 ghost use Rattle.task_seed.specs.Machines.{machine, end_rank};
 ghost use Rattle.task_seed.specs.Taken.{turns_of};
 ghost use Rattle.virtual_time.specs.Reference.{IsReference, reference_below};
-ghost use Rattle.reference.specs.Reading.{AreRead};
+ghost use Rattle.reference.specs.Clocks.{AreClocks};
 ghost use Rattle.reference.specs.Standing.{taken_at, IsBeforeLeast};
 ghost use Rattle.reference.specs.Schedules.{AreAllTurns};
 
@@ -24,7 +24,7 @@ fn take_all<T: Turns>(
     frontier: &mut Frontier,
 ) -> Result<Vec<Turned>, NoMemory>
     requires stands { IsBeforeLeast (system T.turn_of setup.now) frontier.old.places.items frontier.old.numbers.items frontier.old.states.items }
-    requires read { AreRead T.turn_of T.stands setup.now frontier.old.readers.readers.items }
+    requires clocks { AreClocks T.turn_of setup.now frontier.old.numbers.items frontier.old.clocks.clocks.items }
     requires none { taken_at (system T.turn_of setup.now) frontier.old.places.items frontier.old.numbers.items ≡ [] }
     ensures reference { IfOk result (λ turns. IsReference (machine (system T.turn_of setup.now)) end_rank (turns_of turns.items)) }
     ensures turns { IfOk result (λ turns. turns_of turns.items ≡ reference_below (machine (system T.turn_of setup.now)) end_rank) }

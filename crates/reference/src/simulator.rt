@@ -37,13 +37,13 @@ impl<T: Turns> Model for Reference<T> {
     ghost coded = { Prim.hlevel (codes, shape.the_row.coded, term.the_row.coded, effect.the_row.coded, datum_code) };
 
     ghost use Rattle.task_seed.specs.Setups.{system};
-    ghost use Rattle.reference.specs.Reading.{AreRead};
+    ghost use Rattle.reference.specs.Clocks.{AreClocks};
     ghost use Rattle.reference.specs.Standing.{taken_at, IsBeforeLeast};
 
     ghost view = { λ r. record { setup = arc_value r.setup; taken = taken_at (system T.turn_of (arc_value r.setup)) r.frontier.places.items r.frontier.numbers.items } };
 
     ghost invariant = { λ r. IsBeforeLeast (system T.turn_of (arc_value r.setup)) r.frontier.places.items r.frontier.numbers.items r.frontier.states.items
-        × AreRead T.turn_of T.stands (arc_value r.setup) r.frontier.readers.readers.items };
+        × AreClocks T.turn_of (arc_value r.setup) r.frontier.numbers.items r.frontier.clocks.clocks.items };
 }
 
 impl<T: Turns> Reference<T> {

@@ -91,7 +91,7 @@ module _ (s : System) (i : ℕ) where
       go rest true = ready
       go rest false = rest
 
-  cut_number : (first c : ℕ) (ds : List Done) → number (number first (entries_of (dones_below c ds))) (entries_of (dones_from c ds)) ≡ number first (entries_of ds)
+  pub cut_number : (first c : ℕ) (ds : List Done) → number (number first (entries_of (dones_below c ds))) (entries_of (dones_from c ds)) ≡ number first (entries_of ds)
   cut_number first c ds =
       (λ v. number (number first (entries_below c ds v)) (entries_from c ds v)) ∙ number_cut c first (entries_of ds)
 

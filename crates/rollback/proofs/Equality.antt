@@ -34,7 +34,7 @@ use Rattle.task_seed.specs.Turning.{System, has_turns, ticks, key_at, key_of}
 use Rattle.message_balance.specs.declared.done.Done.{Done}
 use Rattle.message_balance.specs.declared.done.Done.TheVariants.{Turn, Input}
 use Rattle.rollback.specs.Flight.{items_of, AllGo}
-use Rattle.task_seed.specs.Reading.{IsTurnKey}
+use Rattle.task_seed.specs.Clocks.{IsTurnKey}
 use Rattle.rollback.specs.ComponentInvariant.{entry_of, entries_of, IsReady, AllReady, base_state, record_of, IsQueue, IsValidComponent}
 use Rattle.message_balance.specs.Same.{same_done}
 use Rattle.rollback.specs.Same.{same_item, same_entry, same_events, same_held}

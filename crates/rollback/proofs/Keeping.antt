@@ -23,7 +23,7 @@ use Rattle.virtual_time.specs.Bags.{IsSorted, inputs}
 use Rattle.virtual_time.specs.Records.{is_input}
 use Rattle.event_keys.specs.contracts.message.MessagePartialEq.TheImpl as message_eq
 use Rattle.antimessage.specs.Counts.{is_same}
-use Rattle.task_seed.specs.Reading.{IsTurnKey}
+use Rattle.task_seed.specs.Clocks.{IsTurnKey}
 use Rattle.rollback.specs.ComponentInvariant.{is_entry_input, is_any_input}
 use Rattle.rollback.proofs.Flight.{item_same}
 use Rattle.rollback.specs.Falling.{IsFalling}

@@ -3,6 +3,7 @@ mod Posts
 mod Replays
 pub mod Sending
 mod Falling
+mod Clocks
 mod Keeping
 mod Stepping
 mod Unwinding

@@ -32,7 +32,7 @@ use Rattle.message_balance.specs.declared.done.Done.{Done}
 use Rattle.message_balance.specs.declared.done.Done.TheVariants.{Turn, Input}
 use Rattle.message_balance.specs.declared.sent.Sent.{Sent}
 use Rattle.rollback.specs.Flight.{in_flight, item_of}
-use Rattle.task_seed.specs.Reading.{IsTurnKey}
+use Rattle.task_seed.specs.Clocks.{IsTurnKey}
 use Rattle.rollback.specs.ComponentInvariant.{AllReady, IsValidComponent, IsReady, entries_of, record_of, signed_of}
 use Rattle.message_balance.specs.Balance.{all_of, count_as, is_all_sent, is_sending_of, is_sent_if_from, is_sent_balanced, is_turn_balanced}
 use Rattle.rollback.specs.Matched.{IsStanding}

@@ -22,7 +22,7 @@ use Rattle.virtual_time.specs.Entries.{Entry, Own, Input as Received, entry_key,
 use Rattle.virtual_time.specs.Records.{Record}
 use Rattle.task_seed.specs.Turning.{System, key_of}
 use Rattle.task_seed.specs.Machines.{machine, end_rank}
-use Rattle.task_seed.specs.Reading.{IsTurnKey}
+use Rattle.task_seed.specs.Clocks.{IsTurnKey}
 use Rattle.message_balance.specs.declared.done.Done.{Done}
 use Rattle.message_balance.specs.declared.done.Done.TheVariants.{Turn, Input}
 use Rattle.rollback.specs.Falling.{IsFalling}
@@ -60,6 +60,10 @@ IsReady s i n (Input signed) = (goes Plus i signed ≡ true) × Fits signed × (
 abbrev pub AllReady : System → ℕ → ℕ → List Done → Type 0
 AllReady s i first [] = Unit {0}
 AllReady s i first (d ∷ done) = IsReady s i (number first (entries_of done)) d × AllReady s i first done
+
+-- the number of the next own turn, where that of the first after the base is given
+abbrev pub next_number : ℕ → Around Done → ℕ
+next_number first done = number first (entries_of done.before)
 
 -- the key is below the end
 abbrev pub IsTimed : Signed → Type 0

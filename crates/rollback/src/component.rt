@@ -12,7 +12,7 @@ ghost use Rattle.virtual_time.specs.Records.{roll_back_of};
 ghost use Rattle.task_seed.specs.Setups.{plan_of};
 ghost use Rattle.task_seed.specs.Setups.{system};
 ghost use Rattle.task_seed.specs.Turning.{key_of};
-ghost use Rattle.task_seed.specs.Reading.{IsTurnKey};
+ghost use Rattle.task_seed.specs.Clocks.{HasReached, IsTurnKey};
 ghost use Rattle.rollback.specs.ComponentView.{machine_of, processed, next_key, last_key, last_of, is_last_idle, is_receiving, is_turning, start_held};
 ghost use Rattle.rollback.specs.ComponentInvariant.{entry_of, turn_receivers};
 ghost use Rattle.rollback.specs.Stepped.{HasNextKey, IsNextSent, IsNextTurn, IsUnsent, machine_at, next_entry, stepped};
@@ -30,7 +30,7 @@ use std::alloc::Global;
 use std::marker::Model;
 use std::mem::swap;
 use std::sync::Arc;
-use task_seed::{Setup, TurnReader, Turns};
+use task_seed::{Clock, Setup, Turns};
 use terms::NoMemory;
 use undo_records::Store;
 
@@ -52,8 +52,8 @@ pub struct Component<T: Turns> {
     pub(crate) owed: EventList<Signed>,
     // The key of the next turn, if there is one.
     pub(crate) coming: Option<Key>,
-    // What was read of the turns from the next one on.
-    pub(crate) ahead: TurnReader,
+    // It has reached the next turn.
+    pub(crate) clock: Clock,
     pub(crate) spares: Spares,
 }
 
@@ -72,12 +72,12 @@ impl<T: Turns> Model for Component<T> {
     ghost coded = { Prim.hlevel (codes, shape.the_row.coded, term.the_row.coded, effect.the_row.coded, datum_code) };
 
     ghost use Rattle.task_seed.specs.Setups.{system};
-    ghost use Rattle.rollback.specs.ComponentInvariant.{record_of, IsValidComponent};
-    ghost use Rattle.task_seed.specs.Reading.{IsRead};
+    ghost use Rattle.rollback.specs.ComponentInvariant.{record_of, next_number, IsValidComponent};
+    ghost use Rattle.task_seed.specs.Clocks.{HasReached};
 
     ghost view = { λ c. record { setup = arc_value c.setup; number = c.number; base = c.base; history = record_of c.store c.first c.done c.pending c.owed } };
 
-    ghost invariant = { λ c. IsValidComponent (system T.turn_of (arc_value c.setup)) c.number c.first c.store c.done c.pending c.owed c.coming × IsRead T.turn_of T.stands (arc_value c.setup) c.number c.ahead };
+    ghost invariant = { λ c. IsValidComponent (system T.turn_of (arc_value c.setup)) c.number c.first c.store c.done c.pending c.owed c.coming × HasReached T.turn_of (arc_value c.setup) c.number c.clock (next_number c.first c.done) };
 }
 
 impl<T: Turns> Component<T> {
@@ -88,6 +88,8 @@ impl<T: Turns> Component<T> {
     {
         let state = setup.plan().start(alloc, number)?;
         let store = Store::new(alloc, state)?;
+        let mut clock = Clock::new(alloc, number);
+        clock.reach(&setup, 0)?;
         let coming = first_key(&setup, number);
         Ok(Component {
             setup,
@@ -103,7 +105,7 @@ impl<T: Turns> Component<T> {
             pending: EventList::new(),
             owed: EventList::new(),
             coming,
-            ahead: TurnReader::new(),
+            clock,
             spares: Spares::new(),
         })
     }
@@ -282,6 +284,7 @@ impl<T: Turns> Component<T> {
         ensures silent { (bag : List SignedValue) → IsNextSent T.turn_of self.old bag bag }
         ensures kept { OnErr result (self.new ≡ self.old) }
     {
+        let next = self.clock.reach_after(&self.setup, key)?;
         take_idle(
             alloc,
             &self.setup,
@@ -291,7 +294,7 @@ impl<T: Turns> Component<T> {
             &mut self.done,
             &mut self.spares,
         )?;
-        self.coming = self.ahead.read_on(&self.setup, self.number, key);
+        self.coming = next;
         Ok(key)
     }
 
@@ -303,7 +306,7 @@ impl<T: Turns> Component<T> {
         let Some(key) = self.coming else {
             unreachable!();
         };
-        let turn = self.ahead.turn(&self.setup, self.number, key.number);
+        let turn = self.clock.turn(&self.setup, key.number);
         let outcome = outcome_at(
             alloc,
             &self.setup,
@@ -332,6 +335,7 @@ impl<T: Turns> Component<T> {
         ensures out_kept { OnErr result (out.new ≡ out.old) }
     {
         let key = turned.key;
+        let next = self.clock.reach_after(&self.setup, key)?;
         take_turn(
             alloc,
             &self.setup,
@@ -343,7 +347,7 @@ impl<T: Turns> Component<T> {
             &mut self.spares,
             out,
         )?;
-        self.coming = self.ahead.read_on(&self.setup, self.number, key);
+        self.coming = next;
         Ok(key)
     }
 

@@ -5,15 +5,7 @@ use Rattle.task_seed.specs.Setups.{system}
 use Rattle.task_seed.specs.Machines.{machine}
 use Rattle.exchange.specs.ExchangeView.{passing, IsPassing}
 use Rattle.exchange.proofs.Passing.{passing_here, done_more, rest_more, count_more, passed_more, all_done, all_before, slice_set-length}
-use Rattle.exchange.proofs.Walking.{walk_here, walks_more}
 use Rattle.exchange.proofs.exchange.pass_all.Goals as goal
-
-pub pass_turns-requires-clause-walk : goal.pass_turns-requires-clause-walk
-pass_turns-requires-clause-walk g c = λ _ _.
-    let l = c.loop-i in
-    let count = c.components-i-end.ensures ∙ ap (λ p. length (composition p)) c.plan.ensures in
-    let there : c.from-in-loop-i.result < length l.walks = omega (arith, l.invariant.walks.many, c.from-in-loop-i.ensures, c.loop-i-test.true, count) in
-    walk_here g.T.Turns.stands c.args.setup.now l.walks l.i c.from-in-loop-i.result c.from-in-loop-i.ensures there l.invariant.walks c.index-walks-from.result
 
 pub pass_turns-requires-clause-small : goal.pass_turns-requires-clause-small
 pass_turns-requires-clause-small g c = λ _ _.
@@ -63,9 +55,7 @@ loop-i-preserved g c =
     let short : l.i < length l.stubs = omega (arith, l.invariant.many, c.requires.many, c.loop-i-test.true, count) in
     let new = c.pass_turns.new.self in
     let e = c.pass_turns.ensures in
-    let there : c.from-in-loop-i.result < length l.walks = omega (arith, l.invariant.walks.many, c.from-in-loop-i.ensures, c.loop-i-test.true, count) in
     record {
-      walks = walks_more g.T.Turns.stands c.args.setup.now l.walks l.i c.from-in-loop-i.result c.from-in-loop-i.ensures there l.invariant.walks c.pass_turns.new.walk c.pass_turns.ensures.walk;
       items = slice_set-length l.walks c.from-in-loop-i.result c.pass_turns.new.walk ∙ l.invariant.items;
       many = slice_set-length l.stubs c.from.result new ∙ l.invariant.many;
       done = done_more s b law c.requires.end before from c.args.stubs.now l.stubs l.i c.from.result c.index-stubs-from.result c.from.ensures l.invariant.rest short new e.rest e.ahead e.before (e.from c.requires.end) l.invariant.done;

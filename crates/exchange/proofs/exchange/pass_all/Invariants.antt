@@ -6,7 +6,6 @@ use Rattle.task_seed.specs.Setups.{system}
 use Rattle.rollback.specs.ComponentView.{machine_of}
 use Rattle.exchange.specs.declared.stub.Stub.{Stub}
 use Rattle.exchange.specs.ExchangeView.{passing, IsPassing}
-use Rattle.exchange.specs.Walks.{AreWalks}
 use Rattle.exchange.proofs.exchange.pass_all.Given as goal
 
 abbrev pub invariant-loop-i : goal.invariant-loop-i
@@ -14,7 +13,6 @@ invariant-loop-i g l =
     let s = system g.T.Turns.turn_of l.setup in
     let b = rank_of_bound l.bound in
     record {
-      walks : AreWalks g.T.Turns.stands l.setup l.walks;
       items : length l.walks ≡ length l.initial.walks;
       many : length l.stubs ≡ length l.initial.stubs;
       done : (j : ℕ) → j < l.i → slice_get l.stubs j ≡ option_map (passing s b j) (slice_get l.initial.stubs j);

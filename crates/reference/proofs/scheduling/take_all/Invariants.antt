@@ -3,14 +3,14 @@ use Rattle.task_seed.specs.Setups.{system}
 use Rattle.task_seed.specs.Machines.{machine, end_rank}
 use Rattle.task_seed.specs.Taken.{turns_of}
 use Rattle.virtual_time.specs.Reference.{reference_below}
-use Rattle.reference.specs.Reading.{AreRead}
+use Rattle.reference.specs.Clocks.{AreClocks}
 use Rattle.reference.specs.Standing.{taken_at, IsBeforeLeast}
 use Rattle.reference.proofs.scheduling.take_all.Given as goal
 
 abbrev pub invariant-loop-turns : goal.invariant-loop-turns
 invariant-loop-turns g l = record {
   stands : IsBeforeLeast (system g.T.Turns.turn_of l.setup) l.frontier.places.items l.frontier.numbers.items l.frontier.states.items;
-  read : AreRead g.T.Turns.turn_of g.T.Turns.stands l.setup l.frontier.readers.readers.items;
+  clocks : AreClocks g.T.Turns.turn_of l.setup l.frontier.numbers.items l.frontier.clocks.clocks.items;
   taken : turns_of l.turns.items ≡ taken_at (system g.T.Turns.turn_of l.setup) l.frontier.places.items l.frontier.numbers.items;
 }
 

@@ -11,7 +11,6 @@ returns g c =
     let m = machine s in
     let law = c.machine_is_lawful.ensures.lawful in
     let counted = c.machine_is_lawful.ensures.counted in
-    let turns = g.met.T.Turns g.world.𝓛 g.world.𝓜 g.world.𝓡 ((λ s x. x), (λ x. x), (λ x. x), λ x. x) in
     record {
       lawful = law;
       counted = counted;
@@ -43,6 +42,6 @@ returns g c =
         before = λ b i n. c.reference_is_counted.ensures.before m b i n law;
       };
       small = subst (λ n. n < 65536) (c.components-count.ensures ∙ ap (λ p. length (composition p)) c.plan.ensures) c.components-count.type_inv;
-      few = few_turns s c.args.setup.now.in_range (λ i n turn is. (turns.gap_range c.args.setup.now.turns i n turn is).0);
+      few = few_turns s;
       top = end_is;
     }

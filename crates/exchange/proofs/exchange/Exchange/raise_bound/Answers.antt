@@ -13,7 +13,6 @@ use Rattle.rollback.specs.ComponentView.{machine_of}
 use Rattle.gvt.specs.Least.{IsLeast}
 use Rattle.exchange.specs.declared.stub.Stub.{Stub}
 use Rattle.exchange.specs.ExchangeView.{ExchangeView, IsValidExchange, IsPassing, exchange_of, clear_until, passing}
-use Rattle.exchange.specs.Walks.{AreWalks}
 use Rattle.exchange.proofs.Committing.{committed, kept, passing_before}
 use Rattle.exchange.proofs.exchange.Exchange.raise_bound.Goals as goal
 
@@ -50,10 +49,9 @@ invariant_of-self g c =
     let made = committed s e c.self.invariant.1 counted bound least c.is_bounded.ensures all.new.stubs passed in
     let sound = c.exchange_is_sound.ensures.commit (machine s) (length s.composition) (exchange_of (machine s) e) (exchange_of (machine s) (record e { bound = bound; stubs = all.new.stubs })) law c.self.invariant.1.sound made in
     let items : (with_items f.stubs all.new.stubs).items ≡ all.new.stubs = with_items_is f.stubs all.new.stubs (all.ensures.many ∙ c.deref_mut.ensures.len) in
-    let read : AreWalks g.T.Turns.stands (arc_value f.setup) (with_items f.walks all.new.walks).items
-    = subst (λ l. AreWalks g.T.Turns.stands (arc_value f.setup) l) (sym (with_items_is f.walks all.new.walks (all.ensures.items ∙ c.deref_mut-2.ensures.len)))
-    (subst (λ p. AreWalks g.T.Turns.stands p all.new.walks) c.deref-3.ensures all.ensures.walks) in
-    (read, subst (λ l. IsValidExchange s (record e { bound = bound; stubs = l })) (sym items) (kept s e c.self.invariant.1 counted bound least c.is_bounded.ensures all.new.stubs passed sound many passing_all))
+    let walks : length (with_items f.walks all.new.walks).items ≡ length s.composition
+    = ap length (with_items_is f.walks all.new.walks (all.ensures.items ∙ c.deref_mut-2.ensures.len)) ∙ all.ensures.items ∙ ap length c.deref_mut-2.ensures.value ∙ c.self.invariant.0 in
+    (walks, subst (λ l. IsValidExchange s (record e { bound = bound; stubs = l })) (sym items) (kept s e c.self.invariant.1 counted bound least c.is_bounded.ensures all.new.stubs passed sound many passing_all))
 
 pub returns-clause-commit : goal.returns-clause-commit
 returns-clause-commit g c =

@@ -1,5 +1,5 @@
 use Rattle.rollback.specs.ComponentView.{lowest_bound}
-use Rattle.std.proofs.Common.{◌≡◌, None, [], ◌∷◌, ◌++◌, map, length, refl, sym, ap, subst, ◌∙◌, arith}
+use Rattle.std.proofs.Common.{◌≡◌, [], ◌∷◌, ◌++◌, ◌+◌, map, length, length-append, refl, sym, ap, subst, ◌∙◌, arith}
 use Rattle.std.proofs.lemmas.List.FromFn.{map-range_with_len_more}
 use Rattle.std.specs.Prelude.{replicate}
 use Rattle.std.specs.Arc.{arc_value}
@@ -11,7 +11,7 @@ use Rattle.virtual_time.specs.Machine.{Lawful}
 use Rattle.exchange.specs.ExchangeView.{ExchangeView}
 use Rattle.exchange.specs.Start.{start_stub, start_holding}
 use Rattle.exchange.proofs.Starting.{shared_kept}
-use Rattle.exchange.proofs.Walking.{same_more, none_walks}
+use Rattle.exchange.proofs.Repeated.{same_more}
 use Rattle.exchange.proofs.exchange.Exchange.start.Goals as goal
 
 pub invariant_of-exchange : goal.invariant_of-exchange
@@ -25,7 +25,7 @@ invariant_of-exchange g c =
     let all : c.loop-i.i ≡ length s.composition = omega (arith, c.loop-i-test.false, count, c.loop-i.auto.i-end) in
     let stubs = c.loop-i.invariant.stubs ∙ ap (λ n. map (start_stub s) (range_with_len 0 n)) all in
     let e : ExchangeView _ = record { setup = p; stubs = c.loop-i.stubs.items; bound = lowest_bound; held = c.loop-i.held.items; given = 0 } in
-    let walks = none_walks g.T.Turns.stands p c.loop-i.walks.items c.loop-i.i c.loop-i.invariant.walks all in
+    let walks = c.loop-i.invariant.walks ∙ all in
     let held = c.loop-i.invariant.held ∙ ap (λ n. replicate n []) all in
     (walks, shared_kept s e stubs refl held refl start.0)
 
@@ -39,7 +39,7 @@ loop-i-preserved g c =
     let lease : c.in_ok-start_lease.field-0 ≡ start_holding t p i = c.in_ok-start_lease.ensures ∙ ap (λ x. start_holding t x i) c.in_ok-try_clone.ensures in
     record {
       stubs = c.in_ok-push.ensures.items ∙ ap (λ l. l ++ c.start_stub.result ∷ []) c.loop-i.invariant.stubs ∙ ap (λ x. map (start_stub s) (range_with_len 0 i) ++ x ∷ []) stub ∙ sym (map-range_with_len_more (start_stub s) 0 i i (omega arith));
-      walks = c.in_ok-push-2.ensures.items ∙ ap (λ l. l ++ None ∷ []) c.loop-i.invariant.walks ∙ same_more None i;
+      walks = ap length c.in_ok-push-2.ensures.items ∙ length-append c.loop-i.walks.items _ ∙ ap (λ n. n + 1) c.loop-i.invariant.walks;
       held = c.in_ok-push-3.ensures.items ∙ ap (λ l. l ++ c.empty.result ∷ []) c.loop-i.invariant.held ∙ ap (λ x. replicate i [] ++ x ∷ []) c.empty.ensures ∙ same_more [] i;
       leases = c.in_ok-push-4.ensures.items ∙ ap (λ l. l ++ c.in_ok-start_lease.field-0 ∷ []) c.loop-i.invariant.leases ∙ ap (λ x. map (start_holding t p) (range_with_len 0 i) ++ x ∷ []) lease ∙ sym (map-range_with_len_more (start_holding t p) 0 i i (omega arith));
     }

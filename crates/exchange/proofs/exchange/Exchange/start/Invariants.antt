@@ -1,4 +1,4 @@
-use Rattle.std.proofs.Common.{◌≡◌, None, [], map}
+use Rattle.std.proofs.Common.{◌≡◌, [], length, map}
 use Rattle.std.specs.Prelude.{replicate}
 use Rattle.std.specs.Arc.{arc_value}
 use Rattle.std.specs.List.{range_with_len}
@@ -11,7 +11,7 @@ invariant-loop-i g l =
     let t = g.T.Turns.turn_of in
     record {
       stubs : l.stubs.items ≡ map (start_stub (system t (arc_value l.setup))) (range_with_len 0 l.i);
-      walks : l.walks.items ≡ replicate l.i None;
+      walks : length l.walks.items ≡ l.i;
       held : l.held.items ≡ replicate l.i [];
       leases : l.leases.items ≡ map (start_holding t (arc_value l.setup)) (range_with_len 0 l.i);
     }

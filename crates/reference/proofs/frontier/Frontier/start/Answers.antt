@@ -1,10 +1,11 @@
-use Rattle.std.proofs.Common.{◌≡◌, ◌∙◌, ap, length, map, refl, subst}
+use Rattle.std.proofs.Common.{◌≡◌, ◌∙◌, ap, length, map, refl, sym, subst}
 use Rattle.std.specs.Prelude.{replicate}
 use Rattle.std.specs.List.{range_with_len}
 use Rattle.plans.specs.Plans.{composition}
 use Rattle.plans.specs.Steps.{start_of}
 use Rattle.task_seed.specs.Setups.{system}
 use Rattle.task_seed.specs.Machines.{machine}
+use Rattle.reference.specs.Clocks.{AreClocks}
 use Rattle.reference.specs.Taking.{plain}
 use Rattle.reference.proofs.Stepping.{start_at, start_found}
 use Rattle.reference.proofs.frontier.Frontier.start.Goals as goal
@@ -36,3 +37,7 @@ returns-clause-none g c =
     let zeros = c.in_ok-numbers.ensures ∙ ap (λ n. replicate n 0) many in
     let at = start_at s places numbers states (c.in_ok-places.ensures (length s.composition) refl) zeros starts in
     (start_found s law c.machine_is_lawful.ensures.counted (λ b h. c.reference_is_complete.ensures.exists (machine s) b law h) (c.reference_is_one.ensures.same (machine s)) places numbers states at).taken
+
+pub returns-clause-clocks : goal.returns-clause-clocks
+returns-clause-clocks g c =
+    subst (λ numbers. AreClocks g.T.Turns.turn_of c.args.setup.now numbers c.in_ok-clocks.clocks.clocks.items) (sym c.in_ok-numbers.ensures) (c.in_ok-clocks.ensures c.components.result)

@@ -52,6 +52,18 @@ returns-in_default-clause-whole g c =
     let states = c.args.self.now.states.items in
     whole_here s law counted exists one places numbers states c.requires.stands
 
+pub returns-in_default-reach_after-clause-whole : goal.returns-in_default-reach_after-clause-whole
+returns-in_default-reach_after-clause-whole g c =
+    let s = system g.T.Turns.turn_of c.args.setup.now in
+    let law = c.machine_is_lawful.ensures.lawful in
+    let counted = c.machine_is_lawful.ensures.counted in
+    let exists = λ (b : ℕ) (h : b ≤ end_rank). c.reference_is_complete.ensures.exists (machine s) b law h in
+    let one = c.reference_is_one.ensures.same (machine s) in
+    let places = c.args.self.now.places.items in
+    let numbers = c.args.self.now.numbers.items in
+    let states = c.args.self.now.states.items in
+    whole_here s law counted exists one places numbers states c.requires.stands
+
 pub returns-in_err-take_turn-clause-whole : goal.returns-in_err-take_turn-clause-whole
 returns-in_err-take_turn-clause-whole g c =
     let s = system g.T.Turns.turn_of c.args.setup.now in
@@ -106,8 +118,8 @@ take_turn-requires-clause-within g c κs inside =
     let first = c.in-Some.ensures ∙ ap (λ l. least_key l c.deref-2.result.now) c.deref.ensures.value ∙ ap (least_key places) c.deref-2.ensures.value in
     within s law counted exists one places numbers states c.requires.stands key first
 
-pub read_on-next-requires-clause-there : goal.read_on-next-requires-clause-there
-read_on-next-requires-clause-there g c κs inside =
+pub reach_after-requires-clause-there : goal.reach_after-requires-clause-there
+reach_after-requires-clause-there g c κs inside =
     let s = system g.T.Turns.turn_of c.args.setup.now in
     let law = c.machine_is_lawful.ensures.lawful in
     let counted = c.machine_is_lawful.ensures.counted in
@@ -120,8 +132,8 @@ read_on-next-requires-clause-there g c κs inside =
     let first = c.in-Some.ensures ∙ ap (λ l. least_key l c.deref-2.result.now) c.deref.ensures.value ∙ ap (least_key places) c.deref-2.ensures.value in
     key_is s law counted exists one places numbers states c.requires.stands key first
 
-pub read_on-next-requires-clause-small : goal.read_on-next-requires-clause-small
-read_on-next-requires-clause-small g c κs inside =
+pub reach_after-requires-clause-small : goal.reach_after-requires-clause-small
+reach_after-requires-clause-small g c κs inside =
     let s = system g.T.Turns.turn_of c.args.setup.now in
     let law = c.machine_is_lawful.ensures.lawful in
     let counted = c.machine_is_lawful.ensures.counted in
@@ -134,8 +146,8 @@ read_on-next-requires-clause-small g c κs inside =
     let first = c.in-Some.ensures ∙ ap (λ l. least_key l c.deref-2.result.now) c.deref.ensures.value ∙ ap (least_key places) c.deref-2.ensures.value in
     key_small s law counted exists one places numbers states c.requires.stands key first
 
-pub read_on-next-requires-clause-within : goal.read_on-next-requires-clause-within
-read_on-next-requires-clause-within g c κs inside =
+pub reach_after-requires-clause-within : goal.reach_after-requires-clause-within
+reach_after-requires-clause-within g c κs inside =
     let s = system g.T.Turns.turn_of c.args.setup.now in
     let law = c.machine_is_lawful.ensures.lawful in
     let counted = c.machine_is_lawful.ensures.counted in
@@ -193,8 +205,8 @@ returns-clause-stands g c =
     let found = c.take_turn.new.found in
     let stands = subst (λ l. IsAt s (point (machine s) (least_rank places numbers)) places numbers l) (sym c.deref_mut.ensures.value) c.requires.stands in
     let came = c.in_ok-take_turn.ensures.found in
-    let next = c.read_on-next.result in
-    let small = small_key s c.args.setup.now.in_range i (key.number + 1) (fits s law counted exists one places numbers here stands key first) next c.read_on-next.ensures.key c.read_on-next.ensures.small in
+    let next = c.in-Ok.next in
+    let small = small_key s c.args.setup.now.in_range i (key.number + 1) (fits s law counted exists one places numbers here stands key first) next c.in-Ok.ensures.key c.in-Ok.ensures.small in
     let new = c.move_on.new.places in
     let moved = c.move_on.ensures in
     let tournament = subst (λ (l : List ℕ). IsTournament (length l) new) c.deref_mut-3.ensures.value moved.tournament in
@@ -211,7 +223,7 @@ returns-clause-stands g c =
     subst (λ (l : List States). IsAt s (point (machine s) (least_rank (with_items c.args.self.now.places new).items (with_items c.args.self.now.numbers new_numbers).items)) (with_items c.args.self.now.places new).items (with_items c.args.self.now.numbers new_numbers).items l) (sym states_are)
     (subst (λ (l : List ℕ). IsAt s (point (machine s) (least_rank l (with_items c.args.self.now.numbers new_numbers).items)) l (with_items c.args.self.now.numbers new_numbers).items news) (sym places_are)
     (subst (λ (l : List ℕ). IsAt s (point (machine s) (least_rank new l)) new l news) (sym numbers_are)
-    (stepped s law counted exists one places numbers here stands key first found came next c.read_on-next.ensures.key small new tournament own others new_numbers counted_on news c.in_ok-take_turn.ensures.many c.in_ok-take_turn.ensures.states).stands))
+    (stepped s law counted exists one places numbers here stands key first found came next c.in-Ok.ensures.key small new tournament own others new_numbers counted_on news c.in_ok-take_turn.ensures.many c.in_ok-take_turn.ensures.states).stands))
 
 pub returns-clause-whole : goal.returns-clause-whole
 returns-clause-whole g c =
@@ -230,8 +242,8 @@ returns-clause-whole g c =
     let found = c.take_turn.new.found in
     let stands = subst (λ l. IsAt s (point (machine s) (least_rank places numbers)) places numbers l) (sym c.deref_mut.ensures.value) c.requires.stands in
     let came = c.in_ok-take_turn.ensures.found in
-    let next = c.read_on-next.result in
-    let small = small_key s c.args.setup.now.in_range i (key.number + 1) (fits s law counted exists one places numbers here stands key first) next c.read_on-next.ensures.key c.read_on-next.ensures.small in
+    let next = c.in-Ok.next in
+    let small = small_key s c.args.setup.now.in_range i (key.number + 1) (fits s law counted exists one places numbers here stands key first) next c.in-Ok.ensures.key c.in-Ok.ensures.small in
     let new = c.move_on.new.places in
     let moved = c.move_on.ensures in
     let tournament = subst (λ (l : List ℕ). IsTournament (length l) new) c.deref_mut-3.ensures.value moved.tournament in
@@ -247,7 +259,7 @@ returns-clause-whole g c =
     let states_are : (with_items c.args.self.now.states news).items ≡ news = with_items_is c.args.self.now.states news (c.in_ok-take_turn.ensures.many ∙ c.deref_mut.ensures.len) in
     subst (λ (l : List ℕ). IsComplete (machine s) (taken_at s l (with_items c.args.self.now.numbers new_numbers).items)) (sym places_are)
     (subst (λ (l : List ℕ). IsComplete (machine s) (taken_at s new l)) (sym numbers_are)
-    (whole_after s law counted exists one places numbers here stands key first found came next c.read_on-next.ensures.key small new tournament own others new_numbers counted_on news c.in_ok-take_turn.ensures.many c.in_ok-take_turn.ensures.states))
+    (whole_after s law counted exists one places numbers here stands key first found came next c.in-Ok.ensures.key small new tournament own others new_numbers counted_on news c.in_ok-take_turn.ensures.many c.in_ok-take_turn.ensures.states))
 
 pub returns-clause-ok : goal.returns-clause-ok
 returns-clause-ok g c =
@@ -266,8 +278,8 @@ returns-clause-ok g c =
     let found = c.take_turn.new.found in
     let stands = subst (λ l. IsAt s (point (machine s) (least_rank places numbers)) places numbers l) (sym c.deref_mut.ensures.value) c.requires.stands in
     let came = c.in_ok-take_turn.ensures.found in
-    let next = c.read_on-next.result in
-    let small = small_key s c.args.setup.now.in_range i (key.number + 1) (fits s law counted exists one places numbers here stands key first) next c.read_on-next.ensures.key c.read_on-next.ensures.small in
+    let next = c.in-Ok.next in
+    let small = small_key s c.args.setup.now.in_range i (key.number + 1) (fits s law counted exists one places numbers here stands key first) next c.in-Ok.ensures.key c.in-Ok.ensures.small in
     let new = c.move_on.new.places in
     let moved = c.move_on.ensures in
     let tournament = subst (λ (l : List ℕ). IsTournament (length l) new) c.deref_mut-3.ensures.value moved.tournament in
@@ -283,6 +295,6 @@ returns-clause-ok g c =
     let states_are : (with_items c.args.self.now.states news).items ≡ news = with_items_is c.args.self.now.states news (c.in_ok-take_turn.ensures.many ∙ c.deref_mut.ensures.len) in (
       subst (λ t. IsNext (machine s) (after (machine s) (taken_at s places numbers)) t) (sym (turn_is found key)) (next_turn s law counted exists one places numbers here stands key first found came),
       ap (λ l. taken_at s l (with_items c.args.self.now.numbers new_numbers).items) places_are ∙ ap (taken_at s new) numbers_are
-          ∙ (stepped s law counted exists one places numbers here stands key first found came next c.read_on-next.ensures.key small new tournament own others new_numbers counted_on news c.in_ok-take_turn.ensures.many c.in_ok-take_turn.ensures.states).taken
+          ∙ (stepped s law counted exists one places numbers here stands key first found came next c.in-Ok.ensures.key small new tournament own others new_numbers counted_on news c.in_ok-take_turn.ensures.many c.in_ok-take_turn.ensures.states).taken
           ∙ ap (λ t. t ∷ taken_at s places numbers) (sym (turn_is found key)),
     )

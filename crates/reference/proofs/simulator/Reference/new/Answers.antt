@@ -1,7 +1,7 @@
 use Rattle.std.proofs.Common.{◌≡◌, [], ap, subst}
 use Rattle.std.specs.Arc.{arc_value}
 use Rattle.task_seed.specs.Setups.{system}
-use Rattle.reference.specs.Reading.{AreRead}
+use Rattle.reference.specs.Clocks.{AreClocks}
 use Rattle.reference.specs.Standing.{IsBeforeLeast, taken_at}
 use Rattle.reference.proofs.Stepping.{seen}
 use Rattle.reference.proofs.simulator.Reference.new.Goals as goal
@@ -11,7 +11,7 @@ invariant_of-result g c =
     let t = g.T.Turns.turn_of in
     let f = c.in_ok-frontier.frontier in (
       subst (λ p. IsBeforeLeast (system t p) f.places.items f.numbers.items f.states.items) c.deref.ensures c.in_ok-frontier.ensures.stands,
-      subst (λ p. AreRead t g.T.Turns.stands p f.readers.readers.items) c.deref.ensures c.in_ok-frontier.ensures.read,
+      subst (λ p. AreClocks t p f.numbers.items f.clocks.clocks.items) c.deref.ensures c.in_ok-frontier.ensures.clocks,
     )
 
 pub returns : goal.returns

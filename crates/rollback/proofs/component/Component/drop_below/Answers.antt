@@ -6,6 +6,7 @@ use Rattle.raw_events.specs.Onto.{onto}
 use Rattle.undo_records.specs.States.{without_first}
 use Rattle.virtual_time.specs.Entries.{below, number}
 use Rattle.virtual_time.specs.Records.{cut_of, turns_among}
+use Rattle.task_seed.specs.Clocks.{HasReached}
 use Rattle.task_seed.specs.Setups.{system}
 use Rattle.task_seed.specs.Machines.{machine}
 use Rattle.task_seed.specs.Taken.{turn_of}
@@ -13,7 +14,7 @@ use Rattle.rollback.specs.Dropped.{dones_below, dones_from, number_after, turns_
 use Rattle.rollback.specs.ComponentView.{ComponentView, machine_of}
 use Rattle.rollback.specs.ComponentInvariant.{entries_of, record_of}
 use Rattle.rollback.proofs.Keeping.{depth_is}
-use Rattle.rollback.proofs.Dropping.{dropped_record, dropped_turns, few_dropped, kept_dropped, length_entries, newest_number, newest_small, ready_below}
+use Rattle.rollback.proofs.Dropping.{cut_number, dropped_record, dropped_turns, few_dropped, kept_dropped, length_entries, newest_number, newest_small, ready_below}
 use Rattle.rollback.proofs.Oldest.{onto_reverse}
 use Rattle.rollback.proofs.component.Component.drop_below.Goals as goal
 
@@ -57,7 +58,7 @@ invariant_of-self g c =
     let first : c.number_after-self-inside.result ≡ number f.first (entries_of (dones_below b ds))
     = c.number_after-self-inside.ensures ∙ ap (λ k. number_after k f.first) c.take_below-dropped.ensures.newest ∙ newest_number s f.number f.first (dones_below b ds) (ready_below s f.number f.first b ds c.self.invariant.0.ready) in
     let left : c.take_below-dropped.new.done ≡ record { before = dones_from b ds; after = [] } = c.take_below-dropped.ensures.rest in
-    (rw (states, first, left) (kept_dropped s f.number f.first b f.store f.done f.pending f.owed f.coming c.self.invariant.0), c.self.invariant.1)
+    (rw (states, first, left) (kept_dropped s f.number f.first b f.store f.done f.pending f.owed f.coming c.self.invariant.0), rw (first, left) (subst (HasReached g.T.Turns.turn_of (arc_value f.setup) f.number f.clock) (sym (cut_number s f.number f.first b ds)) c.self.invariant.1))
 
 pub returns-clause-record : goal.returns-clause-record
 returns-clause-record g c =

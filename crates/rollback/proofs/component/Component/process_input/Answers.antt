@@ -33,4 +33,4 @@ invariant_of-self-2 g c =
     = subst (λ (l : List Signed). IfSome (head l) (λ (y : Signed). c.take_input.new.done ≡ record f.done { before = Input y ∷ f.done.before })) there c.in_ok-take_input.ensures.done in
     let pending : c.take_input.new.pending ≡ record f.pending { after = found.1 }
     = c.in_ok-take_input.ensures.pending ∙ ap (λ (l : List Signed). record f.pending { after = tail l }) there in
-    (rw (state, done, pending) (kept_input s f.number f.first f.store f.done f.pending f.owed f.coming x found.1 c.self.invariant.0 there before), c.self.invariant.1)
+    (rw (state, done, pending) (kept_input s f.number f.first f.store f.done f.pending f.owed f.coming x found.1 c.self.invariant.0 there before), rw done c.self.invariant.1)

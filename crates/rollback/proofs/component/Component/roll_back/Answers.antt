@@ -1,15 +1,18 @@
 use Rattle.antimessage.specs.Order.{KeyFits}
-use Rattle.std.proofs.Common.{◌≡◌, Some, ◌∷◌, List, sym, ap, subst, ◌∙◌}
+use Rattle.std.proofs.Common.{◌≡◌, Some, ◌∷◌, List, sym, ap, subst, ◌∙◌, arith}
 use Rattle.std.specs.Arc.{arc_value}
 use Rattle.event_keys.specs.declared.message.Signed.{Signed}
 use Rattle.event_keys.specs.declared.message.Sign.TheVariants.{Minus}
 use Rattle.raw_events.specs.Around.{tail}
+use Rattle.task_seed.specs.ClockLaws.{reached_before}
+use Rattle.task_seed.specs.Clocks.{HasReached}
 use Rattle.task_seed.specs.Setups.{system}
+use Rattle.virtual_time.specs.Entries.{number}
 use Rattle.task_seed.specs.Machines.{machine}
 use Rattle.virtual_time.specs.Records.{roll_back_of, unsent}
 use Rattle.message_balance.specs.declared.done.Done.TheVariants.{Turn, Input}
 use Rattle.rollback.specs.ComponentView.{ComponentView, machine_of, last_of}
-use Rattle.rollback.specs.ComponentInvariant.{record_of}
+use Rattle.rollback.specs.ComponentInvariant.{entries_of, record_of}
 use Rattle.rollback.specs.Post.{IsPosted}
 use Rattle.rollback.proofs.Keeping.{kept_back_input, kept_back_turn}
 use Rattle.rollback.proofs.Stepping.{back_input_record, back_turn_sent, head_tail}
@@ -24,7 +27,7 @@ invariant_of-self-in-Input g c =
     = head_tail (Input x) f.done.before (ap Some (sym c.in-Input.is ∙ c.into_value.ensures) ∙ sym c.in-Some.is ∙ c.take_last.ensures.taken) in (
       rw (c.undo.ensures.state, c.take_last.ensures.rest, c.insert_sorted.ensures)
           (kept_back_input s f.number f.first f.store f.done f.pending f.owed f.coming x (tail f.done.before) c.self.invariant.0 there),
-      c.self.invariant.1,
+      rw c.take_last.ensures.rest (subst (λ ds. HasReached g.T.Turns.turn_of (arc_value f.setup) f.number f.clock (number f.first (entries_of ds))) there c.self.invariant.1),
     )
 
 pub returns-in-Input-clause-record : goal.returns-in-Input-clause-record
@@ -63,5 +66,6 @@ invariant_of-self-in-Turn g c =
     = head_tail (Turn turned minuses) f.done.before (ap Some (sym c.in-Turn.is ∙ c.into_value.ensures) ∙ sym c.in-Some.is ∙ c.take_last.ensures.taken) in (
       rw (c.undo.ensures.state, c.take_last.ensures.rest, c.value.ensures)
           (kept_back_turn s f.number f.first f.store f.done f.pending f.owed f.coming turned minuses (tail f.done.before) c.self.invariant.0 there),
-      c.self.invariant.1,
+      rw c.take_last.ensures.rest (reached_before g.T.Turns.turn_of (arc_value f.setup) f.number f.clock (number f.first (entries_of (tail f.done.before))) _ (omega arith)
+          (subst (λ ds. HasReached g.T.Turns.turn_of (arc_value f.setup) f.number f.clock (number f.first (entries_of ds))) there c.self.invariant.1)),
     )
