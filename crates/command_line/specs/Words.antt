@@ -50,8 +50,14 @@ whole = Unsigned 0 18446744073709551615
 -- a subcommand that simulates or drives
 abbrev pub simulating : App → App
 simulating app =
-    with_rule (with_rule (with_rule (with_rule (with_rule (with_rule app (number_rule (codes "seed") (codes "1") whole)) (number_rule (codes "stream") (codes "0") whole))
-    (number_rule (codes "gap") (codes "8") (Unsigned 1 65535))) (number_rule (codes "ticks") (codes "1000") (Unsigned 0 4294967296))) table_rule) (flag_rule (codes "trace"))
+    with_rule (with_rule (with_rule (with_rule (with_rule (with_rule (with_rule app
+    (number_rule (codes "seed") (codes "1") whole))
+    (number_rule (codes "stream") (codes "0") whole))
+    (number_rule (codes "gap") (codes "8") (Unsigned 1 65535)))
+    (flag_rule (codes "from-zero")))
+    (number_rule (codes "ticks") (codes "1000") (Unsigned 0 4294967296)))
+    table_rule)
+    (flag_rule (codes "trace"))
 
 abbrev pub reference_app : App
 reference_app = simulating (of_file (codes "reference") (codes "F"))
@@ -94,6 +100,7 @@ pub record HasOptions (rows : List Row) (options : Options) : Type 0 where
   pub seed : IsNumber rows (codes "seed") 0 18446744073709551615 options.seed
   pub stream : IsNumber rows (codes "stream") 0 18446744073709551615 options.stream
   pub gap : IsNumber rows (codes "gap") 1 65535 options.gap
+  pub from_zero : IsFlag (first_of (codes "from-zero") rows) options.from_zero
   pub ticks : IsNumber rows (codes "ticks") 0 4294967296 options.ticks
   pub table : option_map (λ s. s.now) options.table ≡ first_of (codes "table") rows
   pub trace : IsFlag (first_of (codes "trace") rows) options.trace

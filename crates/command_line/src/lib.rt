@@ -55,8 +55,10 @@ pub struct Options<'a> {
     pub seed: u64,
     /// The stream of component 0; component i has this one plus i, modulo 2^64.
     pub stream: u64,
-    /// The greatest gap between two turns of a component, 1 to 65,535 ticks.
+    /// How many gaps there may be between two turns of a component, 1 to 65,535: of 1 tick and more, or of 0 and more.
     pub gap: u64,
+    /// Gaps are drawn from 0 ticks on; with a table this has no effect.
+    pub from_zero: bool,
     /// The last tick, 0 to 4,294,967,296.
     pub ticks: u64,
     /// The file of a table of turns.
@@ -209,6 +211,11 @@ fn with_options<'a>(alloc: Global, command: Command<'a>) -> Result<Command<'a>, 
             gaps,
             "The greatest gap between two turns, in ticks",
         ))?
+        .arg(flag(
+            alloc,
+            "from-zero",
+            "Draw gaps from 0 to one less than --gap, and not from 1 to --gap",
+        ))?
         .arg(number(alloc, "ticks", "1000", ticks, "The last tick"))?
         .arg(table(alloc))?
         .arg(flag(alloc, "trace", "Write only turns with an external action"))
@@ -340,6 +347,7 @@ fn options_of<'a>(found: &ArgMatches<'a>) -> Option<Options<'a>>
         seed,
         stream,
         gap,
+        from_zero: is_set(found, "from-zero"),
         ticks,
         table: file_of(found, "table"),
         trace: is_set(found, "trace"),

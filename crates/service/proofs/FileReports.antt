@@ -48,7 +48,7 @@ module _ (has : List ℕ → List ℕ → Type 0) (lacks : List ℕ → Type 0) 
 
   -- other words for the turns that are asked for
   pub turns_otherwise : (P Q : Given → Type 0) → ((given : Given) → P given → Q given) → (table : Option (List ℕ)) → HasTurns has options table P → HasTurns has options table Q
-  turns_otherwise P Q f None h = f (Seed options.seed options.stream options.gap) h
+  turns_otherwise P Q f None h = f (Seed options.seed options.stream options.gap options.from_zero) h
   turns_otherwise P Q f (Some name) h = record { bytes = h.bytes; is = h.is; small = h.small; judged = f (Table h.bytes) h.judged }
 
 -- what is asked for isn't a misuse of words

@@ -74,9 +74,9 @@ module _ (given gap : ℕ) (same : given ≤ 65535 → gap ≡ given) (large : 6
     fits (inr narrow) = same narrow
 
   -- the turns of a seed are those that are given
-  pub seeds_are : (seed stream : ℕ) (turns : SeedTurns) → ((i n : ℕ) → seed_turn turns i n ≡ drawn_turn seed stream gap i n)
-      → ((gap < 1) ⊎ (65535 < gap) → ⊥) → seed_turn turns ≡ drawn_turn seed stream given
-  seeds_are seed stream turns drawn within = (λ k i n. drawn i n k) ∙ ap (drawn_turn seed stream) (gap_is within)
+  pub seeds_are : (seed stream least : ℕ) (turns : SeedTurns) → ((i n : ℕ) → seed_turn turns i n ≡ drawn_turn seed stream least gap i n)
+      → ((gap < 1) ⊎ (65535 < gap) → ⊥) → seed_turn turns ≡ drawn_turn seed stream least given
+  seeds_are seed stream least turns drawn within = (λ k i n. drawn i n k) ∙ ap (drawn_turn seed stream least) (gap_is within)
 
   pub gap_within : ((gap < 1) ⊎ (65535 < gap) → ⊥) → IsWithin given
   gap_within within =

@@ -30,7 +30,8 @@ table_of options = option_map (λ s. s.now) options.table
 -- holds
 abbrev pub HasTurns : (List ℕ → List ℕ → Type 0) → Options → Option (List ℕ) → (Given → Type 0)
     → Type 0
-HasTurns has options None Holds = Holds (Seed options.seed options.stream options.gap)
+HasTurns has options None Holds =
+    Holds (Seed options.seed options.stream options.gap options.from_zero)
 HasTurns has options (Some name) Holds = HasSmall (has name) (λ bytes. Holds (Table bytes))
 
 -- the table that is asked for isn't read

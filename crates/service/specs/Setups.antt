@@ -1,5 +1,5 @@
 -- The system of a plan with the turns that are given, and the report where there is none.
-use Rattle.std.specs.Prelude.{◌≡◌, ◌⊎◌, ◌<◌, ◌≤◌, ℕ, Option, None, List, slice_get}
+use Rattle.std.specs.Prelude.{◌≡◌, ◌⊎◌, ◌<◌, ◌≤◌, ℕ, Bool, true, false, Option, None, List, slice_get}
 use Rattle.plans.specs.declared.plan.Plan.{Plan}
 use Rattle.plans.specs.Automata.{Instance}
 use Rattle.plans.specs.Plans.{composition}
@@ -20,16 +20,21 @@ use Rattle.service.specs.Tables.{AreSound, IsRefused, Spells}
 
 -- the turns that are given: by the numbers of a seed, or by the bytes of a table
 pub data Given : Type 0 where
-  Seed : (seed stream gap : ℕ) → Given
+  Seed : (seed stream gap : ℕ) (from_zero : Bool) → Given
   Table : (bytes : List ℕ) → Given
 
 abbrev pub given_of : GivenTurns → Given
-given_of (turns.Seed seed stream gap) = Seed seed stream gap
+given_of (turns.Seed seed stream gap from_zero) = Seed seed stream gap from_zero
 given_of (turns.Table table) = Table table.now
 
 -- the gap is within its range
 abbrev pub IsWithin : ℕ → Type 0
 IsWithin gap = (1 ≤ gap) × (gap ≤ 65535)
+
+-- the least gap that is drawn
+abbrev pub least_gap : Bool → ℕ
+least_gap true = 0
+least_gap false = 1
 
 -- the bytes are a table of the composition, with these turns
 pub record IsTabled (composition : List Instance) (table : List ℕ) (turn : ℕ → ℕ → Option Turn)
@@ -41,8 +46,8 @@ pub record IsTabled (composition : List Instance) (table : List ℕ) (turn : ℕ
 
 -- these are the turns that are given
 abbrev pub AreTurns : List Instance → Given → (ℕ → ℕ → Option Turn) → Type 0
-AreTurns composition (Seed seed stream gap) turn =
-    (turn ≡ drawn_turn seed stream gap) × IsWithin gap
+AreTurns composition (Seed seed stream gap from_zero) turn =
+    (turn ≡ drawn_turn seed stream (least_gap from_zero) gap) × IsWithin gap
 AreTurns composition (Table bytes) turn = IsTabled composition bytes turn
 
 -- the gap of drawn turns is out of its range (27)
@@ -53,7 +58,7 @@ pub record IsBadGap (gap number : ℕ) (place : Option ℕ) : Type 0 where
 
 -- the turns that are given are refused with this number and place: their gap, or the table
 abbrev pub AreRefused : List Instance → Given → ℕ → Option ℕ → Type 0
-AreRefused composition (Seed seed stream gap) = IsBadGap gap
+AreRefused composition (Seed seed stream gap from_zero) = IsBadGap gap
 AreRefused composition (Table bytes) = IsRefused composition bytes
 
 -- there are turns, and the last tick is out of its range (26)

@@ -8,8 +8,10 @@ pub enum GivenTurns<'a> {
         seed: u64,
         /// The stream of component 0; component i has this one plus i, modulo 2^64.
         stream: u64,
-        /// The greatest gap between two turns of a component, 1 to 65,535 ticks.
+        /// How many gaps there may be between two turns of a component, 1 to 65,535.
         gap: u64,
+        /// Gaps are drawn from 0 ticks on, and else from 1 on.
+        from_zero: bool,
     },
     /// They stand in a table, which has these bytes.
     Table(&'a [u8]),

@@ -78,6 +78,7 @@ fn setup_asked<F: Files>(
                 seed: options.seed,
                 stream: options.stream,
                 gap: options.gap,
+                from_zero: options.from_zero,
             },
             options.ticks,
         ),

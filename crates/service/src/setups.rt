@@ -1,13 +1,13 @@
 //! What a source means with the turns that are given: the first stages of the engines.
-ghost use Rattle.std.specs.Prelude.{◌≡◌, ◌<◌, ◌≤◌, IfErr, IfOk};
+ghost use Rattle.std.specs.Prelude.{◌≡◌, ◌<◌, ◌≤◌, ◌↔◌, ◌⊎◌, ℕ, IfErr, IfOk, IsErrOf};
 ghost use Rattle.compose.specs.Composed.{IsComposed};
 ghost use Rattle.plans.specs.Plans.{composition};
 ghost use Rattle.task_seed.specs.Any.{any_turn};
-ghost use Rattle.task_seed.specs.Drawn.{drawn_turn};
+ghost use Rattle.task_seed.specs.Drawn.{drawn_turn, seed_turn};
 ghost use Rattle.task_seed.specs.Setups.{plan_of, system};
 ghost use Rattle.service.specs.Compositions.{GivesNoPlan};
 ghost use Rattle.service.specs.Parts.{IsMemory, IsRefusal};
-ghost use Rattle.service.specs.Setups.{AreRefused, AreTurns, GivesNoSystem, IsBadGap, IsSetup, IsTabled, IsWithin, given_of};
+ghost use Rattle.service.specs.Setups.{AreRefused, AreTurns, GivesNoSystem, IsBadGap, IsSetup, IsTabled, IsWithin, given_of, least_gap};
 ghost use Rattle.service.specs.Simulations.{Means, MeansNone};
 ghost use Rattle.service.specs.Tables.{IsRefused};
 
@@ -17,7 +17,7 @@ use compose::compose_source;
 use compose::source_laws::number_law;
 use plans::Plan;
 use std::alloc::Global;
-use task_seed::{AnyTurns, SeedTurns, Setup, TableTurns, read_table};
+use task_seed::{AnyTurns, SeedTurns, SeedTurnsError, Setup, TableTurns, read_table};
 
 /// The setup that a source means with turns, or the report on why there is none. The source is judged first, then the turns, then the last
 /// tick.
@@ -77,20 +77,38 @@ fn turns_of(alloc: Global, plan: &Plan, given: GivenTurns) -> Result<AnyTurns, R
         (IsRefusal (AreRefused (composition plan.now) (given_of given.entry)) IsMemory) }
 {
     match given {
-        GivenTurns::Seed { seed, stream, gap } => drawn(seed, stream, gap),
+        GivenTurns::Seed {
+            seed,
+            stream,
+            gap,
+            from_zero,
+        } => drawn(seed, stream, gap, from_zero),
         GivenTurns::Table(table) => tabled(alloc, plan, table),
     }
 }
 
 // The turns of a seed.
-fn drawn(seed: u64, stream: u64, gap: u64) -> Result<AnyTurns, Report>
-    ensures ok { IfOk result (λ turns. any_turn turns ≡ drawn_turn seed stream gap) }
+fn drawn(seed: u64, stream: u64, gap: u64, from_zero: bool) -> Result<AnyTurns, Report>
+    ensures ok { IfOk result (λ turns. any_turn turns ≡ drawn_turn seed stream (least_gap from_zero) gap) }
     ensures within { IfOk result (λ turns. IsWithin gap) }
     ensures err { IfErr result (IsRefusal (IsBadGap gap) IsMemory) }
 {
-    match SeedTurns::new(seed, stream, gap_of(gap)) {
+    match seeds(seed, stream, gap_of(gap), from_zero) {
         Ok(turns) => Ok(AnyTurns::Seed(turns)),
         Err(refused) => Err(report_of(&refused)),
+    }
+}
+
+fn seeds(seed: u64, stream: u64, gap: u32, from_zero: bool) -> Result<SeedTurns, SeedTurnsError>
+    ensures turns { IfOk result (λ t. (i n : ℕ) →
+        seed_turn t i n ≡ drawn_turn seed stream (least_gap from_zero) gap i n) }
+    ensures refused { IsErrOf result SeedTurnsError.GapOutOfRange ↔ ((gap < 1) ⊎ (65535 < gap)) }
+    ensures memory { IsErrOf result SeedTurnsError.NoMemory → ⊥ }
+{
+    if from_zero {
+        SeedTurns::from_zero(seed, stream, gap)
+    } else {
+        SeedTurns::new(seed, stream, gap)
     }
 }
 

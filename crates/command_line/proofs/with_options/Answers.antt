@@ -17,6 +17,7 @@ returns c =
     let one = c.in_ok-arg.ensures.shape c.number.ensures.local ∙ ap (with_rule bare) seed in
     let two = c.in_ok-arg-2.ensures.shape c.number-2.ensures.local ∙ (λ i. with_rule (one i) (stream i)) in
     let three = c.in_ok-arg-3.ensures.shape c.number-3.ensures.local ∙ (λ i. with_rule (two i) (gap i)) in
-    let four = c.in_ok-arg-4.ensures.shape c.number-4.ensures.local ∙ (λ i. with_rule (three i) (last i)) in
-    let five = c.in_ok-arg-5.ensures.shape c.table.ensures.local ∙ (λ i. with_rule (four i) (c.table.ensures.rule i)) in
-    IfOk-weaker c.arg-6.result _ _ (λ made h. h.shape c.flag.ensures.local ∙ (λ i. with_rule (five i) (c.flag.ensures.rule i))) c.arg-6.ensures
+    let four = c.in_ok-arg-4.ensures.shape c.flag.ensures.local ∙ (λ i. with_rule (three i) (c.flag.ensures.rule i)) in
+    let five = c.in_ok-arg-5.ensures.shape c.number-4.ensures.local ∙ (λ i. with_rule (four i) (last i)) in
+    let six = c.in_ok-arg-6.ensures.shape c.table.ensures.local ∙ (λ i. with_rule (five i) (c.table.ensures.rule i)) in
+    IfOk-weaker c.arg-7.result _ _ (λ made h. h.shape c.flag-2.ensures.local ∙ (λ i. with_rule (six i) (c.flag-2.ensures.rule i))) c.arg-7.ensures
