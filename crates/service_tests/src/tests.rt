@@ -401,6 +401,7 @@ fn engines_take_bytes(rt: HostRuntime) {
         seed: 1,
         stream: 0,
         gap: 0,
+        from_zero: false,
     };
     let mut out = Counted::new(Vec::new(alloc));
     let report = drive_source(alloc, ring, given, 4, b"step", Lines::All, &mut out);
