@@ -28,3 +28,9 @@ turn_after start least gap n = record {
   task = word_after start (3 * n + 1);
   choice = word_after start (3 * n + 2);
 }
+
+-- a walk: the seed and the stream of a generator, and the number of the turn before which it stands
+pub record WalkView : Type 0 where
+  pub seed : ℕ
+  pub stream : ℕ
+  pub number : ℕ

@@ -34,6 +34,7 @@ impl Turns for AnyTurns {
         }
     }
 
+    #[inline(always)]
     fn turn_by(&self, i: u16, n: u64, walk: &mut Walk) -> Option<Turn> {
         match self {
             AnyTurns::Seed(turns) => turns.turn_by(i, n, walk),

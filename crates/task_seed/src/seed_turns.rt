@@ -2,9 +2,7 @@
 ghost use Rattle.std.specs.Prelude.{◌≤◌};
 
 use crate::turns::{GREATEST_GAP, MOST_TURNS, Turn, Turns};
-use crate::walk::{Place, Walk};
-use rand_core::Rng;
-use rand_pcg::Lcg64Xsh32;
+use crate::walk::Walk;
 use std::marker::{Send, Sync};
 use terms::Refusal;
 use thiserror::Error;
@@ -54,10 +52,7 @@ pub struct SeedTurns {
 
 impl SeedTurns {
     ghost use Rattle.std.specs.Prelude.{◌≡◌, ◌<◌, ℕ, ◌↔◌, ◌⊎◌, IfOk, IsErrOf};
-    ghost use Rattle.std.specs.Prelude.{◌+◌, ◌*◌};
-    ghost use Rattle.rand_pcg.specs.Lcg.{Lcg};
     ghost use Rattle.task_seed.specs.Drawn.{drawn_turn, seed_turn};
-    ghost use Rattle.task_seed.specs.Walks.{IsAfter, turn_after};
 
     /// The turns of a seed, whose gaps are 1 to `gap` ticks, where `gap` is 1 to 65,535.
     pub fn new(seed: u64, stream: u64, gap: u32) -> Result<SeedTurns, SeedTurnsError>
@@ -97,18 +92,6 @@ impl SeedTurns {
             Err(SeedTurnsError::GapOutOfRange)
         }
     }
-
-    // Draws a turn.
-    #[inline(always)]
-    fn draw(&self, words: &mut Lcg64Xsh32) -> Turn
-        ensures turn { (start : Lcg) (n : ℕ) → IsAfter start (3 * n) words.old → result ≡ turn_after start self.now.least self.now.gap n }
-        ensures words { (start : Lcg) (n : ℕ) → IsAfter start (3 * n) words.old → IsAfter start (3 * (n + 1)) words.new }
-    {
-        let gap = self.least + words.next_u32() % self.gap;
-        let task = words.next_u32();
-        let choice = words.next_u32();
-        Turn { gap, task, choice }
-    }
 }
 
 impl Turns for SeedTurns {
@@ -128,24 +111,13 @@ impl Turns for SeedTurns {
         self.turn_by(i, n, &mut Walk::new())
     }
 
+    #[inline(always)]
     fn turn_by(&self, i: u16, n: u64, walk: &mut Walk) -> Option<Turn> {
         if n >= MOST_TURNS {
             return None;
         }
         let stream = self.stream.wrapping_add(u64::from(i));
-        let Place {
-            seed,
-            stream,
-            number: _,
-            mut words,
-        } = walk.take_place(self.seed, stream, n);
-        let turn = self.draw(&mut words);
-        walk.place = Some(Place {
-            seed,
-            stream,
-            number: n + 1,
-            words,
-        });
-        Some(turn)
+        walk.stand(self.seed, stream, n);
+        Some(walk.draw(self.least, self.gap))
     }
 }
