@@ -21,6 +21,7 @@ begins_line w.Pre = true
 begins_line w.Eff = true
 begins_line w.Tasks = true
 begins_line w.Components = true
+begins_line w.Hidden = true
 begins_line w = false
 
 -- no space stands before these signs

@@ -17,7 +17,7 @@ fn begins_line(word: Word) -> bool
     match word {
         Word::Type | Word::Automaton | Word::Signature | Word::Input | Word::Output => true,
         Word::Internal | Word::States | Word::Transitions | Word::Pre | Word::Eff => true,
-        Word::Tasks | Word::Components => true,
+        Word::Tasks | Word::Components | Word::Hidden => true,
         _ => false,
     }
 }

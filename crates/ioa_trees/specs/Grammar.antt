@@ -3,7 +3,7 @@ use Rattle.std.specs.Prelude.{◌≡◌, ◌≤◌, ℕ, ◌+◌, Bool, true, fa
 use Rattle.ioa_tokens.specs.declared.Word.{Word}
 use Rattle.ioa_tokens.specs.declared.Word.TheVariants as w
 use Rattle.ioa_tokens.specs.Tokens.{Tok, Name, Num, Key, is}
-use Rattle.ioa_trees.specs.Nodes.{Sort, source, type_definition, type_body, name_part, type, signed, basic, further, formal, formal_part, states, variable, variable_part, tasks, task, entry, parameters, parameter, parameter_part, transition, pre_part, eff_part, component, component_part, arguments, argument_part, statements, statement_part, statement, choice, elseif_part, else_part, index_part, init, term, or_part, conjunction, and_part, negation, comparison, compared, sum, addend, product, factor, unary, postfix, primary, Node, Leaf, make, yield}
+use Rattle.ioa_trees.specs.Nodes.{Sort, source, type_definition, type_body, name_part, type, signed, basic, further, formal, formal_part, states, variable, variable_part, tasks, task, entry, parameters, parameter, parameter_part, transition, pre_part, eff_part, component, component_part, hidden, arguments, argument_part, statements, statement_part, statement, choice, elseif_part, else_part, index_part, init, term, or_part, conjunction, and_part, negation, comparison, compared, sum, addend, product, factor, unary, postfix, primary, Node, Leaf, make, yield}
 
 -- classes of tokens
 pub data Class : Type 0 where
@@ -134,6 +134,7 @@ led pre_part = (word w.Pre, one term outside ∷ []) ∷ []
 led eff_part = (word w.Eff, one statements outside ∷ []) ∷ []
 led component = (name, token (word w.Colon) outside ∷ (token name outside ∷ (maybe arguments outside ∷ []))) ∷ []
 led component_part = (word w.Semicolon, one component outside ∷ []) ∷ []
+led hidden = (word w.Hidden, token name outside ∷ (many name_part outside ∷ [])) ∷ []
 led arguments = (word w.Open, arguments_parts) ∷ []
 led argument_part = (word w.Comma, one term outside ∷ []) ∷ []
 led statement_part = (word w.Semicolon, one statement outside ∷ []) ∷ []
@@ -184,7 +185,7 @@ abbrev pub whole : List Part
 whole =
     many type_definition outside ∷ (token (word w.Automaton) outside ∷ (token name outside ∷ (one basic outside ∷
     (token (word w.Automaton) outside ∷ (token name outside ∷ (many further outside ∷
-    (token (word w.Components) outside ∷ (one component outside ∷ (many component_part outside ∷ [])))))))))
+    (token (word w.Components) outside ∷ (one component outside ∷ (many component_part outside ∷ (maybe hidden outside ∷ []))))))))))
 
 -- what follows this token
 abbrev pub pick : Tok → List (Class × List Part) → Option (List Part)

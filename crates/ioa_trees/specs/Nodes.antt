@@ -28,6 +28,7 @@ pub data Sort : Type 0 where
   eff_part : Sort
   component : Sort
   component_part : Sort
+  hidden : Sort
   arguments : Sort
   argument_part : Sort
   statements : Sort

@@ -12,8 +12,8 @@ use Rattle.ioa_trees.specs.declared.tree.EntryKind.TheVariants as kind
 use Rattle.ioa_tokens.specs.declared.Word.{Word}
 use Rattle.ioa_tokens.specs.declared.Word.TheVariants as w
 use Rattle.ioa_tokens.specs.Tokens.{Tok, Name, Num, Key}
-use Rattle.ioa_trees.specs.Nodes.{Sort, source, type_definition, type_body, name_part, type, signed, basic, further, formal, formal_part, states, variable, variable_part, tasks, task, entry, parameters, parameter, parameter_part, transition, pre_part, eff_part, component, component_part, arguments, argument_part, statements, statement_part, statement, choice, elseif_part, else_part, index_part, init, term, or_part, conjunction, and_part, negation, comparison, compared, sum, addend, product, factor, unary, postfix, primary, Node, Leaf, Branch, Nodes, none, more, pack, yield}
-use Rattle.ioa_trees.specs.Trees.{Bytes, PlainType, Bools, Ints, Range, Named, SeqOf, ArrayOf, PlainTerm, Number, True, False, Variable, Group, Called, Append, Index, Minus, Product, Sum, Compare, Not, And, Or, PlainTerms, no_term, more_terms, PlainFactor, Times, Modulo, PlainFactors, no_factor, more_factors, PlainAddends, no_addend, more_addends, PlainInit, Empty, Fill, Value, PlainDeclared, PlainStatement, Assign, If, For, PlainStatements, no_statement, more_statements, PlainBranches, no_branch, more_branches, PlainParameter, Constant, Typed, PlainEntry, PlainVariable, PlainTransition, PlainAutomaton, PlainComponent, PlainTypeBody, Same, Enumeration, PlainTypeDefinition, PlainSource}
+use Rattle.ioa_trees.specs.Nodes.{Sort, source, type_definition, type_body, name_part, type, signed, basic, further, formal, formal_part, states, variable, variable_part, tasks, task, entry, parameters, parameter, parameter_part, transition, pre_part, eff_part, component, component_part, hidden, arguments, argument_part, statements, statement_part, statement, choice, elseif_part, else_part, index_part, init, term, or_part, conjunction, and_part, negation, comparison, compared, sum, addend, product, factor, unary, postfix, primary, Node, Leaf, Branch, Nodes, none, more, pack, yield}
+use Rattle.ioa_trees.specs.Trees.{Bytes, PlainType, Bools, Ints, Range, Named, SeqOf, ArrayOf, PlainTerm, Number, True, False, Variable, Group, Called, Append, Index, Minus, Product, Sum, Compare, Not, And, Or, PlainTerms, no_term, more_terms, PlainFactor, Times, Modulo, PlainFactors, no_factor, more_factors, PlainAddends, no_addend, more_addends, PlainInit, Empty, Fill, Value, PlainDeclared, PlainStatement, Assign, If, For, PlainStatements, no_statement, more_statements, PlainBranches, no_branch, more_branches, PlainParameter, Constant, Typed, PlainEntry, PlainVariable, PlainTransition, PlainAutomaton, PlainComponent, PlainComposed, PlainTypeBody, Same, Enumeration, PlainTypeDefinition, PlainSource}
 use Rattle.ioa_trees.specs.Grammar.{Is}
 
 abbrev pub key : Word → Node
@@ -220,6 +220,15 @@ abbrev pub components_nodes : List PlainComponent → List Node
 components_nodes [] = []
 components_nodes (c ∷ cs) = component_node c ∷ parts component_part w.Semicolon component_node cs
 
+-- where no output is hidden, nothing stands there
+abbrev pub hidden_node : List Bytes → List Node
+hidden_node [] = []
+hidden_node (s ∷ ss) = branch hidden (key w.Hidden ∷ (named s ∷ parts name_part w.Comma named ss)) ∷ []
+
+-- the end of a source, after the composed automaton's name
+abbrev pub composed_nodes : PlainComposed → List Node
+composed_nodes c = key w.Components ∷ (components_nodes c.components ++ hidden_node c.hidden)
+
 abbrev pub type_body_node : PlainTypeBody → Node
 type_body_node (Same t) = type_node t
 type_body_node (Enumeration []) = key w.Enumeration
@@ -243,7 +252,7 @@ automata_nodes [] s = []
 automata_nodes (a ∷ rest) s = key w.Automaton ∷ (named a.name ∷ (basic_node a ∷ (key w.Automaton ∷ (named (next_name rest s) ∷ further_nodes rest s))))
 
 abbrev pub source_nodes : PlainSource → List Node
-source_nodes s = map type_definition_node s.types ++ (automata_nodes s.automata s.composed.name ++ (key w.Components ∷ components_nodes s.composed.components))
+source_nodes s = map type_definition_node s.types ++ (automata_nodes s.automata s.composed.name ++ composed_nodes s.composed)
 
 abbrev pub source_node : PlainSource → Node
 source_node s = branch source (source_nodes s)

@@ -126,9 +126,11 @@ pub record PlainComponent : Type 0 where
   pub automaton : Bytes
   pub arguments : List PlainTerm
 
+-- the composed automaton; no hidden outputs where the list is empty
 pub record PlainComposed : Type 0 where
   pub name : Bytes
   pub components : List PlainComponent
+  pub hidden : List Bytes
 
 pub data PlainTypeBody : Type 0 where
   Same : PlainType → PlainTypeBody

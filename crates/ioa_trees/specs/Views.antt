@@ -139,7 +139,7 @@ abbrev pub view_component : ComponentTree → PlainComponent
 view_component c = record { name = string_bytes c.name; automaton = string_bytes c.automaton; arguments = map view c.arguments.items }
 
 abbrev pub view_composed : Composed → PlainComposed
-view_composed c = record { name = string_bytes c.name; components = map view_component c.components.items }
+view_composed c = record { name = string_bytes c.name; components = map view_component c.components.items; hidden = map string_bytes c.hidden.items }
 
 abbrev pub view_type_body : TypeBody → PlainTypeBody
 view_type_body (body.Same t) = Same (view_type t)

@@ -174,11 +174,12 @@ pub struct ComponentTree {
     pub arguments: Vec<Term>,
 }
 
-/// The composed automaton.
+/// The composed automaton. An empty list: no output is hidden.
 #[derive(Debug, Drop)]
 pub struct Composed {
     pub name: String,
     pub components: Vec<ComponentTree>,
+    pub hidden: Vec<String>,
 }
 
 /// What a name of a type stands for.
