@@ -3,15 +3,15 @@ ghost use Rattle.std.specs.Prelude.{◌≡◌, ◌≤◌, ◌<◌, ◌∷◌, �
 ghost use Rattle.ioa_tokens.specs.declared.Word.TheVariants as w;
 ghost use Rattle.ioa_tokens.specs.Tokens.{toks_of};
 ghost use Rattle.ioa_trees.specs.Grammar.{whole};
-ghost use Rattle.ioa_trees.specs.Spelling.{components_nodes, key, source_nodes};
-ghost use Rattle.ioa_trees.specs.Views.{view_component, view_source};
+ghost use Rattle.ioa_trees.specs.Spelling.{components_nodes, composed_nodes, hidden_node, key, source_nodes};
+ghost use Rattle.ioa_trees.specs.Views.{view_component, view_composed, view_source};
 ghost use Rattle.ioa_front.specs.Theorem.{Exact};
-ghost use Rattle.ioa_phrases.specs.Blocks.{Goes, SomeTypes, automata_parts, component_parts, definition_item};
+ghost use Rattle.ioa_phrases.specs.Blocks.{Goes, SomeTypes, automata_parts, component_parts, definition_item, hidden_parts};
 
 use crate::automata::read_automata;
 use crate::components::read_component;
 use crate::definitions::read_definition;
-use ioa_phrases::{Stop, expect, past};
+use ioa_phrases::{Stop, expect, past, read_names};
 use ioa_tokens::{Token, Word};
 use ioa_trees::tree::{ComponentTree, Composed, SourceTree, TypeDefinition};
 use std::alloc::Global;
@@ -58,7 +58,7 @@ fn read_components<'a, 'b>(
     alloc: Global,
     tokens: &'b [Token<'a>],
 ) -> Result<(Vec<ComponentTree>, &'b [Token<'a>]), Stop>
-    ensures goes { Goes (λ x. key w.Components ∷ components_nodes (map view_component x.0.items)) (λ x. toks_of x.1.now) component_parts [] (toks_of tokens.now) result }
+    ensures goes { Goes (λ x. key w.Components ∷ components_nodes (map view_component x.0.items)) (λ x. toks_of x.1.now) component_parts hidden_parts (toks_of tokens.now) result }
     ensures shorter { IfOk result (λ x. length x.1.now ≤ length tokens.now) }
 {
     let rest = expect(tokens, Word::Components)?;
@@ -73,6 +73,44 @@ fn read_components<'a, 'b>(
     Ok((all, rest))
 }
 
+// The hidden outputs, where there are some.
+#[tactic(auto, using(ioa_phrases::proofs::Moves::no_hidden, ioa_phrases::proofs::Joins::hidden_made))]
+fn read_hidden<'a, 'b>(
+    alloc: Global,
+    tokens: &'b [Token<'a>],
+) -> Result<(Vec<String>, &'b [Token<'a>]), Stop>
+    ensures goes { Goes (λ x. hidden_node (map string_bytes x.0.items)) (λ x. toks_of x.1.now) hidden_parts [] (toks_of tokens.now) result }
+    ensures shorter { IfOk result (λ x. length x.1.now ≤ length tokens.now) }
+{
+    let Some(rest) = past(tokens, Word::Hidden) else {
+        return Ok((Vec::new(alloc), tokens));
+    };
+    let (all, rest) = read_names(alloc, rest)?;
+    Ok((all, rest))
+}
+
+// What follows the name of the composed automaton.
+fn read_composed<'a, 'b>(
+    alloc: Global,
+    name: String,
+    tokens: &'b [Token<'a>],
+) -> Result<(Composed, &'b [Token<'a>]), Stop>
+    ensures goes { Goes (λ x. composed_nodes (view_composed x.0)) (λ x. toks_of x.1.now) component_parts [] (toks_of tokens.now) result }
+    ensures named { IfOk result (λ x. string_bytes x.0.name ≡ string_bytes name) }
+    ensures shorter { IfOk result (λ x. length x.1.now ≤ length tokens.now) }
+{
+    let (components, rest) = read_components(alloc, tokens)?;
+    let (hidden, rest) = read_hidden(alloc, rest)?;
+    Ok((
+        Composed {
+            name,
+            components,
+            hidden,
+        },
+        rest,
+    ))
+}
+
 // A source, and what is left behind it.
 fn read_front<'a, 'b>(
     alloc: Global,
@@ -83,8 +121,7 @@ fn read_front<'a, 'b>(
 {
     let (types, rest) = read_types(alloc, tokens)?;
     let (automata, name, rest) = read_automata(alloc, rest)?;
-    let (components, rest) = read_components(alloc, rest)?;
-    let composed = Composed { name, components };
+    let (composed, rest) = read_composed(alloc, name, rest)?;
     Ok((
         SourceTree {
             types,

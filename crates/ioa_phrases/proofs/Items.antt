@@ -107,7 +107,7 @@ pub eff_some : (ss : List Statement) → 0 < length ss → eff_node (view_statem
 eff_some [] h = absurd (omega arith)
 eff_some (s ∷ ss) h = refl
 
-parts_of_names : (ss : List (String Global)) → parts name_part w.Comma named (map string_bytes ss) ≡ map name_part_item ss
+pub parts_of_names : (ss : List (String Global)) → parts name_part w.Comma named (map string_bytes ss) ≡ map name_part_item ss
 parts_of_names [] = refl
 parts_of_names (s ∷ ss) = ap (λ z. name_part_item s ∷ z) (parts_of_names ss)
 

@@ -9,12 +9,12 @@ use Rattle.ioa_trees.specs.declared.tree.Transition.{Transition}
 use Rattle.ioa_trees.specs.declared.tree.TypeDefinition.{TypeDefinition}
 use Rattle.ioa_trees.specs.declared.tree.Variable.{Variable}
 use Rattle.ioa_tokens.specs.declared.Word.TheVariants as w
-use Rattle.ioa_trees.specs.Nodes.{Node, further, formal_part, variable_part, component_part, states, tasks}
-use Rattle.ioa_trees.specs.Spelling.{key, named, branch, parts, formal_node, formals_nodes, variable_node, states_node, task_node, tasks_node, entry_node, transition_node, basic_node, component_node, components_nodes, type_definition_node, automata_nodes, further_nodes, next_name}
+use Rattle.ioa_trees.specs.Nodes.{Node, further, formal_part, variable_part, component_part, hidden, states, tasks}
+use Rattle.ioa_trees.specs.Spelling.{key, named, branch, parts, formal_node, formals_nodes, variable_node, states_node, task_node, tasks_node, entry_node, transition_node, basic_node, component_node, components_nodes, hidden_node, type_definition_node, automata_nodes, further_nodes, next_name}
 use Rattle.ioa_trees.specs.Trees.{Bytes, PlainAutomaton}
 use Rattle.ioa_trees.specs.Views.{view_automaton, view_component, view_declared, view_entry, view_transition, view_type_definition, view_variable}
-use Rattle.ioa_phrases.specs.Items.{listed}
-use Rattle.ioa_phrases.proofs.Items.{listed_push}
+use Rattle.ioa_phrases.specs.Items.{listed, name_item, names_nodes}
+use Rattle.ioa_phrases.proofs.Items.{listed_push, parts_of_names}
 use Rattle.ioa_phrases.specs.Lists.{entry_item, transition_item}
 use Rattle.ioa_phrases.specs.Blocks.{formal_item, formal_part_item, variable_item, variable_part_item, task_item, component_item, component_part_item, definition_item}
 
@@ -61,6 +61,10 @@ parts_of_components (c ∷ cs) = ap (λ z. component_part_item c ∷ z) (parts_o
 pub components_made : (cs : List ComponentTree) → components_nodes (map view_component cs) ≡ listed component_item component_part_item cs
 components_made [] = refl
 components_made (c ∷ cs) = ap (λ z. component_item c ∷ z) (parts_of_components cs)
+
+pub hidden_made : (ss : List (String Global)) → 0 < length ss → hidden_node (map string_bytes ss) ≡ branch hidden (key w.Hidden ∷ names_nodes ss) ∷ []
+hidden_made [] h = absurd (omega arith)
+hidden_made (s ∷ ss) h = ap (λ z. branch hidden (key w.Hidden ∷ (name_item s ∷ z)) ∷ []) (parts_of_names ss)
 
 -- the blocks one after the other are the blocks as they nest
 pub body_made : (f e s t u : List Node) (a b : Node) → ((f ++ a ∷ []) ++ (e ++ s)) ++ (b ∷ (t ++ u)) ≡ f ++ (a ∷ (e ++ (s ++ (b ∷ (t ++ u)))))

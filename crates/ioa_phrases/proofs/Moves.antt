@@ -15,7 +15,7 @@ use Rattle.ioa_trees.specs.declared.tree.Relation.{Relation}
 use Rattle.ioa_trees.specs.declared.tree.Relation.TheVariants as relation
 use Rattle.ioa_trees.specs.Spelling.{word_of_kind, word_of_sign, word_of_relation}
 use Rattle.ioa_phrases.proofs.Complete.{Quiet, skip_many, skip_maybe}
-use Rattle.ioa_trees.specs.Nodes.{Sort, Node, Leaf, and_part, argument_part, arguments, component_part, eff_part, else_part, elseif_part, formal_part, index_part, name_part, or_part, parameter_part, parameters, pre_part, statement_part, states, task, tasks, type_definition, variable_part, comparison, compared, negation, unary, postfix, sum, addend, product, factor, init, term, formal, entry, variable, component, type, type_body}
+use Rattle.ioa_trees.specs.Nodes.{Sort, Node, Leaf, and_part, argument_part, arguments, component_part, eff_part, else_part, elseif_part, formal_part, hidden, index_part, name_part, or_part, parameter_part, parameters, pre_part, statement_part, states, task, tasks, type_definition, variable_part, comparison, compared, negation, unary, postfix, sum, addend, product, factor, init, term, formal, entry, variable, component, type, type_body}
 use Rattle.ioa_trees.specs.Grammar.{entry_parts, first, Class, Part, Place, many, maybe, token, word, name, number, led, plain, pick, accepts, outside}
 use Rattle.ioa_phrases.specs.Machine.{Frames, depth, In, State, Step, Want, At, want, at, move, go, on, Verdict, Syntax, Deep, descend_by, enter}
 use Rattle.ioa_phrases.specs.Reads.{Names, NamesInside, Stops, Gives, GivesLow, front_name, front_number, leads, starts_by, may_start, deep_stop, front_starts}
@@ -179,6 +179,9 @@ no_type_definition z done i ps k ts h = skip_many true z type_definition done i 
 
 pub no_component_part : (z : Sort) (done : List Node) (i : Place) (ps : List Part) (k : Frames) (ts : List Tok) → sees w.Semicolon ts ≡ false → go true (At z done (many component_part i ∷ ps) k) ts ≡ go true (at z done ps k) ts
 no_component_part z done i ps k ts h = skip_many true z component_part done i ps k ts (quiet_word w.Semicolon ts h)
+
+pub no_hidden : (z : Sort) (done : List Node) (i : Place) (ps : List Part) (k : Frames) (ts : List Tok) → sees w.Hidden ts ≡ false → go true (At z done (maybe hidden i ∷ ps) k) ts ≡ go true (at z done ps k) ts
+no_hidden z done i ps k ts h = skip_maybe true z hidden done i ps k ts (quiet_word w.Hidden ts h)
 
 no_front : (f : ℕ) (r : Sort) (t : Tok) → starts_by f r t ≡ false → hit (classes_by f r) t ≡ false
 no_front zero r t h = refl

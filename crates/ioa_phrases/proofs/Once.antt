@@ -3,9 +3,9 @@ use Rattle.std.proofs.Common.{◌≡◌, ◌<◌, ℕ, arith, length, Bool, true
 use Rattle.ioa_trees.specs.declared.tree.EntryKind.TheVariants as kind
 use Rattle.ioa_tokens.specs.declared.Word.TheVariants as w
 use Rattle.ioa_tokens.specs.Tokens.{Name, Key, is}
-use Rattle.ioa_trees.specs.Nodes.{source, type_definition, type_body, name_part, basic, further, formal, formal_part, states, variable_part, tasks, entry, parameter_part, transition, pre_part, eff_part, component, component_part, argument_part, Node, Leaf, Branch, Nodes, none, more, pack}
+use Rattle.ioa_trees.specs.Nodes.{source, type_definition, type_body, name_part, basic, further, formal, formal_part, states, variable_part, tasks, entry, parameter_part, transition, pre_part, eff_part, component, component_part, hidden, argument_part, Node, Leaf, Branch, Nodes, none, more, pack}
 use Rattle.ioa_trees.specs.Trees.{Bytes, PlainType, Bools, Ints, Range, Named, SeqOf, ArrayOf, PlainTerm, Empty, PlainDeclared, PlainStatements, no_statement, more_statements, PlainParameter, Constant, Typed, PlainEntry, PlainVariable, PlainTransition, PlainAutomaton, PlainComponent, PlainTypeBody, Same, Enumeration, PlainTypeDefinition, PlainSource}
-use Rattle.ioa_trees.specs.Spelling.{key, named, type_node, node, formal_node, parameter_node, parts, parameters_node, entry_node, variable_node, states_node, pre_node, eff_node, transition_node, task_node, tasks_node, body_nodes, formals_nodes, basic_node, arguments_node, component_node, components_nodes, type_body_node, next_name, further_nodes, source_nodes, source_node, spell, IsSource}
+use Rattle.ioa_trees.specs.Spelling.{key, named, type_node, node, formal_node, parameter_node, parts, parameters_node, entry_node, variable_node, states_node, pre_node, eff_node, transition_node, task_node, tasks_node, body_nodes, formals_nodes, basic_node, arguments_node, component_node, components_nodes, hidden_node, type_body_node, next_name, further_nodes, source_nodes, source_node, spell, IsSource}
 use Rattle.ioa_trees.specs.Grammar.{Part, token, many, word, outside, Is, Are, by_token, by_rule, a_source, a_token, no_more, one_more}
 use Rattle.ioa_phrases.proofs.Complete.{one_tree}
 use Rattle.ioa_phrases.proofs.Backwards.{back_init, back_kind, back_parts, back_parts_to, back_statements, back_term, back_type, declared_of, init_of, inside, items, kind_of, name_of, statements_of, term_of, type_of}
@@ -162,26 +162,26 @@ back_basic a = formals_back a.formals
 
 -- ---- sources, read from their end
 
-abbrev laid : List PlainTypeDefinition → List PlainAutomaton → Bytes → List PlainComponent → PlainSource
-laid ts rest s cs = record { types = ts; automata = rest; composed = record { name = s; components = cs } }
+abbrev laid : List PlainTypeDefinition → List PlainAutomaton → Bytes → List PlainComponent → List Bytes → PlainSource
+laid ts rest s cs hs = record { types = ts; automata = rest; composed = record { name = s; components = cs; hidden = hs } }
 
 -- A name is that of the automaton that follows it, or of the composed one.
 abbrev with_name : Bytes → PlainSource → PlainSource
 with_name s x = give x.automata
   where
     give : List PlainAutomaton → PlainSource
-    give [] = laid x.types [] s x.composed.components
+    give [] = laid x.types [] s x.composed.components x.composed.hidden
     give (a ∷ rest) =
-        laid x.types (record { name = s; formals = a.formals; entries = a.entries; variables = a.variables; transitions = a.transitions; tasks = a.tasks } ∷ rest) x.composed.name x.composed.components
+        laid x.types (record { name = s; formals = a.formals; entries = a.entries; variables = a.variables; transitions = a.transitions; tasks = a.tasks } ∷ rest) x.composed.name x.composed.components x.composed.hidden
 
 abbrev with_type : PlainTypeDefinition → PlainSource → PlainSource
-with_type d x = laid (d ∷ x.types) x.automata x.composed.name x.composed.components
+with_type d x = laid (d ∷ x.types) x.automata x.composed.name x.composed.components x.composed.hidden
 
 abbrev with_automaton : PlainAutomaton → PlainSource → PlainSource
-with_automaton a x = laid x.types (a ∷ x.automata) x.composed.name x.composed.components
+with_automaton a x = laid x.types (a ∷ x.automata) x.composed.name x.composed.components x.composed.hidden
 
 abbrev with_component : PlainComponent → PlainSource → PlainSource
-with_component c x = laid x.types x.automata x.composed.name (c ∷ x.composed.components)
+with_component c x = laid x.types x.automata x.composed.name (c ∷ x.composed.components) x.composed.hidden
 
 abbrev definition_of : Nodes → PlainTypeDefinition
 definition_of (more k (more n (more e (more b ns)))) = record { name = name_of n; body = type_body_of b }
@@ -199,37 +199,42 @@ back_component c = λ i. record { name = c.name; automaton = c.automaton; argume
     arguments_back (t ∷ ts) = λ i. back_term t i ∷ back_parts_to argument_part w.Close term_of node back_term ts i
 
 abbrev source_from : Nodes → PlainSource
-source_from none = laid [] [] [] []
+source_from none = laid [] [] [] [] []
 source_from (more (Leaf (Name s)) ns) = with_name s (source_from ns)
 source_from (more (Branch type_definition ks) ns) = with_type (definition_of ks) (source_from ns)
 source_from (more (Branch basic ks) ns) = with_automaton (basic_from ks) (source_from ns)
 source_from (more (Branch further (more b (more k (more n ms)))) ns) = with_automaton (basic_of b) (with_name (name_of n) (source_from ns))
 source_from (more (Branch component ks) ns) = with_component (component_of (Branch component ks)) (source_from ns)
 source_from (more (Branch component_part (more k (more n ms))) ns) = with_component (component_of n) (source_from ns)
+source_from (more (Branch hidden (more k ks)) ns) = laid [] [] [] [] (items name_of ks)
 source_from (more n ns) = source_from ns
 
 abbrev source_of : Node → PlainSource
 source_of (Branch s ns) = source_from ns
-source_of (Leaf t) = laid [] [] [] []
+source_of (Leaf t) = laid [] [] [] [] []
 
-at_components : (cs : List PlainComponent) → source_from (pack (components_nodes cs)) ≡ laid [] [] [] cs
-at_components [] = refl
-at_components (c ∷ cs) = λ i. with_component (back_component c i) (at_parts cs i)
+at_hidden : (hs : List Bytes) → source_from (pack (hidden_node hs)) ≡ laid [] [] [] [] hs
+at_hidden [] = refl
+at_hidden (s ∷ ss) = λ i. laid [] [] [] [] (s ∷ back_parts name_part name_of named (λ s. refl) ss i)
+
+at_components : (cs : List PlainComponent) (hs : List Bytes) → source_from (pack (components_nodes cs ++ hidden_node hs)) ≡ laid [] [] [] cs hs
+at_components [] hs = at_hidden hs
+at_components (c ∷ cs) hs = λ i. with_component (back_component c i) (at_parts cs i)
   where
-    at_parts : (cs : List PlainComponent) → source_from (pack (parts component_part w.Semicolon component_node cs)) ≡ laid [] [] [] cs
-    at_parts [] = refl
+    at_parts : (cs : List PlainComponent) → source_from (pack (parts component_part w.Semicolon component_node cs ++ hidden_node hs)) ≡ laid [] [] [] cs hs
+    at_parts [] = at_hidden hs
     at_parts (c ∷ cs) = λ i. with_component (back_component c i) (at_parts cs i)
 
-at_further : (rest : List PlainAutomaton) (s : Bytes) (cs : List PlainComponent)
-    → with_name (next_name rest s) (source_from (pack (further_nodes rest s ++ (key w.Components ∷ components_nodes cs)))) ≡ laid [] rest s cs
-at_further [] s cs = ap (with_name s) (at_components cs)
-at_further (a ∷ rest) s cs = λ i. with_name a.name (with_automaton (back_basic a i) (at_further rest s cs i))
+at_further : (rest : List PlainAutomaton) (s : Bytes) (cs : List PlainComponent) (hs : List Bytes)
+    → with_name (next_name rest s) (source_from (pack (further_nodes rest s ++ (key w.Components ∷ (components_nodes cs ++ hidden_node hs))))) ≡ laid [] rest s cs hs
+at_further [] s cs hs = ap (with_name s) (at_components cs hs)
+at_further (a ∷ rest) s cs hs = λ i. with_name a.name (with_automaton (back_basic a i) (at_further rest s cs hs i))
 
 -- where there is an automaton
-back_source : (ts : List PlainTypeDefinition) (a : PlainAutomaton) (rest : List PlainAutomaton) (s : Bytes) (cs : List PlainComponent)
-    → source_of (source_node (laid ts (a ∷ rest) s cs)) ≡ laid ts (a ∷ rest) s cs
-back_source [] a rest s cs = at_further (a ∷ rest) s cs
-back_source (t ∷ ts) a rest s cs = λ i. with_type (record { name = t.name; body = back_type_body t.body i }) (back_source ts a rest s cs i)
+back_source : (ts : List PlainTypeDefinition) (a : PlainAutomaton) (rest : List PlainAutomaton) (s : Bytes) (cs : List PlainComponent) (hs : List Bytes)
+    → source_of (source_node (laid ts (a ∷ rest) s cs hs)) ≡ laid ts (a ∷ rest) s cs hs
+back_source [] a rest s cs hs = at_further (a ∷ rest) s cs hs
+back_source (t ∷ ts) a rest s cs hs = λ i. with_type (record { name = t.name; body = back_type_body t.body i }) (back_source ts a rest s cs hs i)
 
 -- ---- The grammar wants an automaton.
 
@@ -259,30 +264,34 @@ source_wants n (by_token t ps ns p are e) = cc
 source_wants n (by_rule r ps m ns p one are e) = cc
 source_wants n (a_source ns are e) = ap (λ z. has_automaton (nodes_of z)) e ∙ wants ns are
 
-has_none : (ts : List PlainTypeDefinition) (s : Bytes) (cs : List PlainComponent) → has_automaton (pack (source_nodes (laid ts [] s cs))) ≡ false
-has_none (t ∷ ts) s cs = has_none ts s cs
-has_none [] s [] = refl
-has_none [] s (c ∷ cs) = at_parts cs
+none_hidden : (hs : List Bytes) → has_automaton (pack (hidden_node hs)) ≡ false
+none_hidden [] = refl
+none_hidden (s ∷ ss) = refl
+
+has_none : (ts : List PlainTypeDefinition) (s : Bytes) (cs : List PlainComponent) (hs : List Bytes) → has_automaton (pack (source_nodes (laid ts [] s cs hs))) ≡ false
+has_none (t ∷ ts) s cs hs = has_none ts s cs hs
+has_none [] s [] hs = none_hidden hs
+has_none [] s (c ∷ cs) hs = at_parts cs
   where
-    at_parts : (cs : List PlainComponent) → has_automaton (pack (parts component_part w.Semicolon component_node cs)) ≡ false
-    at_parts [] = refl
+    at_parts : (cs : List PlainComponent) → has_automaton (pack (parts component_part w.Semicolon component_node cs ++ hidden_node hs)) ≡ false
+    at_parts [] = none_hidden hs
     at_parts (c ∷ cs) = at_parts cs
 
 -- A source has an automaton beside the composed one.
 pub some_automaton : (b : Bool) (x : PlainSource) → IsSource b x → 0 < length x.automata
 some_automaton b x p = at_automata x.automata p
   where
-    at_automata : (rest : List PlainAutomaton) → IsSource b (laid x.types rest x.composed.name x.composed.components) → 0 < length rest
-    at_automata [] p = let a : true ≡ false = sym (source_wants _ p) ∙ has_none x.types x.composed.name x.composed.components in cc
+    at_automata : (rest : List PlainAutomaton) → IsSource b (laid x.types rest x.composed.name x.composed.components x.composed.hidden) → 0 < length rest
+    at_automata [] p = let a : true ≡ false = sym (source_wants _ p) ∙ has_none x.types x.composed.name x.composed.components x.composed.hidden in cc
     at_automata (a ∷ rest) p = omega arith
 
 source_back : (b : Bool) (x : PlainSource) → IsSource b x → source_of (source_node x) ≡ x
 source_back b x p = at_automata x.automata p
   where
-    at_automata : (rest : List PlainAutomaton) → IsSource b (laid x.types rest x.composed.name x.composed.components)
-        → source_of (source_node (laid x.types rest x.composed.name x.composed.components)) ≡ laid x.types rest x.composed.name x.composed.components
-    at_automata [] p = let a : true ≡ false = sym (source_wants _ p) ∙ has_none x.types x.composed.name x.composed.components in cc
-    at_automata (a ∷ rest) p = back_source x.types a rest x.composed.name x.composed.components
+    at_automata : (rest : List PlainAutomaton) → IsSource b (laid x.types rest x.composed.name x.composed.components x.composed.hidden)
+        → source_of (source_node (laid x.types rest x.composed.name x.composed.components x.composed.hidden)) ≡ laid x.types rest x.composed.name x.composed.components x.composed.hidden
+    at_automata [] p = let a : true ≡ false = sym (source_wants _ p) ∙ has_none x.types x.composed.name x.composed.components x.composed.hidden in cc
+    at_automata (a ∷ rest) p = back_source x.types a rest x.composed.name x.composed.components x.composed.hidden
 
 -- Two sources with one node are the same.
 pub same_source : (limited : Bool) (x y : PlainSource) → IsSource limited x → IsSource limited y → source_node x ≡ source_node y → x ≡ y

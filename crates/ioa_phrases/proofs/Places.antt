@@ -4,7 +4,7 @@ use borrow.Author.Tests.{le-ltb}
 use Rattle.std.proofs.lemmas.Bool.{ltb-false}
 use Rattle.ioa_tokens.specs.declared.Word.TheVariants as w
 use Rattle.ioa_tokens.specs.Tokens.{Tok, Name, Num, Key, is}
-use Rattle.ioa_trees.specs.Nodes.{Sort, source, type_definition, type_body, name_part, type, signed, basic, further, formal, formal_part, states, variable, variable_part, tasks, task, entry, parameters, parameter, parameter_part, transition, pre_part, eff_part, component, component_part, arguments, argument_part, statements, statement_part, statement, choice, elseif_part, else_part, index_part, init, term, or_part, conjunction, and_part, negation, comparison, compared, sum, addend, product, factor, unary, postfix, primary, Node, Leaf, Branch, Nodes, none, more, pack, alone, passes, make, yield, yields, yield_nodes}
+use Rattle.ioa_trees.specs.Nodes.{Sort, source, type_definition, type_body, name_part, type, signed, basic, further, formal, formal_part, states, variable, variable_part, tasks, task, entry, parameters, parameter, parameter_part, transition, pre_part, eff_part, component, component_part, hidden, arguments, argument_part, statements, statement_part, statement, choice, elseif_part, else_part, index_part, init, term, or_part, conjunction, and_part, negation, comparison, compared, sum, addend, product, factor, unary, postfix, primary, Node, Leaf, Branch, Nodes, none, more, pack, alone, passes, make, yield, yields, yield_nodes}
 use Rattle.ioa_trees.specs.Grammar.{Class, name, number, word, accepts, Place, outside, first, inside, deeper, Part, token, one, maybe, many, led, plain, whole, pick, Is, Are, by_token, by_rule, a_source, end, a_token, a_rule, absent, present, no_more, one_more}
 use Rattle.ioa_phrases.specs.Machine.{on, checked, nullable}
 use Rattle.ioa_phrases.specs.Depths.{opens, closes, here, behind, depths, depths_in}
@@ -104,6 +104,7 @@ all_agreed pre_part = refl
 all_agreed eff_part = refl
 all_agreed component = refl
 all_agreed component_part = refl
+all_agreed hidden = refl
 all_agreed arguments = refl
 all_agreed argument_part = refl
 all_agreed statements = refl

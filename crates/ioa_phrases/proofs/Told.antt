@@ -5,7 +5,7 @@ use Rattle.ioa_tokens.specs.contracts.Word.{the_type}
 use Rattle.ioa_tokens.specs.declared.Word.{Word}
 use Rattle.ioa_tokens.specs.declared.Word.TheVariants as w
 use Rattle.ioa_tokens.specs.Tokens.{Tok, Name, Num, Key, same_word, is}
-use Rattle.ioa_trees.specs.Nodes.{Sort, source, type_definition, type_body, name_part, type, signed, basic, further, formal, formal_part, states, variable, variable_part, tasks, task, entry, parameters, parameter, parameter_part, transition, pre_part, eff_part, component, component_part, arguments, argument_part, statements, statement_part, statement, choice, elseif_part, else_part, index_part, init, term, or_part, conjunction, and_part, negation, comparison, compared, sum, addend, product, factor, unary, postfix, primary, Leaf}
+use Rattle.ioa_trees.specs.Nodes.{Sort, source, type_definition, type_body, name_part, type, signed, basic, further, formal, formal_part, states, variable, variable_part, tasks, task, entry, parameters, parameter, parameter_part, transition, pre_part, eff_part, component, component_part, hidden, arguments, argument_part, statements, statement_part, statement, choice, elseif_part, else_part, index_part, init, term, or_part, conjunction, and_part, negation, comparison, compared, sum, addend, product, factor, unary, postfix, primary, Leaf}
 use Rattle.ioa_trees.specs.Grammar.{Class, name, number, word, accepts, Part, token, one, maybe, many, led, plain, whole, pick, outside}
 use Rattle.ioa_phrases.specs.Machine.{Frames, In, depth, on, want, at, enter, move, ending, Syntax}
 
@@ -178,6 +178,7 @@ trails pre_part = word w.Or ∷ (word w.And ∷ (word w.Equal ∷ (word w.NotEqu
 trails eff_part = word w.Semicolon ∷ (word w.Or ∷ (word w.And ∷ (word w.Equal ∷ (word w.NotEqual ∷ (word w.Less ∷ (word w.AtMost ∷ (word w.Greater ∷ (word w.AtLeast ∷ (word w.Plus ∷ (word w.Minus ∷ (word w.Times ∷ (word w.Mod ∷ (word w.OpenBracket ∷ [])))))))))))))
 trails component = word w.Open ∷ []
 trails component_part = word w.Open ∷ []
+trails hidden = word w.Comma ∷ []
 trails argument_part = word w.Or ∷ (word w.And ∷ (word w.Equal ∷ (word w.NotEqual ∷ (word w.Less ∷ (word w.AtMost ∷ (word w.Greater ∷ (word w.AtLeast ∷ (word w.Plus ∷ (word w.Minus ∷ (word w.Times ∷ (word w.Mod ∷ (word w.OpenBracket ∷ []))))))))))))
 trails statements = word w.Semicolon ∷ (word w.Or ∷ (word w.And ∷ (word w.Equal ∷ (word w.NotEqual ∷ (word w.Less ∷ (word w.AtMost ∷ (word w.Greater ∷ (word w.AtLeast ∷ (word w.Plus ∷ (word w.Minus ∷ (word w.Times ∷ (word w.Mod ∷ (word w.OpenBracket ∷ [])))))))))))))
 trails statement_part = word w.Or ∷ (word w.And ∷ (word w.Equal ∷ (word w.NotEqual ∷ (word w.Less ∷ (word w.AtMost ∷ (word w.Greater ∷ (word w.AtLeast ∷ (word w.Plus ∷ (word w.Minus ∷ (word w.Times ∷ (word w.Mod ∷ (word w.OpenBracket ∷ []))))))))))))
@@ -261,6 +262,7 @@ all_told pre_part = refl
 all_told eff_part = refl
 all_told component = refl
 all_told component_part = refl
+all_told hidden = refl
 all_told arguments = refl
 all_told argument_part = refl
 all_told statements = refl
@@ -316,6 +318,7 @@ starts_is pre_part = refl
 starts_is eff_part = refl
 starts_is component = refl
 starts_is component_part = refl
+starts_is hidden = refl
 starts_is arguments = refl
 starts_is argument_part = refl
 starts_is statements = refl
@@ -366,6 +369,7 @@ enter_is pre_part t k = refl
 enter_is eff_part t k = refl
 enter_is component t k = refl
 enter_is component_part t k = refl
+enter_is hidden t k = refl
 enter_is arguments t k = refl
 enter_is argument_part t k = refl
 enter_is statements t k = refl
@@ -416,6 +420,7 @@ move_want pre_part t k = refl
 move_want eff_part t k = refl
 move_want component t k = refl
 move_want component_part t k = refl
+move_want hidden t k = refl
 move_want arguments t k = refl
 move_want argument_part t k = refl
 move_want statements t k = refl
@@ -466,6 +471,7 @@ want_ending pre_part k = refl
 want_ending eff_part k = refl
 want_ending component k = refl
 want_ending component_part k = refl
+want_ending hidden k = refl
 want_ending arguments k = refl
 want_ending argument_part k = refl
 want_ending statements k = refl

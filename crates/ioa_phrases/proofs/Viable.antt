@@ -4,7 +4,7 @@ use denote.Enum.Bare.{true_same}
 use Rattle.ioa_tokens.specs.contracts.Word.{the_type}
 use Rattle.ioa_tokens.specs.declared.Word.TheVariants as w
 use Rattle.ioa_tokens.specs.Tokens.{Tok, Name, Num, Key}
-use Rattle.ioa_trees.specs.Nodes.{Sort, source, type_definition, type_body, name_part, type, signed, basic, further, formal, formal_part, states, variable, variable_part, tasks, task, entry, parameters, parameter, parameter_part, transition, pre_part, eff_part, component, component_part, arguments, argument_part, statements, statement_part, statement, choice, elseif_part, else_part, index_part, init, term, or_part, conjunction, and_part, negation, comparison, compared, sum, addend, product, factor, unary, postfix, primary, Node, Leaf, make, yield, yields}
+use Rattle.ioa_trees.specs.Nodes.{Sort, source, type_definition, type_body, name_part, type, signed, basic, further, formal, formal_part, states, variable, variable_part, tasks, task, entry, parameters, parameter, parameter_part, transition, pre_part, eff_part, component, component_part, hidden, arguments, argument_part, statements, statement_part, statement, choice, elseif_part, else_part, index_part, init, term, or_part, conjunction, and_part, negation, comparison, compared, sum, addend, product, factor, unary, postfix, primary, Node, Leaf, make, yield, yields}
 use Rattle.ioa_trees.specs.Grammar.{Class, name, number, word, accepts, Part, token, one, maybe, many, led, plain, whole, pick, Is, Are, by_token, by_rule, a_source, end, a_token, a_rule, absent, no_more, Place, outside, first, inside, deeper, Fits}
 use Rattle.ioa_phrases.specs.Machine.{Frames, Bottom, In, depth, State, Want, At, Done, Step, on, move, Syntax, Deep, go, start}
 use Rattle.ioa_phrases.proofs.Prefix.{left}
@@ -186,8 +186,11 @@ sample_component = by_first component (Name []) _ refl (with_token (Key w.Colon)
 sample_component_part : Sample component_part
 sample_component_part = by_first component_part (Key w.Semicolon) _ refl (with_rule sample_component no_parts)
 
+sample_hidden : Sample hidden
+sample_hidden = by_first hidden (Key w.Hidden) _ refl (with_token (Name []) refl (without_many no_parts))
+
 sample_whole : Samples whole
-sample_whole = without_many (with_token (Key w.Automaton) refl (with_token (Name []) refl (with_rule sample_basic (with_token (Key w.Automaton) refl (with_token (Name []) refl (without_many (with_token (Key w.Components) refl (with_rule sample_component (without_many no_parts)))))))))
+sample_whole = without_many (with_token (Key w.Automaton) refl (with_token (Name []) refl (with_rule sample_basic (with_token (Key w.Automaton) refl (with_token (Name []) refl (without_many (with_token (Key w.Components) refl (with_rule sample_component (without_many (without_maybe no_parts))))))))))
 
 sample_source : Sample source
 sample_source = λ d. let x = sample_whole d in (make source x.0, a_source x.0 x.1 refl)
@@ -217,6 +220,7 @@ sample pre_part = sample_pre_part
 sample eff_part = sample_eff_part
 sample component = sample_component
 sample component_part = sample_component_part
+sample hidden = sample_hidden
 sample arguments = sample_arguments
 sample argument_part = sample_argument_part
 sample statements = sample_statements

@@ -9,7 +9,7 @@ use Rattle.ioa_trees.specs.declared.tree.TypeDefinition.{TypeDefinition}
 use Rattle.ioa_trees.specs.declared.tree.Variable.{Variable}
 use Rattle.ioa_tokens.specs.declared.Word.TheVariants as w
 use Rattle.ioa_tokens.specs.Tokens.{Tok}
-use Rattle.ioa_trees.specs.Nodes.{Sort, source, type_definition, basic, further, formal, formal_part, variable, variable_part, tasks, transition, component, component_part, Node}
+use Rattle.ioa_trees.specs.Nodes.{Sort, source, type_definition, basic, further, formal, formal_part, variable, variable_part, tasks, transition, component, component_part, hidden, Node}
 use Rattle.ioa_trees.specs.Grammar.{Part, token, name, word, one, maybe, many, outside, first, inside, after_signature, definition_parts, whole}
 use Rattle.ioa_phrases.specs.Machine.{Frames, Bottom, In, depth, at, want, go}
 use Rattle.ioa_trees.specs.Spelling.{key, branch, formal_node, formals_nodes, variable_node, task_node, component_node, type_definition_node}
@@ -59,8 +59,12 @@ after_states = token (word w.Transitions) outside ∷ (one transition outside �
 abbrev pub head_nodes : List PlainDeclared → List Node
 head_nodes ds = formals_nodes ds ++ key w.Signature ∷ []
 
+-- the end of a source
+abbrev pub hidden_parts : List Part
+hidden_parts = maybe hidden outside ∷ []
+
 abbrev pub component_parts : List Part
-component_parts = token (word w.Components) outside ∷ (one component outside ∷ (many component_part outside ∷ []))
+component_parts = token (word w.Components) outside ∷ (one component outside ∷ (many component_part outside ∷ hidden_parts))
 
 abbrev pub further_parts : List Part
 further_parts = many further outside ∷ component_parts

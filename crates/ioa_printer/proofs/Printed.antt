@@ -3,11 +3,11 @@ use Rattle.std.proofs.Common.{◌≡◌, ◌++◌, ◌==◌, true, false, List, 
 use Rattle.std.proofs.lemmas.List.{append_assoc, append-nil}
 use Rattle.ioa_tokens.specs.declared.Word.TheVariants as w
 use Rattle.ioa_tokens.specs.Tokens.{Tok, Key, Name}
-use Rattle.ioa_trees.specs.Nodes.{variable_part, pack, yield, yields, yield_nodes}
+use Rattle.ioa_trees.specs.Nodes.{name_part, variable_part, pack, yield, yields, yield_nodes}
 use Rattle.ioa_trees.specs.Trees.{Bytes, PlainAutomaton, PlainVariable, PlainSource, PlainTerm, PlainDeclared, PlainStatements, PlainStatement, For, If}
-use Rattle.ioa_trees.specs.Spelling.{key, parts, variable_node, task_node, tasks_node, body_nodes, formals_nodes, states_node, basic_node, next_name, further_nodes, automata_nodes, type_definition_node, source_nodes, spell, statement_node, statements_node, if_nodes, else_nodes}
+use Rattle.ioa_trees.specs.Spelling.{key, named, parts, composed_nodes, hidden_node, variable_node, task_node, tasks_node, body_nodes, formals_nodes, states_node, basic_node, next_name, further_nodes, automata_nodes, type_definition_node, source_nodes, spell, statement_node, statements_node, if_nodes, else_nodes}
 use Rattle.ioa_printer.proofs.Yields.{yields_pack, yields_append}
-use Rattle.ioa_printer.specs.Printed.{loop_toks, head_nodes, behaviour_nodes, automata_toks, composed_nodes}
+use Rattle.ioa_printer.specs.Printed.{loop_toks, head_nodes, behaviour_nodes, automata_toks}
 use Rattle.std.specs.Prelude.{string_bytes}
 use Rattle.ioa_trees.specs.declared.tree.Declared.{Declared}
 use Rattle.ioa_trees.specs.declared.tree.Automaton.{Automaton}
@@ -125,6 +125,23 @@ states_laid v vs =
 pub tasks_laid : (t : List Bytes) (ts : List (List Bytes)) → yields (tasks_node (t ∷ ts)) ≡ Key w.Tasks ∷ yields (map task_node (t ∷ ts))
 tasks_laid t ts =
     append-nil (Key w.Tasks ∷ (yield (task_node t) ++ yield_nodes (pack (map task_node ts)))) ∙ ap (λ z. Key w.Tasks ∷ (yield (task_node t) ++ z)) (yields_pack (map task_node ts))
+
+-- `hidden` and the names
+hidden_laid : (s : Bytes) (ss : List Bytes) → yields (hidden_node (s ∷ ss)) ≡ Key w.Hidden ∷ (Name s ∷ yields (parts name_part w.Comma named ss))
+hidden_laid s ss =
+    let others = parts name_part w.Comma named ss in
+    append-nil (Key w.Hidden ∷ (Name s ∷ yield_nodes (pack others))) ∙ ap (λ z. Key w.Hidden ∷ (Name s ∷ z)) (yields_pack others)
+
+-- the hidden outputs, step by step
+pub hidden_put : (p q r s : List Tok) (all : List Bytes) (n : Bytes) (ns : List Bytes) → all ≡ n ∷ ns →
+    q ≡ p ++ Key w.Hidden ∷ [] → r ≡ q ++ Name n ∷ [] → s ≡ r ++ yields (parts name_part w.Comma named ns) → s ≡ p ++ yields (hidden_node all)
+hidden_put p q r s all n ns is e f g =
+    let others = yields (parts name_part w.Comma named ns) in
+    g ∙ ap (λ z. z ++ others) (f ∙ ap (λ z. z ++ Name n ∷ []) e)
+    ∙ append_assoc (p ++ Key w.Hidden ∷ []) (Name n ∷ []) others
+    ∙ append_assoc p (Key w.Hidden ∷ []) (Name n ∷ others)
+    ∙ ap (λ z. p ++ z) (sym (hidden_laid n ns))
+    ∙ ap (λ ns. p ++ yields (hidden_node ns)) (sym is)
 
 -- the variables of a state, step by step
 pub states_put : (p q r s : List Tok) (all : List PlainVariable) (v : PlainVariable) (vs : List PlainVariable) → all ≡ v ∷ vs →

@@ -3,8 +3,8 @@ use Rattle.std.specs.Prelude.{Bool, true, false, List, [], ◌∷◌, ◌++◌, 
 use Rattle.ioa_tokens.specs.declared.Word.TheVariants as w
 use Rattle.ioa_tokens.specs.Tokens.{Tok, Key, Name}
 use Rattle.ioa_trees.specs.Nodes.{Node, Nodes, yield, yield_nodes}
-use Rattle.ioa_trees.specs.Trees.{PlainStatements, PlainBranches, PlainDeclared, PlainAutomaton, PlainComposed}
-use Rattle.ioa_trees.specs.Spelling.{key, type_node, formals_nodes, entry_node, states_node, transition_node, tasks_node, basic_node, components_nodes, statements_node, statement_nodes, if_nodes, elseif_nodes}
+use Rattle.ioa_trees.specs.Trees.{PlainStatements, PlainBranches, PlainDeclared, PlainAutomaton}
+use Rattle.ioa_trees.specs.Spelling.{key, type_node, formals_nodes, entry_node, states_node, transition_node, tasks_node, basic_node, statements_node, statement_nodes, if_nodes, elseif_nodes}
 
 -- the statements that are left, the first of all or later ones
 abbrev pub rest_toks : Bool → PlainStatements → List Tok
@@ -35,7 +35,3 @@ automaton_toks a = Key w.Automaton ∷ (Name a.name ∷ yield (basic_node a))
 abbrev pub automata_toks : List PlainAutomaton → List Tok
 automata_toks [] = []
 automata_toks (a ∷ rest) = automaton_toks a ++ automata_toks rest
-
--- the components of the composed automaton
-abbrev pub composed_nodes : PlainComposed → List Node
-composed_nodes c = key w.Components ∷ components_nodes c.components

@@ -3,8 +3,8 @@ ghost use Rattle.std.specs.Prelude.{◌≡◌, ◌++◌, OnOk, map, string_bytes
 ghost use Rattle.ioa_tokens.specs.declared.Word.TheVariants as w;
 ghost use Rattle.ioa_trees.specs.Nodes.{argument_part, component_part, yield, yields};
 ghost use Rattle.ioa_trees.specs.Trees.{Enumeration};
-ghost use Rattle.ioa_trees.specs.Spelling.{parts, node, arguments_node, component_node, components_nodes, type_body_node, type_definition_node, automata_nodes, spell};
-ghost use Rattle.ioa_printer.specs.Printed.{automaton_toks, automata_toks, composed_nodes};
+ghost use Rattle.ioa_trees.specs.Spelling.{parts, node, arguments_node, component_node, components_nodes, composed_nodes, hidden_node, type_body_node, type_definition_node, automata_nodes, spell};
+ghost use Rattle.ioa_printer.specs.Printed.{automaton_toks, automata_toks};
 ghost use Rattle.ioa_trees.specs.Views.{view, view_automaton, view_component, view_composed, view_type_body, view_type_definition, view_source};
 
 use crate::automata::put_basic;
@@ -158,13 +158,27 @@ fn put_components<'a>(page: &mut Page<'a>, components: &'a [ComponentTree]) -> R
     put_more_components(page, others)
 }
 
-// The components of the composed automaton.
-#[tactic(auto, using(std::proofs::lemmas::List::append_assoc))]
+// The hidden outputs, where there are some.
+fn put_hidden<'a>(page: &mut Page<'a>, names: &'a [String]) -> Result<(), NoMemory>
+    ensures { OnOk result (page.new ≡ page.old ++ yields (hidden_node (map string_bytes names.now))) }
+{
+    let Some((first, others)) = names.split_first() else {
+        return Ok(());
+    };
+    page.put_word(Word::Hidden)?;
+    page.put_name(first.as_str())?;
+    put_more_names(page, others)?;
+    Ok(())
+}
+
+// The components of the composed automaton, and its hidden outputs.
+#[tactic(auto, using(std::proofs::lemmas::List::append_assoc, crate::proofs::Yields::yields_append))]
 fn put_composed<'a>(page: &mut Page<'a>, composed: &'a Composed) -> Result<(), NoMemory>
     ensures { OnOk result (page.new ≡ page.old ++ yields (composed_nodes (view_composed composed.now))) }
 {
     page.put_word(Word::Components)?;
-    put_components(page, composed.components.as_slice())
+    put_components(page, composed.components.as_slice())?;
+    put_hidden(page, composed.hidden.as_slice())
 }
 
 /// A whole source.
