@@ -6,6 +6,7 @@ pub mod Declaring
 pub mod Defined
 pub mod Enumerations
 pub mod Fitting
+pub mod Hiding
 pub mod Lists
 pub mod Naming
 pub mod Rows

@@ -1,5 +1,5 @@
 -- Tasks: their sizes, their faults and the places of their actions.
-use Rattle.std.proofs.Common.{◌≡◌, ℕ, ◌+◌, ◌*◌, true, false, not, ◌||◌, if◌then◌else◌, bytes_eq, Option, List, [], ◌∷◌, ◌++◌, length, map, string_bytes, refl, ap, sym, ◌∙◌, arith}
+use Rattle.std.proofs.Common.{◌≡◌, ℕ, ◌+◌, ◌*◌, false, not, ◌||◌, if◌then◌else◌, bytes_eq, Option, List, [], ◌∷◌, ◌++◌, length, map, string_bytes, refl, ap, sym, ◌∙◌, arith}
 use Rattle.std.specs.declared.string.String.{String}
 use Rattle.ioa_trees.specs.Trees.{Bytes, PlainEntry, PlainTransition}
 use Rattle.ioa_rules.specs.AutomatonRules.{is_controlled_name, place_of, task_faults, tasks_faults}
@@ -10,7 +10,7 @@ use Rattle.ioa_check.specs.Sets.{Adds, AreNames}
 use Rattle.ioa_typing.proofs.Keeps.{keep_append}
 use Rattle.ioa_check.proofs.Lists.{added_front, same_front}
 
-behind_names : {A : Type 0} (ns : List (String A)) → behind name_size (map string_bytes ns) ≡ 2 * length ns
+pub behind_names : {A : Type 0} (ns : List (String A)) → behind name_size (map string_bytes ns) ≡ 2 * length ns
 behind_names [] = refl
 behind_names (n ∷ ns) = let rest = behind_names ns in omega (arith, rest)
 

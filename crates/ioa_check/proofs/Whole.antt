@@ -4,9 +4,9 @@ use Rattle.std.specs.List.{list_any}
 use Rattle.ioa_trees.specs.Trees.{Bytes, PlainSource}
 use Rattle.ioa_check.specs.Sets.{Adds, AreNames}
 use Rattle.ioa_rules.specs.Faults.{Fault, keep}
-use Rattle.ioa_rules.specs.Scopes.{Scope, taken_before}
+use Rattle.ioa_rules.specs.Scopes.{Scope}
 use Rattle.ioa_rules.specs.AutomatonRules.{MeantAutomaton}
-use Rattle.ioa_rules.specs.SourceRules.{all_locals, automata_faults, automata_size, components_faults, composed_at, definitions_faults, definitions_size, meanings_of, source_faults, table_of, types_scope, whole_scope, with_automata, with_definitions}
+use Rattle.ioa_rules.specs.SourceRules.{all_locals, automata_faults, automata_size, composed_at, composed_faults, definitions_faults, definitions_size, meanings_of, source_faults, table_of, types_scope, whole_scope, with_automata, with_definitions}
 use Rattle.ioa_typing.proofs.Keeps.{keep_both}
 use Rattle.ioa_check.proofs.AutomatonRows.{from_none}
 
@@ -40,8 +40,7 @@ pub record Parts (x : PlainSource) : Type 0 where
   pub meant : table ≡ meanings_of t 0 x.automata
   pub types_kept : p ≡ keep o (definitions_faults s 0 begin x.types)
   pub automata_kept : (L : List Bytes) → AreNames used L → q ≡ keep p (automata_faults t L 0 middle x.automata)
-  pub composed_kept : (L : List Bytes) → AreNames grown L
-      → r ≡ keep q (taken_before u L (last + 1) x.composed.name ++ components_faults u table [] (last + 3) x.composed.components)
+  pub composed_kept : (L : List Bytes) → AreNames grown L → r ≡ keep q (composed_faults u L table last x.composed)
 
 pub all_kept : (x : PlainSource) (h : Parts x) → h.r ≡ keep None (source_faults x)
 all_kept x h =
@@ -58,13 +57,12 @@ all_kept x h =
     h.automata_kept [] (none_named h.used h.none_used) ∙ ap (λ t. keep h.p (automata_faults t [] 0 h.middle x.automata)) scope
     ∙ ap (λ n. keep h.p (automata_faults (types_scope x) [] 0 n x.automata)) middle in
     let names = all_locals x.automata in
-    let rest : (taken_before h.u names (h.last + 1) x.composed.name ++ components_faults h.u h.table [] (h.last + 3) x.composed.components)
-    ≡ (taken_before (whole_scope x) names (composed_at x + 1) x.composed.name ++ components_faults (whole_scope x) (table_of x) [] (composed_at x + 3) x.composed.components) =
-    ap (λ u. taken_before u names (h.last + 1) x.composed.name ++ components_faults u h.table [] (h.last + 3) x.composed.components) whole
-    ∙ ap (λ n. taken_before (whole_scope x) names (n + 1) x.composed.name ++ components_faults (whole_scope x) h.table [] (n + 3) x.composed.components) last
-    ∙ ap (λ t. taken_before (whole_scope x) names (composed_at x + 1) x.composed.name ++ components_faults (whole_scope x) t [] (composed_at x + 3) x.composed.components) table in
-    let given = taken_before h.u names (h.last + 1) x.composed.name ++ components_faults h.u h.table [] (h.last + 3) x.composed.components in
-    let wanted = taken_before (whole_scope x) names (composed_at x + 1) x.composed.name ++ components_faults (whole_scope x) (table_of x) [] (composed_at x + 3) x.composed.components in
+    let rest : composed_faults h.u names h.table h.last x.composed ≡ composed_faults (whole_scope x) names (table_of x) (composed_at x) x.composed =
+    ap (λ u. composed_faults u names h.table h.last x.composed) whole
+    ∙ ap (λ n. composed_faults (whole_scope x) names h.table n x.composed) last
+    ∙ ap (λ t. composed_faults (whole_scope x) names t (composed_at x) x.composed) table in
+    let given = composed_faults h.u names h.table h.last x.composed in
+    let wanted = composed_faults (whole_scope x) names (table_of x) (composed_at x) x.composed in
     let automata = automata_faults (types_scope x) [] 0 (definitions_size x.types) x.automata in
     let third = h.composed_kept names (from_none h.grown names h.used h.none_used h.uses) in
     let both : h.r ≡ keep h.p (automata ++ wanted) = keep_both h.p h.q h.r automata given wanted second rest third in

@@ -44,4 +44,5 @@ meaning x = record {
   members = map string_bytes x.members.items;
   automata = map automaton_meaning x.automata.items;
   components = map component_meaning x.components.items;
+  hidden = map string_bytes x.hidden.items;
 }

@@ -10,4 +10,5 @@ source_tree x = record {
   members = map string_bytes x.members.items;
   automata = map automaton_tree x.automata.items;
   components = map component_tree x.components.items;
+  hidden = map string_bytes x.hidden.items;
 }

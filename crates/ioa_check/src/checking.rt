@@ -2,7 +2,7 @@
 ghost use Rattle.std.specs.Prelude.{◌≡◌, ◌+◌, ◌≤◌, None, [], IfOk, IfErr};
 ghost use Rattle.ioa_trees.specs.Views.{view_source};
 ghost use Rattle.ioa_rules.specs.Faults.{keep};
-ghost use Rattle.ioa_rules.specs.Sizes.{component_size, listed_size};
+ghost use Rattle.ioa_rules.specs.Sizes.{composed_size};
 ghost use Rattle.ioa_rules.specs.SourceRules.{composed_at, source_faults, source_meaning};
 ghost use Rattle.ioa_typing.specs.TermViews.{least_tree};
 ghost use Rattle.ioa_check.specs.Refusals.{IsRefused};
@@ -26,7 +26,7 @@ use std::alloc::{AllocError, Global};
 
 // What a tree means, and its least fault.
 fn judge(alloc: Global, tree: &SourceTree) -> Result<(MeantSource, Option<Fault>), AllocError>
-    requires room { composed_at (view_source tree.now) + 3 + listed_size component_size (view_source tree.now).composed.components ≤ 65536 }
+    requires room { composed_at (view_source tree.now) + composed_size (view_source tree.now).composed ≤ 65536 }
     ensures meant { IfOk result (λ x. source_tree x.0 ≡ source_meaning (view_source tree.now)) }
     ensures least { IfOk result (λ x. least_tree x.1 ≡ keep None (source_faults (view_source tree.now))) }
 {
@@ -41,7 +41,7 @@ fn judge(alloc: Global, tree: &SourceTree) -> Result<(MeantSource, Option<Fault>
         tree.automata.as_slice(),
         &mut progress,
     )?;
-    let components = check_composed(
+    let composed = check_composed(
         alloc,
         &names,
         &used,
@@ -52,7 +52,8 @@ fn judge(alloc: Global, tree: &SourceTree) -> Result<(MeantSource, Option<Fault>
     let meant = MeantSource {
         members,
         automata,
-        components,
+        components: composed.components,
+        hidden: composed.hidden,
     };
     Ok((meant, progress.least))
 }

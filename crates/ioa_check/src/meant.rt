@@ -18,10 +18,19 @@ pub struct MeantAutomaton {
     pub tasks: Vec<Vec<usize>>,
 }
 
+/// What the composed automaton means.
+#[derive(Drop)]
+pub struct MeantComposed {
+    pub components: Vec<MeantComponent>,
+    /// The names of outputs to hide, as they stand in the source.
+    pub hidden: Vec<String>,
+}
+
 /// What a source means.
 #[derive(Drop)]
 pub(crate) struct MeantSource {
     pub(crate) members: Vec<String>,
     pub(crate) automata: Vec<MeantAutomaton>,
     pub(crate) components: Vec<MeantComponent>,
+    pub(crate) hidden: Vec<String>,
 }

@@ -50,4 +50,6 @@ pub struct Resolved {
     pub members: Vec<String>,
     pub automata: Vec<Automaton>,
     pub components: Vec<Component>,
+    /// The names of outputs to hide, as they stand in the source; none stands twice.
+    pub hidden: Vec<String>,
 }

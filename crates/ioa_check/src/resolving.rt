@@ -159,5 +159,6 @@ pub(crate) fn resolve(alloc: Global, meant: MeantSource) -> Result<Resolved, All
         members: meant.members,
         automata,
         components,
+        hidden: meant.hidden,
     })
 }

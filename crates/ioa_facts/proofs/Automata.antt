@@ -10,7 +10,7 @@ use Rattle.ioa_rules.specs.Sizes.{automaton_size}
 use Rattle.ioa_rules.specs.TypeRules.{kind_of}
 use Rattle.ioa_rules.specs.EntryRules.{Meant, Slot, is_controlled, slots, entries_faults, transitions_faults, meant_by}
 use Rattle.ioa_rules.specs.AutomatonRules.{formals_faults, with_variables, variables_faults, tasks_faults, signature_at, states_at, transitions_at, tasks_at, inside, around, entry_names, body_faults, locals, meaning_of}
-use Rattle.ioa_rules.specs.SourceRules.{definitions_faults, definitions_size, with_automaton, automata_faults, all_locals, all_members, meanings_of, components_faults, types_scope, whole_scope, table_of, composed_at, source_faults, source_meaning}
+use Rattle.ioa_rules.specs.SourceRules.{definitions_faults, definitions_size, with_automaton, automata_faults, all_locals, all_members, meanings_of, composed_faults, types_scope, whole_scope, table_of, composed_at, source_faults, source_meaning}
 use Rattle.ioa_rules.specs.Meant.{IsWholeEntry, IsWholeAutomaton, IsWholeSource}
 use Rattle.ioa_facts.specs.Sound.{collide, IsSoundAutomaton}
 use Rattle.ioa_facts.proofs.NoFaults.{nil_left, nil_right}
@@ -102,8 +102,7 @@ pub source_sound : (x : PlainSource) → source_faults x ≡ [] → IsWholeSourc
 source_sound x h whole =
     let a = definitions_faults [] 0 0 x.types in
     let b = automata_faults (types_scope x) [] 0 (definitions_size x.types) x.automata in
-    let c = taken_before (whole_scope x) (all_locals x.automata) (composed_at x + 1) x.composed.name in
-    let d = components_faults (whole_scope x) (table_of x) [] (composed_at x + 3) x.composed.components in
+    let c = composed_faults (whole_scope x) (all_locals x.automata) (table_of x) (composed_at x) x.composed in
     let members = length (all_members x.types) in
     let w = definitions_within members [] (λ q. refl) 0 x.types (omega arith) in
-    automata_sound members (types_scope x) w [] 0 (definitions_size x.types) x.automata (nil_left b (c ++ d) (nil_right a (b ++ (c ++ d)) h)) whole.automata
+    automata_sound members (types_scope x) w [] 0 (definitions_size x.types) x.automata (nil_left b c (nil_right a (b ++ c) h)) whole.automata

@@ -6,11 +6,11 @@ use Rattle.std.proofs.lemmas.List.Sums.{sum_by-cons}
 use Rattle.std.proofs.lemmas.List.Elements.{All-nil, All-cons, All-head, All-tail}
 use Rattle.ioa_tokens.specs.declared.Word.TheVariants as w
 use Rattle.ioa_trees.specs.Nodes.{source, basic, further, tasks, Branch, Nodes, none, pack}
-use Rattle.ioa_trees.specs.Spelling.{key, named, entry_node, states_node, transition_node, task_node, tasks_node, body_nodes, formals_nodes, basic_node, components_nodes, type_definition_node, next_name, further_nodes, automata_nodes, source_nodes, spell, IsSource}
+use Rattle.ioa_trees.specs.Spelling.{key, named, entry_node, states_node, transition_node, task_node, tasks_node, body_nodes, formals_nodes, basic_node, composed_nodes, type_definition_node, next_name, further_nodes, automata_nodes, source_nodes, spell, IsSource}
 use Rattle.ioa_trees.specs.Trees as tree
 use Rattle.ioa_trees.specs.Trees.{Bytes, PlainTypeBody, PlainTypeDefinition, PlainTransition, PlainAutomaton, PlainSource}
 use Rattle.ioa_rules.specs.Scopes.{Scope}
-use Rattle.ioa_rules.specs.Sizes.{name_size, behind, listed_size, row_size, after_word, transition_size, task_size, automaton_size, body_size, component_size}
+use Rattle.ioa_rules.specs.Sizes.{name_size, behind, row_size, after_word, transition_size, task_size, automaton_size, body_size, composed_size}
 use Rattle.ioa_rules.specs.EntryRules.{meant_by}
 use Rattle.ioa_rules.specs.AutomatonRules.{MeantAutomaton, around, place_of, meaning_of}
 use Rattle.ioa_rules.specs.SourceRules.{members_in, definitions_size, all_members, with_automaton, automata_size, meanings_of, types_scope, composed_at, source_meaning}
@@ -108,7 +108,7 @@ entries_sized s n (a ∷ rest) =
 -- ---- the whole
 
 abbrev pub AllLong : Type 0
-AllLong = (x : PlainSource) → 0 < length x.automata → length (spell x) ≡ composed_at x + 3 + listed_size component_size x.composed.components
+AllLong = (x : PlainSource) → 0 < length x.automata → length (spell x) ≡ composed_at x + composed_size x.composed
 
 pub members_few : AllLong → (x : PlainSource) → 0 < length x.automata → length (source_meaning x).members ≤ length (spell x)
 members_few long x h = omega (arith, long x h, members_sized x.types)
@@ -119,6 +119,6 @@ entries_few long x h = omega (arith, long x h, entries_sized (types_scope x) 0 x
 pub tasks_few : AllLong → (b : Bool) (x : PlainSource) → IsSource b x → 0 < length x.automata → All (λ a. length a.tasks ≤ length (spell x)) (source_meaning x).automata
 tasks_few long b x is h =
     let nodes = inner_filled source (pack (source_nodes x)) (is_filled b is) in
-    let rest = (split_filled (map type_definition_node x.types) (automata_nodes x.automata x.composed.name ++ (key w.Components ∷ components_nodes x.composed.components)) nodes).1 in
-    let automata = (split_filled (automata_nodes x.automata x.composed.name) (key w.Components ∷ components_nodes x.composed.components) rest).0 in
+    let rest = (split_filled (map type_definition_node x.types) (automata_nodes x.automata x.composed.name ++ composed_nodes x.composed) nodes).1 in
+    let automata = (split_filled (automata_nodes x.automata x.composed.name) (composed_nodes x.composed) rest).0 in
     automata_few (length (spell x)) (types_scope x) 0 x.automata (automata_filled x.automata x.composed.name automata) (omega (arith, long x h))

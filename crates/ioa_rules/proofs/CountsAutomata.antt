@@ -3,9 +3,9 @@ use Rattle.std.proofs.Common.{◌≡◌, ℕ, ◌+◌, List, [], ◌∷◌, ◌+
 use Rattle.ioa_tokens.specs.declared.Word.{Word}
 use Rattle.ioa_tokens.specs.declared.Word.TheVariants as w
 use Rattle.ioa_trees.specs.Nodes.{Sort, name_part, formal_part, variable_part, parameter_part, argument_part, Node, pack}
-use Rattle.ioa_trees.specs.Spelling.{key, named, node, parts, parameter_node, parameters_node, entry_node, formal_node, formals_nodes, variable_node, states_node, pre_node, eff_node, transition_node, task_node, tasks_node, body_nodes, basic_node, arguments_node, component_node, type_body_node, type_definition_node}
+use Rattle.ioa_trees.specs.Spelling.{key, named, node, parts, parameter_node, parameters_node, entry_node, formal_node, formals_nodes, variable_node, states_node, pre_node, eff_node, transition_node, task_node, tasks_node, body_nodes, basic_node, arguments_node, component_node, hidden_node, type_body_node, type_definition_node}
 use Rattle.ioa_trees.specs.Trees.{Bytes, PlainTerm, PlainDeclared, PlainStatements, no_statement, more_statements, PlainParameter, Constant, Typed, PlainEntry, PlainVariable, PlainTransition, PlainAutomaton, PlainComponent, PlainTypeBody, Same, Enumeration, PlainTypeDefinition}
-use Rattle.ioa_rules.specs.Sizes.{size, behind, listed_size, bracketed_size, row_size, name_size, declared_size, parameter_size, entry_size, variable_size, pre_size, eff_size, transition_size, task_size, after_word, automaton_size, body_size, definition_size, component_size}
+use Rattle.ioa_rules.specs.Sizes.{size, behind, listed_size, bracketed_size, row_size, name_size, declared_size, parameter_size, entry_size, variable_size, pre_size, eff_size, transition_size, task_size, after_word, automaton_size, body_size, definition_size, component_size, hidden_size}
 use Rattle.ioa_rules.proofs.Counts.{count, counts, counts_append}
 use Rattle.ioa_rules.proofs.CountsTerms.{type_counts, term_counts, init_counts}
 use Rattle.ioa_rules.proofs.CountsStatements.{statements_counts}
@@ -95,6 +95,10 @@ arguments_counts (t ∷ ts) = omega (arith, closed_counts argument_part w.Comma 
 
 pub component_counts : (c : PlainComponent) → count (component_node c) ≡ component_size c
 component_counts c = omega (arith, arguments_counts c.arguments)
+
+pub hidden_counts : (qs : List Bytes) → counts (pack (hidden_node qs)) ≡ hidden_size qs
+hidden_counts [] = refl
+hidden_counts (q ∷ qs) = omega (arith, parts_counts name_part w.Comma named name_size name_counts qs)
 
 type_body_counts : (b : PlainTypeBody) → count (type_body_node b) ≡ body_size b
 type_body_counts (Same t) = type_counts t

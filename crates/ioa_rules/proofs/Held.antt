@@ -1,15 +1,16 @@
--- Where the parts of definitions, entries, transitions and components stand among their tokens.
+-- Where the parts of definitions, entries, transitions and components stand among their tokens, and hidden names at the end of a source.
 use Rattle.std.proofs.Common.{◌≡◌, ◌<◌, ℕ, ◌+◌, List, [], ◌∷◌, ◌++◌, length, take, drop, append-nil, Some, refl, ap, ◌∙◌, arith}
 use Rattle.ioa_tokens.specs.declared.Word.TheVariants as w
 use Rattle.ioa_tokens.specs.Tokens.{Tok, Name}
-use Rattle.ioa_trees.specs.Nodes.{eff_part, pre_part, parameters, arguments, type_body, parameter_part, argument_part, name_part, Node, yield, yields}
-use Rattle.ioa_trees.specs.Spelling.{key, named, word_of_kind, node, parts, separated, type_node, init_node, statements_node, parameter_node, parameters_node, entry_node, variable_node, pre_node, eff_node, transition_node, arguments_node, component_node, type_body_node, type_definition_node}
-use Rattle.ioa_trees.specs.Trees.{Bytes, PlainType, PlainTerm, PlainStatements, no_statement, more_statements, PlainParameter, PlainEntry, PlainVariable, PlainTransition, PlainComponent, Same, Enumeration, PlainTypeDefinition}
-use Rattle.ioa_rules.specs.Sizes.{size, type_size, statements_size, behind, name_size, parameter_size, entry_size, pre_size}
+use Rattle.ioa_trees.specs.Nodes.{eff_part, pre_part, hidden, parameters, arguments, type_body, parameter_part, argument_part, name_part, Node, yield, yields}
+use Rattle.ioa_trees.specs.Spelling.{key, named, word_of_kind, node, parts, separated, type_node, init_node, statements_node, parameter_node, parameters_node, entry_node, variable_node, pre_node, eff_node, transition_node, arguments_node, component_node, hidden_node, type_body_node, type_definition_node, spell}
+use Rattle.ioa_trees.specs.Trees.{Bytes, PlainType, PlainTerm, PlainStatements, no_statement, more_statements, PlainParameter, PlainEntry, PlainVariable, PlainTransition, PlainComponent, Same, Enumeration, PlainTypeDefinition, PlainSource}
+use Rattle.ioa_rules.specs.Sizes.{size, type_size, statements_size, behind, listed_size, name_size, parameter_size, entry_size, pre_size, component_size}
+use Rattle.ioa_rules.specs.SourceRules.{composed_at, hidden_at}
 use Rattle.ioa_rules.proofs.CountsTerms.{type_counts, term_counts}
 use Rattle.ioa_rules.proofs.CountsStatements.{statements_counts}
 use Rattle.ioa_rules.proofs.CountsAutomata.{parameter_counts, entry_counts, pre_counts, name_counts}
-use Rattle.ioa_rules.proofs.Placed.{yields_pack, advance, taken}
+use Rattle.ioa_rules.proofs.Placed.{yields_pack, advance, taken, at_end}
 use Rattle.ioa_rules.proofs.Inside.{separated_placed, some, opened}
 
 opened_parameters : (ps : List PlainParameter) → 0 < length ps
@@ -110,3 +111,18 @@ statements_placed (more_statements s ss) ts n e =
 pub eff_placed : (t : PlainTransition)
     → take (statements_size t.eff) (drop (entry_size t.entry + pre_size t.pre + 1) (yield (transition_node t))) ≡ yield (statements_node t.eff)
 eff_placed t = statements_placed t.eff (yield (transition_node t)) (entry_size t.entry + pre_size t.pre) (at_eff t)
+
+opened_hidden : (qs : List Bytes) → 0 < length qs
+    → yields (hidden_node qs) ≡ yields (key w.Hidden ∷ (separated name_part w.Comma named qs ++ []))
+opened_hidden [] h = absurd (omega (arith, h))
+opened_hidden (q ∷ qs) h = opened hidden (key w.Hidden ∷ (named q ∷ parts name_part w.Comma named qs)) []
+
+pub hidden_placed : (x : PlainSource) (before after : List Bytes) (q : Bytes) → 0 < length x.automata → x.composed.hidden ≡ before ++ q ∷ after
+    → take 1 (drop (hidden_at (composed_at x) x.composed + behind name_size before) (spell x)) ≡ Name q ∷ []
+hidden_placed x before after q h same =
+    let ts : List Tok = spell x in
+    let all : List Bytes = x.composed.hidden in
+    let end : ℕ = composed_at x + 3 + listed_size component_size x.composed.components in
+    separated_placed name_part w.Comma named name_size name_counts ts (hidden_at (composed_at x) x.composed) all before after q [] same
+    (advance ts end 1 (end + 1) (key w.Hidden ∷ []) (separated name_part w.Comma named all ++ [])
+    (at_end x h ∙ opened_hidden all (some all before after q same)) refl refl)

@@ -5,12 +5,12 @@ use Rattle.ioa_tokens.specs.declared.Word.{Word}
 use Rattle.ioa_tokens.specs.declared.Word.TheVariants as w
 use Rattle.ioa_tokens.specs.Tokens.{Tok, Name, Key}
 use Rattle.ioa_trees.specs.Nodes.{Sort, component_part, Node, pack, yield, yields, yield_nodes}
-use Rattle.ioa_trees.specs.Spelling.{key, named, branch, parts, separated, basic_node, component_node, components_nodes, type_definition_node, next_name, further_nodes, automata_nodes, spell}
-use Rattle.ioa_trees.specs.Trees.{Bytes, PlainAutomaton, PlainComponent, PlainTypeDefinition, PlainSource}
-use Rattle.ioa_rules.specs.Sizes.{behind, listed_size, automaton_size, definition_size, component_size}
+use Rattle.ioa_trees.specs.Spelling.{key, named, branch, parts, separated, basic_node, component_node, components_nodes, hidden_node, composed_nodes, type_definition_node, next_name, further_nodes, automata_nodes, spell}
+use Rattle.ioa_trees.specs.Trees.{Bytes, PlainAutomaton, PlainComponent, PlainComposed, PlainTypeDefinition, PlainSource}
+use Rattle.ioa_rules.specs.Sizes.{behind, listed_size, automaton_size, definition_size, component_size, composed_size}
 use Rattle.ioa_rules.specs.SourceRules.{definitions_size, automata_size, composed_at}
 use Rattle.ioa_rules.proofs.Counts.{count, counted, counts, all_counted, counts_append}
-use Rattle.ioa_rules.proofs.CountsAutomata.{parts_counts, basic_counts, component_counts, definition_counts}
+use Rattle.ioa_rules.proofs.CountsAutomata.{parts_counts, basic_counts, component_counts, hidden_counts, definition_counts}
 
 pub yields_pack : (ns : List Node) → yield_nodes (pack ns) ≡ yields ns
 yields_pack [] = refl
@@ -72,14 +72,14 @@ automata_tokens (a ∷ rest) s h =
 
 -- what stands behind the name of the composed automaton
 abbrev ending : PlainSource → List Tok
-ending x = Key w.Components ∷ yields (components_nodes x.composed.components)
+ending x = yields (composed_nodes x.composed)
 
 source_tokens : (x : PlainSource) → spell x ≡ typed x.types ++ (yields (automata_nodes x.automata x.composed.name) ++ ending x)
 source_tokens x =
-    let rest : List Node = automata_nodes x.automata x.composed.name ++ (key w.Components ∷ components_nodes x.composed.components) in
+    let rest : List Node = automata_nodes x.automata x.composed.name ++ composed_nodes x.composed in
     yields_pack (map type_definition_node x.types ++ rest)
     ∙ (yields_append (map type_definition_node x.types) rest
-    ∙ ap (λ z. typed x.types ++ z) (yields_append (automata_nodes x.automata x.composed.name) (key w.Components ∷ components_nodes x.composed.components)))
+    ∙ ap (λ z. typed x.types ++ z) (yields_append (automata_nodes x.automata x.composed.name) (composed_nodes x.composed)))
 
 -- the same where there is an automaton
 whole_tokens : (x : PlainSource) → 0 < length x.automata → spell x ≡ typed x.types ++ (some x.automata ++ (last x.composed.name ++ ending x))
@@ -98,7 +98,7 @@ split_tokens : (x : PlainSource) → 0 < length x.automata → spell x ≡ front
 split_tokens x h = whole_tokens x h ∙ sym (append_assoc (typed x.types) (some x.automata) (last x.composed.name ++ ending x))
 
 pub composed_placed : (x : PlainSource) → 0 < length x.automata
-    → drop (composed_at x) (spell x) ≡ Key w.Automaton ∷ (Name x.composed.name ∷ (Key w.Components ∷ yields (components_nodes x.composed.components)))
+    → drop (composed_at x) (spell x) ≡ Key w.Automaton ∷ (Name x.composed.name ∷ yields (composed_nodes x.composed))
 composed_placed x h = ap (drop (composed_at x)) (split_tokens x h) ∙ drop_at (front x) (last x.composed.name ++ ending x) (composed_at x) (front_long x)
 
 placed : (ts p q r : List Tok) (n m : ℕ) → ts ≡ p ++ (q ++ r) → length p ≡ n → length q ≡ m → take m (drop n ts) ≡ q
@@ -171,20 +171,27 @@ advance ts n m k pre post e f g =
 pub taken : (ts : List Tok) (k m : ℕ) (n : Node) (ns : List Node) → drop k ts ≡ yields (n ∷ ns) → count n ≡ m → take m (drop k ts) ≡ yield n
 taken ts k m n ns e f = ap (take m) e ∙ take_at (yield n) (yields ns) m (counted n ∙ f)
 
+-- behind the word of the components
+at_components : (x : PlainSource) → 0 < length x.automata
+    → drop (composed_at x + 3) (spell x) ≡ yields (components_nodes x.composed.components ++ hidden_node x.composed.hidden)
+at_components x h =
+    let start : List Node = key w.Automaton ∷ (named x.composed.name ∷ (key w.Components ∷ [])) in
+    advance (spell x) (composed_at x) 3 (composed_at x + 3) start (components_nodes x.composed.components ++ hidden_node x.composed.hidden)
+    (composed_placed x h) refl refl
+
 pub component_placed : (x : PlainSource) (before after : List PlainComponent) (c : PlainComponent)
     → 0 < length x.automata → x.composed.components ≡ before ++ c ∷ after
     → take (component_size c) (drop (composed_at x + 3 + behind component_size before) (spell x)) ≡ yield (component_node c)
 component_placed x before after c h e =
     let signed : List Node = leading component_part w.Semicolon component_node before in
-    let rest : List Node = component_node c ∷ (parts component_part w.Semicolon component_node after ++ []) in
-    let start : List Node = key w.Automaton ∷ (named x.composed.name ∷ (key w.Components ∷ [])) in
-    taken (spell x) (composed_at x + 3 + behind component_size before) (component_size c) (component_node c) (parts component_part w.Semicolon component_node after ++ [])
-    (advance (spell x) (composed_at x + 3) (behind component_size before) (composed_at x + 3 + behind component_size before) signed rest
-    (advance (spell x) (composed_at x) 3 (composed_at x + 3) start (components_nodes x.composed.components) (composed_placed x h) refl refl
-    ∙ (ap yields (components_separated x.composed.components)
-    ∙ (ap (λ z. yields (separated component_part w.Semicolon component_node z)) e
-    ∙ (ap yields (sym (append-nil (separated component_part w.Semicolon component_node (before ++ c ∷ after))))
-    ∙ leading_tokens component_part w.Semicolon component_node before after c []))))
+    let end : List Node = hidden_node x.composed.hidden in
+    let others : List Node = parts component_part w.Semicolon component_node after ++ end in
+    taken (spell x) (composed_at x + 3 + behind component_size before) (component_size c) (component_node c) others
+    (advance (spell x) (composed_at x + 3) (behind component_size before) (composed_at x + 3 + behind component_size before) signed (component_node c ∷ others)
+    (at_components x h
+    ∙ (ap (λ z. yields (z ++ end)) (components_separated x.composed.components)
+    ∙ (ap (λ z. yields (separated component_part w.Semicolon component_node z ++ end)) e
+    ∙ leading_tokens component_part w.Semicolon component_node before after c end)))
     (leading_counts component_part w.Semicolon component_node component_size component_counts before) refl)
     (component_counts c)
 
@@ -192,7 +199,19 @@ components_long : (cs : List PlainComponent) → counts (pack (components_nodes 
 components_long [] = refl
 components_long (c ∷ cs) = omega (arith, component_counts c, parts_counts component_part w.Semicolon component_node component_size component_counts cs)
 
-pub all_long : (x : PlainSource) → 0 < length x.automata → length (spell x) ≡ composed_at x + 3 + listed_size component_size x.composed.components
+-- what stands behind the components
+pub at_end : (x : PlainSource) → 0 < length x.automata
+    → drop (composed_at x + 3 + listed_size component_size x.composed.components) (spell x) ≡ yields (hidden_node x.composed.hidden)
+at_end x h =
+    let size : ℕ = listed_size component_size x.composed.components in
+    advance (spell x) (composed_at x + 3) size (composed_at x + 3 + size) (components_nodes x.composed.components) (hidden_node x.composed.hidden)
+    (at_components x h) (components_long x.composed.components) refl
+
+-- `automaton` and the name stand before it
+composed_long : (c : PlainComposed) → counts (pack (composed_nodes c)) + 2 ≡ composed_size c
+composed_long c = omega (arith, counts_append (components_nodes c.components) (hidden_node c.hidden), components_long c.components, hidden_counts c.hidden)
+
+pub all_long : (x : PlainSource) → 0 < length x.automata → length (spell x) ≡ composed_at x + composed_size x.composed
 all_long x h =
     let split = split_tokens x h in
     omega (
@@ -200,6 +219,6 @@ all_long x h =
       ap length split,
       length-append (front x) (last x.composed.name ++ ending x),
       front_long x,
-      list_counted (components_nodes x.composed.components),
-      components_long x.composed.components,
+      list_counted (composed_nodes x.composed),
+      composed_long x.composed,
     )

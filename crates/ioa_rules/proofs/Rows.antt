@@ -35,7 +35,11 @@ abbrev definition : Bytes → PlainTypeBody → PlainTypeDefinition
 definition q b = record { name = q; body = b }
 
 abbrev source : List PlainTypeDefinition → List PlainAutomaton → Bytes → List PlainComponent → PlainSource
-source ds as' q cs = record { types = ds; automata = as'; composed = record { name = q; components = cs } }
+source ds as' q cs = record { types = ds; automata = as'; composed = record { name = q; components = cs; hidden = [] } }
+
+-- the same, with outputs that are hidden
+abbrev hiding : List Bytes → PlainSource → PlainSource
+hiding qs x = record { types = x.types; automata = x.automata; composed = record { name = x.composed.name; components = x.composed.components; hidden = qs } }
 
 abbrev least : PlainSource → Option Fault
 least x = keep None (source_faults x)
@@ -96,3 +100,6 @@ row16 = refl
 
 row17 : least (source ([]) ((automaton (codes "C") ((declared (codes "f") Bools) ∷ []) ((entry kind.Output (codes "a") ([])) ∷ (entry kind.Output (codes "a") ([])) ∷ (entry kind.Internal (codes "a") ([])) ∷ []) ((variable (declared (codes "n") Ints) (Value (Number 0))) ∷ []) ((transition (entry kind.Output (codes "a") ([])) None (more_statements (Assign (codes "n") None (Value (Number 1))) no_statement)) ∷ (transition (entry kind.Output (codes "a") ([])) None no_statement) ∷ (transition (entry kind.Internal (codes "a") ([])) (Some (Compare (Variable (codes "n")) relation.Equal (Number 1))) (more_statements (Assign (codes "n") None (Value (Number 2))) no_statement)) ∷ (transition (entry kind.Output (codes "b") ([])) (Some True) no_statement) ∷ []) (((codes "b") ∷ []) ∷ [])) ∷ []) (codes "S") ((component (codes "c") (codes "C") (True ∷ [])) ∷ [])) ≡ fault 16 8
 row17 = refl
+
+row18 : least (hiding ((codes "up") ∷ (codes "up") ∷ []) (source ([]) ((automaton (codes "C") ([]) ((entry kind.Output (codes "up") ([])) ∷ []) ([]) ((transition (entry kind.Output (codes "up") ([])) None no_statement) ∷ []) (((codes "up") ∷ []) ∷ [])) ∷ []) (codes "S") ((component (codes "c") (codes "C") ([])) ∷ []))) ≡ fault 11 21
+row18 = refl

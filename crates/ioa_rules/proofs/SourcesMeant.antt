@@ -12,7 +12,7 @@ use Rattle.ioa_rules.specs.Sizes.{size, definition_size, automaton_size, compone
 use Rattle.ioa_rules.specs.TermRules.{judge, faults}
 use Rattle.ioa_rules.specs.TypeRules.{kind_of, type_faults}
 use Rattle.ioa_rules.specs.AutomatonRules.{MeantAutomaton, body_faults, locals, meaning_of}
-use Rattle.ioa_rules.specs.SourceRules.{with_members, with_definition, members_in, with_definitions, definition_faults, definitions_faults, definitions_size, with_automaton, with_automata, automata_faults, all_locals, meanings_of, arguments_faults, unfit_in, misfit_arguments, compared_with, formals_at, component_faults, components_faults, placed_argument, placed_arguments, arguments_of, component_of, components_of, types_scope, whole_scope, table_of, composed_at, source_faults, source_meaning}
+use Rattle.ioa_rules.specs.SourceRules.{with_members, with_definition, members_in, with_definitions, definition_faults, definitions_faults, definitions_size, with_automaton, with_automata, automata_faults, all_locals, meanings_of, arguments_faults, unfit_in, misfit_arguments, compared_with, formals_at, component_faults, components_faults, hidden_faults, hidden_at, placed_argument, placed_arguments, arguments_of, component_of, components_of, types_scope, whole_scope, table_of, composed_at, source_faults, source_meaning}
 use Rattle.ioa_rules.specs.Meant.{AllMeant, AllSome, IsWholeAutomaton, IsWholeComponent, IsWholeSource}
 use Rattle.ioa_rules.proofs.NoFaults.{nil_left, nil_right}
 use Rattle.ioa_rules.proofs.TypesMeant.{kind_if}
@@ -116,11 +116,12 @@ source_if x h =
     let b = automata_faults (types_scope x) [] 0 (definitions_size x.types) x.automata in
     let c = taken_before (whole_scope x) (all_locals x.automata) (composed_at x + 1) x.composed.name in
     let d = components_faults (whole_scope x) (table_of x) [] (composed_at x + 3) x.composed.components in
-    let u = nil_right a (b ++ (c ++ d)) h in
-    let v = nil_right b (c ++ d) u in
-    let types = definitions_if [] nothing_meant 0 0 x.types (nil_left a (b ++ (c ++ d)) h) in
-    let automata = automata_if (types_scope x) types [] 0 (definitions_size x.types) x.automata (nil_left b (c ++ d) u) in
+    let e = hidden_faults [] (hidden_at (composed_at x) x.composed) x.composed.hidden in
+    let u = nil_right a (b ++ (c ++ (d ++ e))) h in
+    let v = nil_right c (d ++ e) (nil_right b (c ++ (d ++ e)) u) in
+    let types = definitions_if [] nothing_meant 0 0 x.types (nil_left a (b ++ (c ++ (d ++ e))) h) in
+    let automata = automata_if (types_scope x) types [] 0 (definitions_size x.types) x.automata (nil_left b (c ++ (d ++ e)) u) in
     record {
       automata = automata.1;
-      components = components_if (whole_scope x) automata.0 (table_of x) automata.1 [] (composed_at x + 3) x.composed.components (nil_right c d v);
+      components = components_if (whole_scope x) automata.0 (table_of x) automata.1 [] (composed_at x + 3) x.composed.components (nil_left d e v);
     }

@@ -1,7 +1,7 @@
 -- How many tokens each part of a source has.
 use Rattle.std.specs.Prelude.{ℕ, ◌+◌, if◌then◌else◌, List, [], ◌∷◌, Option, Some, None}
 use Rattle.ioa_trees.specs.declared.tree.Signed.{Signed}
-use Rattle.ioa_trees.specs.Trees.{Bytes, PlainType, Bools, Ints, Range, Named, SeqOf, ArrayOf, PlainTerm, Number, True, False, Variable, Group, Called, Append, Index, Minus, Product, Sum, Compare, Not, And, Or, PlainTerms, no_term, more_terms, PlainFactor, Times, Modulo, PlainFactors, no_factor, more_factors, PlainAddends, no_addend, more_addends, PlainInit, Empty, Fill, Value, PlainDeclared, PlainStatement, Assign, If, For, PlainStatements, no_statement, more_statements, PlainBranches, no_branch, more_branches, PlainParameter, Constant, Typed, PlainEntry, PlainVariable, PlainTransition, PlainAutomaton, PlainComponent, PlainTypeBody, Same, Enumeration, PlainTypeDefinition}
+use Rattle.ioa_trees.specs.Trees.{Bytes, PlainType, Bools, Ints, Range, Named, SeqOf, ArrayOf, PlainTerm, Number, True, False, Variable, Group, Called, Append, Index, Minus, Product, Sum, Compare, Not, And, Or, PlainTerms, no_term, more_terms, PlainFactor, Times, Modulo, PlainFactors, no_factor, more_factors, PlainAddends, no_addend, more_addends, PlainInit, Empty, Fill, Value, PlainDeclared, PlainStatement, Assign, If, For, PlainStatements, no_statement, more_statements, PlainBranches, no_branch, more_branches, PlainParameter, Constant, Typed, PlainEntry, PlainVariable, PlainTransition, PlainAutomaton, PlainComponent, PlainComposed, PlainTypeBody, Same, Enumeration, PlainTypeDefinition}
 
 abbrev pub signed_size : Signed → ℕ
 signed_size s = if s.is_negative then 2 else 1
@@ -163,3 +163,11 @@ definition_size d = body_size d.body + 3
 
 abbrev pub component_size : PlainComponent → ℕ
 component_size c = 3 + bracketed_size size c.arguments
+
+-- behind `hidden`, where it stands
+abbrev pub hidden_size : List Bytes → ℕ
+hidden_size qs = after_word (listed_size name_size qs) qs
+
+-- from `automaton` on
+abbrev pub composed_size : PlainComposed → ℕ
+composed_size c = 3 + listed_size component_size c.components + hidden_size c.hidden

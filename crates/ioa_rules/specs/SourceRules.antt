@@ -3,11 +3,11 @@ use Rattle.std.specs.Prelude.{ℕ, ◌+◌, not, Option, Some, None, nat_eq, byt
 use Rattle.std.specs.List.{list_any}
 use Rattle.terms.specs.TermTree.{TermTree}
 use Rattle.ioa_trees.specs.Trees as tree
-use Rattle.ioa_trees.specs.Trees.{Bytes, PlainTerm, PlainTypeBody, PlainTypeDefinition, PlainAutomaton, PlainComponent, PlainSource}
+use Rattle.ioa_trees.specs.Trees.{Bytes, PlainTerm, PlainTypeBody, PlainTypeDefinition, PlainAutomaton, PlainComponent, PlainComposed, PlainSource}
 use Rattle.ioa_rules.specs.Faults.{Fault, where_wrong}
 use Rattle.ioa_rules.specs.Kinds.{Kind, Enum}
 use Rattle.ioa_rules.specs.Scopes.{Scope, OfType, OfMember, OfAutomaton, named, declare, doubled, taken_before, automaton_meant}
-use Rattle.ioa_rules.specs.Sizes.{definition_size, automaton_size, component_size, size}
+use Rattle.ioa_rules.specs.Sizes.{definition_size, automaton_size, component_size, listed_size, size}
 use Rattle.ioa_rules.specs.TermRules.{judge, faults, unfit}
 use Rattle.ioa_rules.specs.TypeRules.{kind_of, type_faults}
 use Rattle.ioa_rules.specs.ValueRules.{value_in}
@@ -159,6 +159,23 @@ abbrev pub components_of : Scope → List MeantAutomaton → List PlainComponent
 components_of s table [] = []
 components_of s table (c ∷ cs) = component_of s table c ∷ components_of s table cs
 
+-- ---- the composed automaton
+
+-- 11: a name that stood before; the first one stands at this place, and a comma between two
+abbrev pub hidden_faults : List Bytes → ℕ → List Bytes → List Fault
+hidden_faults before at [] = []
+hidden_faults before at (q ∷ qs) = where_wrong (list_any (bytes_eq q) before) at 11 ++ hidden_faults (q ∷ before) (at + 2) qs
+
+-- the place of the first hidden name, behind the word; the first token of the composed automaton has this number
+abbrev pub hidden_at : ℕ → PlainComposed → ℕ
+hidden_at at c = at + 3 + listed_size component_size c.components + 1
+
+abbrev pub composed_faults : Scope → List Bytes → List MeantAutomaton → ℕ → PlainComposed → List Fault
+composed_faults s used table at c =
+    taken_before s used (at + 1) c.name
+    ++ (components_faults s table [] (at + 3) c.components
+    ++ hidden_faults [] (hidden_at at c) c.hidden)
+
 -- ---- the whole
 
 abbrev pub types_scope : PlainSource → Scope
@@ -178,13 +195,14 @@ abbrev pub source_faults : PlainSource → List Fault
 source_faults x =
     definitions_faults [] 0 0 x.types
     ++ (automata_faults (types_scope x) [] 0 (definitions_size x.types) x.automata
-    ++ (taken_before (whole_scope x) (all_locals x.automata) (composed_at x + 1) x.composed.name
-    ++ components_faults (whole_scope x) (table_of x) [] (composed_at x + 3) x.composed.components))
+    ++ composed_faults (whole_scope x) (all_locals x.automata) (table_of x) (composed_at x) x.composed)
 
 pub record MeantSource : Type 0 where
   pub members : List Bytes
   pub automata : List MeantAutomaton
   pub components : List MeantComponent
+  -- the names of outputs to hide, as they are written
+  pub hidden : List Bytes
 
 -- what a source means
 abbrev pub source_meaning : PlainSource → MeantSource
@@ -192,4 +210,5 @@ source_meaning x = record {
   members = all_members x.types;
   automata = table_of x;
   components = components_of (whole_scope x) (table_of x) x.composed.components;
+  hidden = x.composed.hidden;
 }

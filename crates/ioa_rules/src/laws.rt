@@ -4,14 +4,14 @@ ghost use Rattle.ioa_tokens.specs.declared.Word.TheVariants as w;
 ghost use Rattle.ioa_tokens.specs.Tokens.{Name, Key};
 ghost use Rattle.ioa_trees.specs.declared.tree.Signed.{Signed};
 ghost use Rattle.ioa_trees.specs.Nodes.{yield, yields};
-ghost use Rattle.ioa_trees.specs.Spelling.{type_node, node, init_node, statement_node, statements_node, formal_node, parameter_node, entry_node, variable_node, transition_node, task_node, basic_node, component_node, components_nodes, type_definition_node, spell};
+ghost use Rattle.ioa_trees.specs.Spelling.{type_node, node, init_node, statement_node, statements_node, formal_node, parameter_node, entry_node, variable_node, transition_node, task_node, basic_node, component_node, composed_nodes, type_definition_node, spell};
 ghost use Rattle.ioa_trees.specs.Trees.{Bytes, PlainType, PlainTerm, PlainInit, PlainDeclared, PlainStatement, PlainParameter, PlainEntry, PlainVariable, PlainTransition, PlainAutomaton, PlainComponent, Same, Enumeration, PlainTypeDefinition, PlainSource};
 ghost use Rattle.ioa_rules.specs.Faults.{Fault, IsLeast, keep};
 ghost use Rattle.ioa_rules.specs.Kinds.{whole_number, number};
-ghost use Rattle.ioa_rules.specs.Sizes.{type_size, size, init_size, name_size, declared_size, parameter_size, statement_size, statements_size, entry_size, variable_size, pre_size, transition_size, task_size, automaton_size, component_size, definition_size, behind, listed_size, row_size};
+ghost use Rattle.ioa_rules.specs.Sizes.{type_size, size, init_size, name_size, declared_size, parameter_size, statement_size, statements_size, entry_size, variable_size, pre_size, transition_size, task_size, automaton_size, component_size, composed_size, definition_size, behind, row_size};
 ghost use Rattle.ioa_rules.specs.Places.{automaton_tokens};
 ghost use Rattle.ioa_rules.specs.AutomatonRules.{signature_at, states_at, transitions_at, tasks_at};
-ghost use Rattle.ioa_rules.specs.SourceRules.{definitions_size, automata_size, composed_at};
+ghost use Rattle.ioa_rules.specs.SourceRules.{definitions_size, automata_size, composed_at, hidden_at};
 
 /// A number below 2^63 is meant as it is written.
 pub fn number_law()
@@ -40,9 +40,9 @@ pub fn size_law()
     // before the composed automaton stand as many tokens as its place says
     ensures whole { (x : PlainSource) → 0 < length x.automata
         → drop (composed_at x) (spell x)
-        ≡ Key w.Automaton ∷ (Name x.composed.name ∷ (Key w.Components ∷ yields (components_nodes x.composed.components))) }
+        ≡ Key w.Automaton ∷ (Name x.composed.name ∷ yields (composed_nodes x.composed)) }
     ensures all { (x : PlainSource) → 0 < length x.automata
-        → length (spell x) ≡ composed_at x + 3 + listed_size component_size x.composed.components }
+        → length (spell x) ≡ composed_at x + composed_size x.composed }
 {}
 
 /// The parts of a source stand at the places that their sizes give.
@@ -53,6 +53,8 @@ pub fn place_law()
         → take (automaton_size a) (drop (definitions_size x.types + automata_size before) (spell x)) ≡ automaton_tokens a }
     ensures components { (x : PlainSource) (before after : List PlainComponent) (c : PlainComponent) → 0 < length x.automata → x.composed.components ≡ before ++ c ∷ after
         → take (component_size c) (drop (composed_at x + 3 + behind component_size before) (spell x)) ≡ yield (component_node c) }
+    ensures hidden { (x : PlainSource) (before after : List Bytes) (q : Bytes) → 0 < length x.automata → x.composed.hidden ≡ before ++ q ∷ after
+        → take 1 (drop (hidden_at (composed_at x) x.composed + behind name_size before) (spell x)) ≡ Name q ∷ [] }
 {}
 
 /// The parts of an automaton stand at the places that the rules give them, from its word on.

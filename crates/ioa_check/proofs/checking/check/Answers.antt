@@ -2,7 +2,7 @@ use Rattle.std.proofs.Common.{◌≡◌, ◌+◌, ◌≤◌, Some, None, sym, ap
 use Rattle.ioa_trees.specs.Views.{view_source}
 use Rattle.ioa_rules.specs.Faults.{IsLeast, keep}
 use Rattle.ioa_rules.specs.Meant.{IsWholeSource}
-use Rattle.ioa_rules.specs.Sizes.{component_size, listed_size}
+use Rattle.ioa_rules.specs.Sizes.{composed_size}
 use Rattle.ioa_rules.specs.SourceRules.{composed_at, source_faults, source_meaning}
 use Rattle.ioa_typing.specs.TermViews.{fault_tree, least_tree}
 use Rattle.ioa_check.specs.SourceViews.{source_tree}
@@ -11,7 +11,7 @@ use Rattle.ioa_check.proofs.checking.check.Goals as goal
 
 pub judge-requires : goal.judge-requires
 judge-requires c = record {
-  room = subst (λ t. composed_at (view_source t) + 3 + listed_size component_size (view_source t).composed.components ≤ 65536) (sym c.tree.ensures.same)
+  room = subst (λ t. composed_at (view_source t) + composed_size (view_source t).composed ≤ 65536) (sym c.tree.ensures.same)
       (room (view_source c.args.source) (c.size_law.ensures.all (view_source c.args.source) c.tree.ensures.some) c.tree.ensures.few);
 }
 

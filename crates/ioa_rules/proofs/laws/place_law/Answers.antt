@@ -1,3 +1,4 @@
+use Rattle.ioa_rules.proofs.Held.{hidden_placed}
 use Rattle.ioa_rules.proofs.Placed.{definition_placed, automaton_placed, component_placed}
 use Rattle.ioa_rules.proofs.laws.place_law.Goals as goal
 
@@ -9,3 +10,6 @@ returns-clause-automata c = automaton_placed
 
 pub returns-clause-components : goal.returns-clause-components
 returns-clause-components c = component_placed
+
+pub returns-clause-hidden : goal.returns-clause-hidden
+returns-clause-hidden c = hidden_placed
