@@ -1,5 +1,5 @@
 -- The composition that a plan stands for, and its texts.
-use Rattle.std.specs.Prelude.{◌≡◌, ℕ, List, [], ◌∷◌, map, slice_get, Option, None, Some, zero, suc, string_bytes, refl}
+use Rattle.std.specs.Prelude.{◌≡◌, ℕ, Bool, false, List, [], ◌∷◌, map, slice_get, Option, None, Some, zero, suc, string_bytes, refl}
 use Rattle.terms.specs.ShapeTree.{ShapeTree, shape_tree}
 use Rattle.plans.specs.declared.automaton.Automaton.{Automaton}
 use Rattle.plans.specs.declared.automaton.Component.{Component}
@@ -24,6 +24,21 @@ types_of name = map shape_tree name.parameters.items
 
 abbrev pub action_types : Plan → List (List ShapeTree)
 action_types plan = map types_of plan.actions.items
+
+-- whether outputs of a name are hidden; the marks of the names, in the order of their numbers
+abbrev pub mark_of : ActionName → Bool
+mark_of name = name.is_hidden
+
+abbrev pub hidden_marks : Plan → List Bool
+hidden_marks plan = map mark_of plan.actions.items
+
+abbrev pub mark_in : Option Bool → Bool
+mark_in None = false
+mark_in (Some mark) = mark
+
+-- outputs of the name of this number are hidden
+abbrev pub hides : Plan → ℕ → Bool
+hides plan name = mark_in (slice_get (hidden_marks plan) name)
 
 abbrev pub member_texts : Plan → List (List ℕ)
 member_texts plan = map string_bytes plan.members.items

@@ -1,5 +1,6 @@
 -- Whether two compositions are the same, component by component, and two plans.
 use Rattle.std.specs.Prelude.{ℕ, Bool as Truth, ◌&&◌, nat_eq, List}
+use Rattle.std.specs.Bool.{beq}
 use lib.Pointwise.{pointwise}
 use Rattle.terms.specs.SameTrees.{same_term, same_effect}
 use Rattle.terms.specs.declared.scalar.Scalar.{Scalar}
@@ -10,7 +11,7 @@ use Rattle.plans.specs.declared.plan.Plan.{Plan}
 use Rattle.plans.specs.contracts.automaton.KindPartialEq.TheImpl as kind_eq
 use Rattle.plans.specs.contracts.automaton.ParamPartialEq.TheImpl as param_eq
 use Rattle.plans.specs.Automata.{Transition, Instance, transition_of}
-use Rattle.plans.specs.Plans.{composition, action_texts, member_texts, text_of}
+use Rattle.plans.specs.Plans.{composition, action_texts, hidden_marks, mark_of, member_texts, text_of}
 
 -- whether two entries have the same action, kind, parameters, precondition and effect
 abbrev pub same_transition : Transition → Transition → Truth
@@ -27,6 +28,13 @@ same_formals a b = pointwise scalar_eq.ghosts.eq a b
 abbrev pub same_text_of : ActionName → ActionName → Truth
 same_text_of a b = pointwise nat_eq (text_of a) (text_of b)
 
+-- whether outputs of both names are hidden, or of neither; and the same of two lists of marks
+abbrev pub same_mark_of : ActionName → ActionName → Truth
+same_mark_of a b = beq (mark_of a) (mark_of b)
+
+abbrev pub same_marks : List Truth → List Truth → Truth
+same_marks a b = pointwise beq a b
+
 -- whether two components have the same entries, start values, tasks and values of formals
 abbrev pub same_instance : Instance → Instance → Truth
 same_instance a b = pointwise same_transition a.entries b.entries && (pointwise same_term a.start b.start && (same_texts a.tasks b.tasks && same_formals a.formals b.formals))
@@ -39,6 +47,10 @@ same_composition a b = pointwise same_instance a b
 abbrev pub same_entry : Entry → Entry → Truth
 same_entry a b = same_transition (transition_of a) (transition_of b)
 
--- whether two plans are the same composition with the same texts
+-- whether two plans are the same composition with the same texts and the same hidden names
 abbrev pub same_plan : Plan → Plan → Truth
-same_plan a b = same_composition (composition a) (composition b) && (same_texts (action_texts a) (action_texts b) && same_texts (member_texts a) (member_texts b))
+same_plan a b =
+    same_composition (composition a) (composition b)
+    && (same_texts (action_texts a) (action_texts b)
+    && (same_texts (member_texts a) (member_texts b)
+    && same_marks (hidden_marks a) (hidden_marks b)))

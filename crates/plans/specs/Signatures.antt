@@ -105,23 +105,41 @@ is_open (Some Input) = true
 is_open (Some Output) = true
 is_open (Some Internal) = false
 
+abbrev pub is_output : Option Kind → Truth
+is_output None = false
+is_output (Some Input) = false
+is_output (Some Output) = true
+is_output (Some Internal) = false
+
 -- some component passes the test
 abbrev pub some_component : List Instance → (ℕ → Truth) → Truth
 some_component composition test = list_any test (range_with_len 0 (length composition))
 
--- the signature of the composition: its outputs are the components' outputs, its inputs the components' inputs that no component has as an output, its internal actions the components' internal ones
-abbrev pub composed_outputs : List Instance → Named → Truth
-composed_outputs composition action = some_component composition (λ i. outputs composition i action)
+-- some component has the action as an output
+abbrev pub given_out : List Instance → Named → Truth
+given_out composition action = some_component composition (λ i. outputs composition i action)
+
+-- The signature of the composition, where outputs of some names are hidden, told by the names' numbers: its outputs are the components' outputs
+-- that aren't hidden, its inputs the components' inputs that no component has as an output, its internal actions the components' internal ones
+-- and their hidden outputs.
+abbrev pub composed_outputs : (hides : ℕ → Truth) → List Instance → Named → Truth
+composed_outputs hides composition action =
+    given_out composition action && not (hides action.name)
 
 abbrev pub composed_inputs : List Instance → Named → Truth
-composed_inputs composition action = some_component composition (λ i. inputs composition i action) && not (composed_outputs composition action)
+composed_inputs composition action =
+    some_component composition (λ i. inputs composition i action)
+    && not (given_out composition action)
 
-abbrev pub composed_internals : List Instance → Named → Truth
-composed_internals composition action = some_component composition (λ i. internals composition i action)
+abbrev pub composed_internals : (hides : ℕ → Truth) → List Instance → Named → Truth
+composed_internals hides composition action =
+    some_component composition (λ i. internals composition i action)
+    || (given_out composition action && hides action.name)
 
 -- an action of the composition that its surroundings see
-abbrev pub is_external : List Instance → Named → Truth
-is_external composition action = composed_inputs composition action || composed_outputs composition action
+abbrev pub is_external : (hides : ℕ → Truth) → List Instance → Named → Truth
+is_external hides composition action =
+    composed_inputs composition action || composed_outputs hides composition action
 
 -- component j takes the action as an input when component i does it
 abbrev pub receives : List Instance → ℕ → Named → ℕ → Truth

@@ -50,9 +50,11 @@ pub struct Component {
     pub formals: Vec<Scalar>,
 }
 
-/// The name of an action and the types of its parameters, in which all entries of that name agree.
+/// The name of an action and the types of its parameters, in which all entries of that name agree; and whether a composition hides
+/// outputs of this name.
 #[derive(Debug, Drop)]
 pub struct ActionName {
     pub text: String,
     pub parameters: Vec<Shape>,
+    pub is_hidden: bool,
 }

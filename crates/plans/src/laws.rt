@@ -11,7 +11,7 @@ ghost use Rattle.plans.specs.Enabling.{IsEnabled, IsOnce};
 ghost use Rattle.plans.specs.Outcomes.{outcome_of, enabled_of};
 ghost use Rattle.plans.specs.WellFormed.{IsWellFormed};
 ghost use Rattle.terms.specs.Datum.{Datum};
-ghost use Rattle.plans.specs.Plans.{action_texts, member_texts};
+ghost use Rattle.plans.specs.Plans.{action_texts, hidden_marks, member_texts};
 
 use crate::plan::Plan;
 
@@ -47,8 +47,13 @@ pub fn receivers_law()
     ensures input { (composition : List Instance) (action : Named) (sender j : ℕ) → IsIn j (receivers_of composition action sender) ≡ true → inputs composition j action ≡ true }
 {}
 
-/// Two plans are equal exactly where they are the same composition, with the same texts of actions and of members.
+/// Two plans are equal exactly where they are the same composition, with the same texts of actions and of members, and where outputs of the
+/// same names are hidden.
 pub fn equal_law(a: &Plan, b: &Plan)
-    ensures same { ⟦<Plan as PartialEq>⟧.eq a.now b.now ≡ true → (composition a.now ≡ composition b.now) × (action_texts a.now ≡ action_texts b.now) × (member_texts a.now ≡ member_texts b.now) }
-    ensures equal { (composition a.now ≡ composition b.now) × (action_texts a.now ≡ action_texts b.now) × (member_texts a.now ≡ member_texts b.now) → ⟦<Plan as PartialEq>⟧.eq a.now b.now ≡ true }
+    ensures same { ⟦<Plan as PartialEq>⟧.eq a.now b.now ≡ true
+        → (composition a.now ≡ composition b.now) × (action_texts a.now ≡ action_texts b.now)
+        × (member_texts a.now ≡ member_texts b.now) × (hidden_marks a.now ≡ hidden_marks b.now) }
+    ensures equal { (composition a.now ≡ composition b.now) × (action_texts a.now ≡ action_texts b.now)
+        × (member_texts a.now ≡ member_texts b.now) × (hidden_marks a.now ≡ hidden_marks b.now)
+        → ⟦<Plan as PartialEq>⟧.eq a.now b.now ≡ true }
 {}

@@ -10,7 +10,7 @@ use Rattle.event_keys.specs.declared.outcome.Outcome.{Outcome}
 use Rattle.event_keys.specs.declared.outcome.Outcome.TheVariants.{Idle, Did}
 use Rattle.event_keys.specs.declared.outcome.Turned.{Turned}
 use Rattle.plans.specs.declared.plan.Plan.{Plan}
-use Rattle.plans.specs.Plans.{composition, action_texts, member_texts}
+use Rattle.plans.specs.Plans.{composition, action_texts, hides, member_texts}
 use Rattle.plans.specs.Signatures.{is_external}
 use Rattle.trace.specs.declared.lines.Lines.{Lines}
 use Rattle.trace.specs.declared.lines.Lines.TheVariants.{All, Trace}
@@ -60,10 +60,10 @@ key_text key = number_text key.tick ++ (number_text key.component ++ number_text
 abbrev pub line_of : Plan → Turned → List ℕ
 line_of plan turned = key_text turned.key ++ (outcome_text plan turned.outcome ++ 10 ∷ [])
 
--- the turn did an action that is external
+-- the turn did an action that is external: an input or an output of the composition, and no output that is hidden
 abbrev pub did_external : Plan → Outcome → Bool
 did_external plan Idle = false
-did_external plan (Did action) = is_external (composition plan) action
+did_external plan (Did action) = is_external (hides plan) (composition plan) action
 
 -- whether a turn with this outcome is written
 abbrev pub is_shown : Plan → Lines → Outcome → Bool

@@ -28,7 +28,7 @@ const LINE_ROOM: usize = 128;
 pub enum Lines {
     /// Every turn.
     All,
-    /// The turns that took an action that is external: an input or an output of the composition.
+    /// The turns that took an action that is external: an input or an output of the composition. A hidden output is neither.
     Trace,
 }
 

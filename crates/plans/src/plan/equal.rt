@@ -1,11 +1,11 @@
-//! Plans are equal where their compositions and their texts are.
+//! Plans are equal where their compositions, their texts and their hidden names are.
 ghost use Rattle.std.specs.Prelude.{◌≡◌, map, length};
 ghost use Rattle.std.specs.List.{list_all, range_with_len, zip};
 ghost use Rattle.std.specs.Cmp.{partial_equiv_from_equiv};
 ghost use Rattle.terms.specs.SameTrees.{same_term};
 ghost use Rattle.plans.specs.Automata.{component_at};
-ghost use Rattle.plans.specs.Plans.{composition, action_texts, member_texts, text_of};
-ghost use Rattle.plans.specs.SameCompositions.{same_transition, same_instance, same_composition, same_text_of, same_texts, same_formals, same_plan};
+ghost use Rattle.plans.specs.Plans.{composition, action_texts, hidden_marks, member_texts, text_of};
+ghost use Rattle.plans.specs.SameCompositions.{same_transition, same_instance, same_composition, same_text_of, same_texts, same_formals, same_mark_of, same_marks, same_plan};
 ghost use Rattle.plans.specs.SameLaws.{same_plan_laws};
 ghost use lib.Pointwise.{pointwise};
 
@@ -18,7 +18,10 @@ impl PartialEq for Plan {
     ghost laws = { partial_equiv_from_equiv same_plan_laws };
 
     fn eq(&self, other: &Plan) -> bool {
-        self.has_components_of(other) && self.has_names_of(other) && self.has_members_of(other)
+        self.has_components_of(other)
+            && self.has_names_of(other)
+            && self.has_members_of(other)
+            && self.has_marks_of(other)
     }
 }
 
@@ -84,6 +87,13 @@ impl Plan {
     {
         self.members == other.members
     }
+
+    fn has_marks_of(&self, other: &Plan) -> bool
+        ensures { result ≡ same_marks (hidden_marks self.now) (hidden_marks other.now) }
+    {
+        self.actions.len() == other.actions.len()
+            && have_same_marks(self.actions.as_slice(), other.actions.as_slice())
+    }
 }
 
 fn have_same_texts(names: &[ActionName], others: &[ActionName]) -> bool
@@ -93,4 +103,13 @@ fn have_same_texts(names: &[ActionName], others: &[ActionName]) -> bool
         .iter()
         .zip(others.iter())
         .all(|(name, other)| name.text == other.text)
+}
+
+fn have_same_marks(names: &[ActionName], others: &[ActionName]) -> bool
+    ensures { result ≡ list_all (λ pair. same_mark_of pair.0 pair.1) (zip names.now others.now) }
+{
+    names
+        .iter()
+        .zip(others.iter())
+        .all(|(name, other)| name.is_hidden == other.is_hidden)
 }

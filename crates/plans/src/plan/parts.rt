@@ -3,7 +3,7 @@ ghost use Rattle.std.specs.Prelude.{◌≡◌, ◌<◌, ◌^◌, IfOk, map, leng
 ghost use Rattle.plans.specs.Automata.{composed};
 ghost use Rattle.plans.specs.Compatible.{IsCompatible};
 ghost use Rattle.plans.specs.Patterns.{IsIndexed};
-ghost use Rattle.plans.specs.Plans.{composition, action_texts, action_types, member_texts, text_of, types_of};
+ghost use Rattle.plans.specs.Plans.{composition, action_texts, action_types, hidden_marks, mark_of, member_texts, text_of, types_of};
 ghost use Rattle.plans.specs.WellFormed.{IsWellFormed};
 
 use crate::automaton::{ActionName, Automaton, Component};
@@ -29,6 +29,7 @@ impl Plan {
         ensures composition { IfOk result (λ plan. composition plan ≡ composed automata.items components.items) }
         ensures actions { IfOk result (λ plan. action_texts plan ≡ map text_of actions.items) }
         ensures types { IfOk result (λ plan. action_types plan ≡ map types_of actions.items) }
+        ensures marks { IfOk result (λ plan. hidden_marks plan ≡ map mark_of actions.items) }
         ensures members { IfOk result (λ plan. member_texts plan ≡ map string_bytes members.items) }
     {
         let index = index_of(alloc, automata.as_slice(), components.as_slice(), false)?;

@@ -1,10 +1,10 @@
 //! The signatures of the components and of their composition.
-ghost use Rattle.std.specs.Prelude.{◌≡◌, ◌++◌, ◌∷◌, [], IfOk, IfSome, OnOk, cond, length, int_le, int_lt, pos, ◌+ℤ◌, ◌&&◌, option_copied, find, filter, is_some, ℕ};
+ghost use Rattle.std.specs.Prelude.{◌≡◌, ◌++◌, ◌∷◌, [], IfOk, IfSome, OnOk, cond, length, int_le, int_lt, pos, ◌+ℤ◌, ◌&&◌, not, option_copied, find, filter, is_some, ℕ};
 ghost use Rattle.plans.specs.Automata.{transition_of};
 ghost use Rattle.terms.specs.Meaning.{slot};
 ghost use Rattle.std.specs.List.Sorted.{IsStrictlyIncreasing};
 ghost use Rattle.plans.specs.Receivers.{AreCandidates};
-ghost use Rattle.plans.specs.Signatures.{is_member, fits_one, fits, has, kind_of, receives, receivers_of, is_external, is_open, takes_input, some_component, takers_of};
+ghost use Rattle.plans.specs.Signatures.{is_member, fits_one, fits, has, kind_of, receives, receivers_of, given_out, is_external, is_open, is_output, takes_input, some_component, takers_of};
 
 use crate::automaton::{Entry, Kind, Param};
 use crate::index::notes::is_above;
@@ -17,7 +17,7 @@ impl Plan {
     ghost use Rattle.std.specs.Option.{option_map};
     ghost use Rattle.plans.specs.Automata.{component_at};
     ghost use Rattle.plans.specs.Steps.{entry_in};
-    ghost use Rattle.plans.specs.Plans.{composition};
+    ghost use Rattle.plans.specs.Plans.{composition, hides};
 
     #[inline(always)]
     pub(super) fn entry(&self, i: u16, action: &Action) -> Option<&Entry>
@@ -183,11 +183,39 @@ impl Plan {
         Ok(takers)
     }
 
-    /// Whether an action is an input or an output of the composition.
+    /// Whether an action is an input or an output of the composition. An output of a component whose name is hidden is neither.
     pub fn is_external(&self, action: &Action) -> bool
-        ensures { result ≡ is_external (composition self.now) action.now }
+        ensures { result ≡ is_external (hides self.now) (composition self.now) action.now }
     {
-        self.is_open_somewhere(action)
+        self.is_seen_somewhere(action)
+    }
+
+    fn is_seen_somewhere(&self, action: &Action) -> bool
+        ensures { result ≡ (not (hides self.now action.now.name && given_out
+            (composition self.now) action.now) && some_component
+            (composition self.now) (λ j. is_open (kind_of (composition self.now) j action.now))) }
+    {
+        !self.is_hidden_output(action) && self.is_open_somewhere(action)
+    }
+
+    fn is_hidden_output(&self, action: &Action) -> bool
+        ensures { result ≡ (hides self.now action.now.name && given_out
+            (composition self.now) action.now) }
+    {
+        self.hides(name_of(action)) && self.is_given_out(action)
+    }
+
+    fn is_given_out(&self, action: &Action) -> bool
+        ensures { result ≡ given_out (composition self.now) action.now }
+    {
+        self.is_output_somewhere(action)
+    }
+
+    fn is_output_somewhere(&self, action: &Action) -> bool
+        ensures { result ≡ some_component
+            (composition self.now) (λ j. is_output (kind_of (composition self.now) j action.now)) }
+    {
+        (0..self.components()).any(|j| is_output(self.kind(j, action)))
     }
 
     fn is_open_somewhere(&self, action: &Action) -> bool
@@ -249,6 +277,17 @@ fn is_open(kind: Option<Kind>) -> bool
 {
     match kind {
         Some(Kind::Input) => true,
+        Some(Kind::Output) => true,
+        Some(Kind::Internal) => false,
+        None => false,
+    }
+}
+
+fn is_output(kind: Option<Kind>) -> bool
+    ensures { result ≡ is_output kind }
+{
+    match kind {
+        Some(Kind::Input) => false,
         Some(Kind::Output) => true,
         Some(Kind::Internal) => false,
         None => false,

@@ -1,7 +1,9 @@
 use Rattle.std.proofs.Common.{◌∙◌}
-use Rattle.plans.specs.Plans.{composition}
-use Rattle.plans.specs.External.{open_somewhere}
+use Rattle.plans.specs.Plans.{composition, hides}
+use Rattle.plans.specs.External.{seen_is_external}
 use Rattle.plans.proofs.plan.Plan.is_external.Goals as goal
 
 pub returns : goal.returns
-returns c = c.is_open_somewhere.ensures ∙ open_somewhere (composition c.args.self.now) c.args.action.now
+returns c =
+    let plan = c.args.self.now in
+    c.is_seen_somewhere.ensures ∙ seen_is_external (hides plan) (composition plan) c.args.action.now
