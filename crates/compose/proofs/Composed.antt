@@ -1,13 +1,12 @@
 -- What is known of a checked source, and of the parts that it means.
-use Rattle.std.proofs.Common.{arith, ◌≡◌, ◌≤◌, ◌<◌, ◌^◌, ℕ, ◌+◌, Option, None, Some, IfSome, IfNone, List, [], map, length, true, false, sym, ◌∙◌, ap, subst}
+use Rattle.std.proofs.Common.{arith, ◌≡◌, ◌≤◌, ◌<◌, ◌^◌, ℕ, ◌+◌, Option, None, Some, IfSome, IfNone, List, [], length, true, false, sym, ◌∙◌, ap, subst}
 use Rattle.std.specs.List.{All}
 use Rattle.std.proofs.lemmas.List.{length-map}
 use Rattle.ioa_trees.specs.Spelling.{spell}
 use Rattle.ioa_trees.specs.Trees.{Bytes, PlainSource}
 use Rattle.ioa_rules.specs.SourceRules.{MeantSource, source_faults, source_meaning}
 use Rattle.ioa_check.specs.Refusals.{IsMeant}
-use Rattle.ioa_check.specs.Resolutions.{component_meaning, meaning}
-use Rattle.ioa_check.specs.declared.resolved.Component.{Component as ResolvedComponent}
+use Rattle.ioa_check.specs.Resolutions.{meaning}
 use Rattle.ioa_check.specs.declared.resolved.Resolved.{Resolved}
 use Rattle.ioa_facts.specs.Sound.{IsSoundAutomaton, entries_in}
 use Rattle.plans.specs.Automata.{Instance, composed, instance_of}
@@ -22,9 +21,9 @@ use Rattle.action_types.specs.Types.{TypesDiffer}
 use Rattle.instances.specs.Instances.{instance, instances}
 use Rattle.instances.specs.Names.{AreNames}
 use Rattle.compose.specs.declared.fault.ComposeError.{ComposeError}
-use Rattle.compose.specs.Faults.{AutomatonMissing, Fault, Own, Internal, Output, HasFault, IsRefused, least_error, unknown_at}
+use Rattle.compose.specs.Faults.{Fault, Own, Internal, Output, HasFault, IsRefused, OutputMissing, least_error, unknown_at}
 use Rattle.compose.proofs.Least.{Firsts, refused_by, faultless_by}
-use Rattle.compose.proofs.Unknown.{some_first, none_first}
+use Rattle.compose.proofs.Unknown.{unknown_first}
 
 -- ---- the size and the soundness of a checked source
 
@@ -48,10 +47,6 @@ module _ (m : MeantSource) (is : IsMeant m) where
 
 -- ---- the first components with each fault
 
-unknown_first : (cs : List ResolvedComponent) (first : Option ℕ) → IfSome first (λ n. (unknown_at cs n ≡ true) × ((k : ℕ) → k < n → unknown_at cs k ≡ false)) → IfNone first ((k : ℕ) → unknown_at cs k ≡ false) → IsFirst (AutomatonMissing (map component_meaning cs)) first
-unknown_first cs None some none = none_first cs none
-unknown_first cs (Some n) some none = some_first cs n some.0 some.1
-
 module _ (r : Resolved) (names : List Bytes) (automata : List Automaton) (components : List Component) (same : composed automata components ≡ instances names (meaning r)) (are : AreNames names (meaning r)) where
   abbrev m : MeantSource
   m = meaning r
@@ -62,14 +57,15 @@ module _ (r : Resolved) (names : List Bytes) (automata : List Automaton) (compon
   count_as : length components ≡ length m.components
   count_as = sym (length-map components (instance_of automata)) ∙ ap length same ∙ length-map m.components (instance names m.automata)
 
-  module _ (unknown own internal output types : Option ℕ)
+  module _ (unknown own internal output types hidden : Option ℕ)
       (some : IfSome unknown (λ n. (unknown_at r.components.items n ≡ true) × ((k : ℕ) → k < n → unknown_at r.components.items k ≡ false)))
       (none : IfNone unknown ((k : ℕ) → unknown_at r.components.items k ≡ false))
       (own_first : IsFirst (Breaks rule.Own (composed automata components)) own)
       (internal_first : IsFirst (Breaks rule.Internal (composed automata components)) internal)
       (output_first : IsFirst (Breaks rule.Output (composed automata components)) output)
-      (types_first : IsFirst (TypesDiffer (meaning r)) types) where
-    firsts : Firsts names m are unknown own internal output types (length components)
+      (types_first : IsFirst (TypesDiffer (meaning r)) types)
+      (hidden_first : IsFirst (OutputMissing (meaning r)) hidden) where
+    firsts : Firsts names m are unknown own internal output types (length components) hidden
     firsts = record {
       unknown_first = unknown_first r.components.items unknown some none;
       own_first = first_as rule.Own own own_first;
@@ -77,14 +73,15 @@ module _ (r : Resolved) (names : List Bytes) (automata : List Automaton) (compon
       output_first = first_as rule.Output output output_first;
       types_first = types_first;
       count = count_as;
+      hidden_first = hidden_first;
     }
 
-    pub refused : (e : ComposeError) → least_error unknown own internal output types (length components) ≡ Some e → IsRefused m e
-    refused e is = refused_by names m are unknown own internal output types (length components) firsts e is
+    pub refused : (e : ComposeError) → least_error unknown own internal output types (length components) hidden ≡ Some e → IsRefused m e
+    refused e is = refused_by names m are unknown own internal output types (length components) hidden firsts e is
 
-    module _ (is : least_error unknown own internal output types (length components) ≡ None) where
+    module _ (is : least_error unknown own internal output types (length components) hidden ≡ None) where
       pub faultless : (f : Fault) (j : ℕ) → HasFault names m f j → ⊥
-      faultless = faultless_by names m are unknown own internal output types (length components) firsts is
+      faultless = faultless_by names m are unknown own internal output types (length components) hidden firsts is
 
       unbroken : (k : Rule) (j : ℕ) → Breaks k (instances names m) j → ⊥
       unbroken rule.Own = faultless Own

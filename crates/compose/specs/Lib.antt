@@ -1,3 +1,4 @@
 pub mod Composed
 pub mod Faults
+pub mod Outputs
 pub mod Refusals

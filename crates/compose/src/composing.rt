@@ -2,9 +2,10 @@
 ghost use Rattle.std.specs.Prelude.{◌≡◌, ◌<◌, ℕ, true, false, IfOk, IfErr, IfSome, IfNone};
 ghost use Rattle.ioa_check.specs.Resolutions.{meaning};
 ghost use Rattle.plans.specs.Plans.{action_texts};
-ghost use Rattle.compose.specs.Faults.{Fault as AnyFault, HasFault, IsPlan, IsRefused, least_error, unknown_at};
+ghost use Rattle.compose.specs.Faults.{Fault as AnyFault, HasFault, IsPlan, IsRefused, last_error, least_error, unknown_at};
 
 use crate::fault::ComposeError;
+use crate::hiding::first_not_given;
 use crate::laws::formed_law;
 use action_types::first_difference;
 use compatibility::laws::compatible_law;
@@ -28,7 +29,7 @@ fn first_unknown(components: &[Component]) -> Option<usize>
         .position(|component| component.automaton.is_none())
 }
 
-// The error of the least number, where each fault is first there with these components.
+// The error of the least number, where each fault is first there with these components, or with this hidden name.
 fn least_error(
     unknown: Option<usize>,
     own: Option<usize>,
@@ -36,8 +37,9 @@ fn least_error(
     output: Option<usize>,
     types: Option<usize>,
     count: usize,
+    hidden: Option<usize>,
 ) -> Option<ComposeError>
-    ensures { result ≡ least_error unknown own internal output types count }
+    ensures { result ≡ least_error unknown own internal output types count hidden }
 {
     if let Some(component) = unknown {
         return Some(ComposeError::NoSuchAutomaton(component));
@@ -57,15 +59,24 @@ fn least_error(
     if count > MOST_COMPONENTS {
         return Some(ComposeError::TooManyComponents);
     }
-    None
+    last_error(hidden)
+}
+
+fn last_error(hidden: Option<usize>) -> Option<ComposeError>
+    ensures { result ≡ last_error hidden }
+{
+    match hidden {
+        Some(name) => Some(ComposeError::NotAnOutput(name)),
+        None => None,
+    }
 }
 
 /// A plan of a checked source.
 ///
 /// # Errors
 ///
-/// The fault of the least number, with the least component up to which it is there. `NoMemory` may stand in its place, or in place of
-/// an answer.
+/// The fault of the least number, with the least component up to which it is there, or with the first hidden name that is at fault.
+/// `NoMemory` may stand in its place, or in place of an answer.
 pub fn compose(alloc: Global, checked: Checked) -> Result<Plan, ComposeError>
     ensures plan { IfOk result (λ plan. IsPlan (meaning checked) plan) }
     ensures faultless { IfOk result (λ plan. (f : AnyFault) (j : ℕ) → HasFault (action_texts plan) (meaning checked) f j → ⊥) }
@@ -78,13 +89,15 @@ pub fn compose(alloc: Global, checked: Checked) -> Result<Plan, ComposeError>
     let resolved = checked.into_resolved();
     let unknown = first_unknown(resolved.components.as_slice());
     let types = first_difference(alloc, &resolved)?;
+    let hidden = first_not_given(alloc, &resolved)?;
     let parts = parts_of(alloc, resolved)?;
     let automata = parts.automata.as_slice();
     let components = parts.components.as_slice();
     let own = first_break(alloc, Rule::Own, automata, components)?;
     let internal = first_break(alloc, Rule::Internal, automata, components)?;
     let output = first_break(alloc, Rule::Output, automata, components)?;
-    match least_error(unknown, own, internal, output, types, components.len()) {
+    let count = components.len();
+    match least_error(unknown, own, internal, output, types, count, hidden) {
         Some(error) => {
             drop(parts);
             Err(error)

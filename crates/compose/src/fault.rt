@@ -7,7 +7,7 @@ use terms::{NoMemory, Refusal};
 use thiserror::Error;
 
 /// Why a composition is refused: the fault of the least number, and the least number of a component such that the components up to
-/// it have that fault. Components are counted from 0.
+/// it have that fault, or the first hidden name that is at fault. Components and hidden names are counted from 0.
 #[derive(Clone, Copy, Debug, PartialEq, Eq, Error)]
 pub enum ComposeError {
     #[error("out of memory")]
@@ -30,6 +30,9 @@ pub enum ComposeError {
     /// More than 64 components.
     #[error("there are more than 64 components")]
     TooManyComponents,
+    /// No component has an output of a name that is to be hidden.
+    #[error("hidden name {0} is no output of a component")]
+    NotAnOutput(usize),
 }
 
 impl Refusal for ComposeError {
@@ -48,6 +51,7 @@ impl Refusal for ComposeError {
             ComposeError::OutputShared(_) => 23,
             ComposeError::ShapeDiffers(_) => 24,
             ComposeError::TooManyComponents => 25,
+            ComposeError::NotAnOutput(_) => 36,
         }
     }
 
@@ -60,6 +64,7 @@ impl Refusal for ComposeError {
             ComposeError::OutputShared(component) => Some(*component),
             ComposeError::ShapeDiffers(component) => Some(*component),
             ComposeError::TooManyComponents => Some(64),
+            ComposeError::NotAnOutput(name) => Some(*name),
         }
     }
 }

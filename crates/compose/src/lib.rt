@@ -3,6 +3,7 @@
 
 pub mod composing;
 pub mod fault;
+mod hiding;
 pub mod laws;
 pub mod source;
 pub mod source_error;

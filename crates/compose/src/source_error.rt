@@ -15,7 +15,7 @@ pub enum SourceError {
     /// It has a fault; the place is a token.
     #[error("{0}")]
     Check(CheckError),
-    /// Its components can't be composed; the place is a component.
+    /// Its components can't be composed; the place is a component, or a hidden name.
     #[error("{0}")]
     Compose(ComposeError),
 }

@@ -1,6 +1,7 @@
 pub mod Converted
 pub mod Firsts
 pub mod Grown
+pub mod HiddenNames
 pub mod Marks
 pub mod Placed
 pub mod Rising

@@ -1,5 +1,5 @@
 -- The names of the actions that the components of a source use, and the types of their parameters.
-use Rattle.std.specs.Prelude.{◌≡◌, ℕ, Option, Some, None, List, [], ◌∷◌, ◌++◌, map, sum_by, length, slice_get, bytes_eq, if◌then◌else◌}
+use Rattle.std.specs.Prelude.{◌≡◌, ℕ, Bool, Option, Some, None, List, [], ◌∷◌, ◌++◌, map, sum_by, length, slice_get, bytes_eq, if◌then◌else◌}
 use Rattle.std.specs.Cmp.Lexicographic.{slice_cmp}
 use Rattle.std.specs.List.{list_any}
 use Rattle.std.specs.List.Sorted.{IsStrictlySortedBy}
@@ -60,6 +60,14 @@ none_if_missing (Some types) = types
 
 abbrev pub first_types : MeantSource → Bytes → List ShapeTree
 first_types m q = none_if_missing (first_in (signatures_of m.automata m.components) q)
+
+-- the name is one of these
+abbrev pub is_among : List Bytes → Bytes → Bool
+is_among names q = list_any (bytes_eq q) names
+
+-- outputs of this name are hidden
+abbrev pub is_hidden : MeantSource → Bytes → Bool
+is_hidden m q = is_among m.hidden q
 
 -- each name comes before all that follow it, in the order of bytes
 abbrev pub IsRising : List Bytes → Type 0

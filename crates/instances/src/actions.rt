@@ -1,26 +1,55 @@
 //! The names of actions, and their numbers.
-ghost use Rattle.std.specs.Prelude.{◌≡◌, ◌<◌, ◌^◌, map, length, IfOk, OnErr};
-ghost use Rattle.plans.specs.Plans.{text_of};
+ghost use Rattle.std.specs.Prelude.{◌≡◌, ◌<◌, ◌^◌, map, length, string_bytes, IfOk, OnErr};
+ghost use Rattle.plans.specs.Plans.{mark_of, text_of};
+ghost use Rattle.ioa_check.specs.AutomatonViews.{used_names};
+ghost use Rattle.ioa_check.specs.Sets.{AreNames};
 ghost use Rattle.instances.specs.Instances.{place_in};
-ghost use Rattle.instances.specs.Names.{IsRising};
-ghost use Rattle.instances.specs.Tables.{action_signature, table};
+ghost use Rattle.instances.specs.Names.{IsRising, is_among};
+ghost use Rattle.instances.specs.Tables.{action_signature, entry_signature, table};
 
+use ioa_check::Used;
 use plans::ActionName;
 use std::alloc::{AllocError, Global};
 use std::collections::BTreeMap;
 use terms::Shape;
 
-/// The names of a table, in the order of their numbers.
+/// The set of these names.
+pub fn names_in(alloc: Global, names: &[String]) -> Result<Used, AllocError>
+    ensures { IfOk result (λ set. AreNames (used_names set) (map string_bytes names.now)) }
+{
+    let mut set = Used::new(alloc);
+    for name in names {
+        set.insert(name)?;
+    }
+    Ok(set)
+}
+
+fn action(text: String, parameters: Vec<Shape>, hidden: &Used) -> ActionName
+    ensures signature { action_signature result ≡ entry_signature (text, parameters) }
+    ensures mark { mark_of result ≡ is_among (used_names hidden.now) (text_of result) }
+{
+    let is_hidden = hidden.contains(text.as_str());
+    ActionName {
+        text,
+        parameters,
+        is_hidden,
+    }
+}
+
+/// The names of a table, in the order of their numbers, where outputs of the names of a set are hidden.
 pub fn actions_of(
     alloc: Global,
     names: BTreeMap<String, Vec<Shape>>,
+    hidden: &Used,
 ) -> Result<Vec<ActionName>, AllocError>
     ensures signatures { IfOk result (λ xs. map action_signature xs.items ≡ table names) }
     ensures rising { IfOk result (λ xs. IsRising (map text_of xs.items)) }
+    ensures marks { IfOk result (λ xs. map mark_of xs.items
+        ≡ map (is_among (used_names hidden.now)) (map text_of xs.items)) }
 {
     let mut actions = Vec::new(alloc);
     for (text, parameters) in names {
-        actions.push(ActionName { text, parameters })?;
+        actions.push(action(text, parameters, hidden))?;
     }
     Ok(actions)
 }

@@ -2,27 +2,28 @@
 ghost use Rattle.std.specs.Prelude.{◌≡◌, ◌<◌, ◌^◌, map, length, string_bytes, IfOk};
 ghost use Rattle.std.specs.List.{All};
 ghost use Rattle.plans.specs.Automata.{composed};
-ghost use Rattle.plans.specs.Plans.{text_of, types_of};
+ghost use Rattle.plans.specs.Plans.{mark_of, text_of, types_of};
 ghost use Rattle.ioa_check.specs.Resolutions.{meaning};
 ghost use Rattle.instances.specs.Instances.{instances};
-ghost use Rattle.instances.specs.Names.{AreNames, entries_in, first_types};
-ghost use Rattle.instances.specs.Tables.{IsTable, meant_parts, parts_in, table};
+ghost use Rattle.instances.specs.Names.{AreNames, IsRising, entries_in, first_types, is_hidden};
+ghost use Rattle.instances.specs.Tables.{IsTable, action_signature, meant_parts, parts_in, table};
 
-use crate::actions::actions_of;
+use crate::actions::{actions_of, names_in};
 use crate::automata::automata;
 use crate::components::components;
 use crate::table::{Table, table_of};
 use ioa_check::Resolved;
 use plans::{ActionName, Automaton, Component};
 use std::alloc::Global;
-use terms::NoMemory;
+use std::collections::BTreeMap;
+use terms::{NoMemory, Shape};
 
 /// The parts of a plan that a source means.
 #[derive(Drop)]
 pub struct Parts {
     pub automata: Vec<Automaton>,
     pub components: Vec<Component>,
-    /// The names of the actions, in the order of their bytes.
+    /// The names of the actions, in the order of their bytes, with marks on those whose outputs are hidden.
     pub actions: Vec<ActionName>,
     pub members: Vec<String>,
 }
@@ -43,6 +44,22 @@ fn components_in(alloc: Global, resolved: &Resolved) -> Result<Vec<Component>, N
     components(alloc, beyond, all)
 }
 
+fn actions_in(
+    alloc: Global,
+    resolved: &Resolved,
+    names: BTreeMap<String, Vec<Shape>>,
+) -> Result<Vec<ActionName>, NoMemory>
+    ensures signatures { IfOk result (λ xs. map action_signature xs.items ≡ table names) }
+    ensures rising { IfOk result (λ xs. IsRising (map text_of xs.items)) }
+    ensures marks { IfOk result (λ xs. map mark_of xs.items
+        ≡ map (is_hidden (meaning resolved.now)) (map text_of xs.items)) }
+{
+    let hidden = names_in(alloc, resolved.hidden.as_slice())?;
+    let actions = actions_of(alloc, names, &hidden);
+    drop(hidden);
+    Ok(actions?)
+}
+
 /// The parts of a plan that a checked source means. An automaton that no component has keeps its number, and has no entries. `NoMemory` where
 /// memory was refused.
 pub fn parts_of(alloc: Global, resolved: Resolved) -> Result<Parts, NoMemory>
@@ -51,11 +68,13 @@ pub fn parts_of(alloc: Global, resolved: Resolved) -> Result<Parts, NoMemory>
     ensures names { IfOk result (λ parts. AreNames (map text_of parts.actions.items) (meaning resolved)) }
     ensures composition { IfOk result (λ parts. composed parts.automata.items parts.components.items ≡ instances (map text_of parts.actions.items) (meaning resolved)) }
     ensures types { IfOk result (λ parts. map types_of parts.actions.items ≡ map (first_types (meaning resolved)) (map text_of parts.actions.items)) }
+    ensures marks { IfOk result (λ parts. map mark_of parts.actions.items
+        ≡ map (is_hidden (meaning resolved)) (map text_of parts.actions.items)) }
     ensures members { IfOk result (λ parts. map string_bytes parts.members.items ≡ (meaning resolved).members) }
 {
     let table = table_in(alloc, &resolved)?;
     let components = components_in(alloc, &resolved)?;
-    let actions = actions_of(alloc, table.names)?;
+    let actions = actions_in(alloc, &resolved, table.names)?;
     let names = actions.as_slice();
     let used = table.used.as_slice();
     let automata = automata(alloc, names, used, resolved.automata)?;

@@ -87,7 +87,8 @@ pub fn is_marked(marks: &[bool], place: usize) -> bool
     }
 }
 
-fn mark(marks: &mut Vec<bool>, place: usize)
+/// Marks a place, if there is one.
+pub fn mark(marks: &mut Vec<bool>, place: usize)
     ensures { marks.new.items ≡ slice_set marks.old.items place true }
 {
     if place < marks.len() {
@@ -95,7 +96,8 @@ fn mark(marks: &mut Vec<bool>, place: usize)
     }
 }
 
-fn unmarked(alloc: Global, count: usize) -> Result<Vec<bool>, AllocError>
+/// So many places without marks.
+pub fn unmarked(alloc: Global, count: usize) -> Result<Vec<bool>, AllocError>
     ensures { IfOk result (λ ms. ms.items ≡ replicate count false) }
 {
     vec![in alloc; false; count]

@@ -18,7 +18,7 @@ use Rattle.compatibility.specs.declared.rule.Rule.TheVariants as rule
 use Rattle.action_types.specs.Types.{TypesDiffer, automaton_at, entry_kinds, same_kinds}
 use Rattle.instances.specs.Instances.{instances}
 use Rattle.instances.specs.Names.{AreNames, used_names}
-use Rattle.compose.specs.Faults.{AutomatonMissing, Fault, Unknown, Own, Internal, Output, Types, Many, HasFault, IsRefused}
+use Rattle.compose.specs.Faults.{AutomatonMissing, Fault, Unknown, Own, Internal, Output, Types, Many, Hidden, HasFault, IsRefused}
 use Rattle.compose.specs.declared.fault.ComposeError.{ComposeError}
 use Rattle.compose.specs.declared.fault.ComposeError.TheVariants as error
 use Rattle.ring_source.specs.Ring.{ring_of_two}
@@ -112,6 +112,7 @@ module _ (names : List Bytes) (are : AreNames names meant) where
     no_fault Output j h = unbroken (instances names meant) compatible rule.Output j h
     no_fault Types j h = same_types h.a h.b (is_node h.i h.a h.automaton) (is_node h.k h.b h.other_automaton) h.place h.other_place h.e h.f h.entry h.other_entry h.differ
     no_fault Many j h = let two : 64 < 2 = h.1 in omega (arith, two)
+    no_fault Hidden j h = let none : ◌≡◌ {A = Option Bytes} None (Some h.name) = h.at in cc
 
 module _ (unbroken : (composition : List Instance) → IsCompatible composition → (r : Rule) (j : ℕ) → Breaks r composition j → ⊥) where
   -- so it is refused for want of memory alone
@@ -123,3 +124,4 @@ module _ (unbroken : (composition : List Instance) → IsCompatible composition 
   only_memory (error.OutputShared j) h = absurd (no_fault h.0 h.1.0 unbroken Output j h.1.1.first.0)
   only_memory (error.ShapeDiffers j) h = absurd (no_fault h.0 h.1.0 unbroken Types j h.1.1.first.0)
   only_memory error.TooManyComponents h = absurd (no_fault h.0 h.1.0 unbroken Many 64 h.1.1.first.0)
+  only_memory (error.NotAnOutput j) h = absurd (no_fault h.0 h.1.0 unbroken Hidden j h.1.1.first.0)

@@ -39,5 +39,5 @@ abbrev pub ring_tree : PlainSource
 ring_tree = record {
   types = record { name = codes "Id"; body = Same (Range (size 0) (size 1)) } ∷ [];
   automata = node_tree ∷ [];
-  composed = record { name = codes "Ring"; components = placed (codes "a") 0 1 True ∷ (placed (codes "b") 1 0 False ∷ []) };
+  composed = record { name = codes "Ring"; components = placed (codes "a") 0 1 True ∷ (placed (codes "b") 1 0 False ∷ []); hidden = [] };
 }

@@ -26,12 +26,17 @@ pub fault_by : (P : Report → Type 0) (n : ℕ) (place : Option ℕ) → n ≡ 
 fault_by P n place one p = subst (λ k. P (report_of k place)) (sym one) p
 
 -- a source that is refused gives no plan
-pub no_plan : (source : List ℕ) (e : SourceError) → (source_number e ≡ 1) ⊎ ((2 ≤ source_number e) × (source_number e ≤ 25)) → IsRefused source e → GivesNoPlan source (report_of (source_number e) (source_place e))
-no_plan source e (inl one) refused = fault_by (GivesNoPlan source) (source_number e) (source_place e) one refl
-no_plan source e (inr numbered) refused =
-    let low = numbered.0 in
-    let high = numbered.1 in
-    refused_by (GivesNoPlan source) (source_number e) (source_place e) low (omega (arith, high)) (record { error = e; refused = refused; judged = λ one. omega (arith, one, low); number_is = refl; place_is = refl })
+pub no_plan : (source : List ℕ) (e : SourceError) → (source_number e ≡ 1) ⊎ (((2 ≤ source_number e) × (source_number e ≤ 25)) ⊎ (source_number e ≡ 36))
+    → IsRefused source e → GivesNoPlan source (report_of (source_number e) (source_place e))
+no_plan source e numbered refused = by numbered
+  where
+    told : 2 ≤ source_number e → source_number e ≤ 39 → GivesNoPlan source (report_of (source_number e) (source_place e))
+    told low high = refused_by (GivesNoPlan source) (source_number e) (source_place e) low high (record { error = e; refused = refused; judged = λ one. omega (arith, one, low); number_is = refl; place_is = refl })
+
+    by : (source_number e ≡ 1) ⊎ (((2 ≤ source_number e) × (source_number e ≤ 25)) ⊎ (source_number e ≡ 36)) → GivesNoPlan source (report_of (source_number e) (source_place e))
+    by (inl one) = fault_by (GivesNoPlan source) (source_number e) (source_place e) one refl
+    by (inr (inl few)) = let high = few.1 in told few.0 (omega (arith, high))
+    by (inr (inr last)) = told (omega (arith, last)) (omega (arith, last))
 
 -- what was read of a file
 module _ (has : List ℕ → Type 0) (read : List ℕ) (is : IsReadOf has 65537 read) where

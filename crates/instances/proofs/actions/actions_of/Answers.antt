@@ -1,9 +1,10 @@
 use Rattle.std.proofs.Common.{rules, ◌≡◌, ◌∷◌, map, refl, sym, ap, subst, ◌∙◌}
-use Rattle.plans.specs.Plans.{text_of}
-use Rattle.plans.specs.declared.automaton.ActionName.{ActionName}
-use Rattle.instances.specs.Names.{IsRising}
+use Rattle.plans.specs.Plans.{mark_of, text_of}
+use Rattle.ioa_check.specs.AutomatonViews.{used_names}
+use Rattle.instances.specs.Names.{IsRising, is_among}
 use Rattle.instances.specs.Tables.{action_signature, entry_signature}
 use Rattle.instances.proofs.Grown.{put}
+use Rattle.instances.proofs.HiddenNames.{one_more_mark}
 use Rattle.instances.proofs.Rising.{rising_keys, texts_are}
 use Rattle.instances.proofs.actions.actions_of.Goals as goal
 
@@ -11,8 +12,11 @@ pub loop-text-preserved : goal.loop-text-preserved
 loop-text-preserved c =
     let l = c.loop-text in
     let steps : l.text-iterator ≡ (c.in-Some.text, c.in-Some.parameters) ∷ c.next.new.self = search rules in
-    let named : ActionName = record { text = c.in-Some.text; parameters = c.in-Some.parameters } in
-    put action_signature l.actions.items c.push.new.self.items named (action_signature named) (map entry_signature l.text-iterator) (map entry_signature c.next.new.self) _ (search rules) refl (ap (map entry_signature) steps) l.invariant
+    let named = c.action.result in
+    record {
+      taken = put action_signature l.actions.items c.push.new.self.items named (action_signature named) (map entry_signature l.text-iterator) (map entry_signature c.next.new.self) _ (search rules) refl (ap (map entry_signature) steps ∙ ap (λ e. e ∷ map entry_signature c.next.new.self) (sym c.action.ensures.signature)) l.invariant.taken;
+      marked = one_more_mark mark_of text_of (is_among (used_names c.args.hidden.now)) l.actions.items c.push.new.self.items named (search rules) c.action.ensures.mark l.invariant.marked;
+    }
 
 pub returns-clause-rising : goal.returns-clause-rising
 returns-clause-rising c =

@@ -30,5 +30,6 @@ returns c =
       names = are_names m (table t.names) t.used.items xs c.in_ok-table.ensures c.in_ok-actions.ensures.signatures c.in_ok-actions.ensures.rising;
       composition = composition_is (map text_of xs) m.automata m.components t.used.items c.in_ok-automata.automata.items c.in_ok-components.components.items (length m.automata) made c.in_ok-components.ensures refl c.in_ok-table.ensures.marked;
       types = first_types_are m (table t.names) t.used.items xs c.in_ok-table.ensures c.in_ok-actions.ensures.signatures c.in_ok-actions.ensures.rising;
+      marks = c.in_ok-actions.ensures.marks;
       members = refl;
     }
