@@ -32,11 +32,11 @@ impl Clocks {
 
     /// The turn of a key.
     #[inline]
-    pub(crate) fn turn<T: Turns>(&self, setup: &Setup<T>, key: Key, numbers: &[u64]) -> Option<Turn>
+    pub(crate) fn turn<T: Turns>(&self, setup: &Setup<T>, key: Key, numbers: &[u64]) -> Turn
         requires there { Some key ≡ key_of (system T.turn_of setup.now) key.component key.number }
         requires within { key.component < length (composition (plan_of setup.now)) }
         requires clocks { AreClocks T.turn_of setup.now numbers.now self.now.clocks.items }
-        ensures { result ≡ turn_in (system T.turn_of setup.now) key.component key.number }
+        ensures { Some result ≡ turn_in (system T.turn_of setup.now) key.component key.number }
     {
         self.clocks[usize::from(key.component)].turn(setup, key.number)
     }

@@ -171,11 +171,11 @@ pub(crate) fn take_turn<T: Turns>(
     alloc: Global,
     setup: &Setup<T>,
     key: Key,
-    turn: Option<Turn>,
+    turn: Turn,
     states: &mut [Store],
     found: &mut Option<Action>,
 ) -> Result<(), NoMemory>
-    requires turn { turn ≡ turn_in (system T.turn_of setup.now) key.component key.number }
+    requires turn { Some turn ≡ turn_in (system T.turn_of setup.now) key.component key.number }
     requires within { key.component < length (composition (plan_of setup.now)) }
     requires many { length states.old ≡ length (composition (plan_of setup.now)) }
     requires plain { (j : ℕ) (state : States) → slice_get states.old j ≡ Some state → state.below ≡ [] }
@@ -187,10 +187,6 @@ pub(crate) fn take_turn<T: Turns>(
     ensures err { OnErr result (states.new ≡ states.old) }
     ensures none { OnErr result (found.new ≡ None) }
 {
-    let Some(turn) = turn else {
-        put_none(found);
-        return Ok(());
-    };
     let i = key.component;
     let state = &states[usize::from(i)];
     setup

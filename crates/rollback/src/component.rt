@@ -13,11 +13,14 @@ ghost use Rattle.task_seed.specs.Setups.{plan_of};
 ghost use Rattle.task_seed.specs.Setups.{system};
 ghost use Rattle.task_seed.specs.Turning.{key_of};
 ghost use Rattle.task_seed.specs.Clocks.{HasReached, IsTurnKey};
+ghost use Rattle.task_seed.specs.Taken.{turned_of};
 ghost use Rattle.rollback.specs.ComponentView.{machine_of, processed, next_key, last_key, last_of, is_last_idle, is_receiving, is_turning, start_held};
 ghost use Rattle.rollback.specs.ComponentInvariant.{entry_of, turn_receivers};
 ghost use Rattle.rollback.specs.Stepped.{HasNextKey, IsNextSent, IsNextTurn, IsUnsent, machine_at, next_entry, stepped};
 
-use crate::growth::{outcome_at, post_all, receivers_of_turn, take_idle, take_input, take_turn};
+use crate::growth::{
+    did, outcome_into, post_all, receivers_of_turn, take_idle, take_input, take_turn,
+};
 use crate::keys::{fits, is_below, key_of};
 use crate::refused::ProcessRefused;
 use crate::spares::Spares;
@@ -31,7 +34,7 @@ use std::marker::Model;
 use std::mem::swap;
 use std::sync::Arc;
 use task_seed::{Clock, Setup, Turns};
-use terms::NoMemory;
+use terms::{Action, NoMemory};
 use undo_records::Store;
 
 /// A component of a setup, with its record: the bound and the state of its base, the done entries since then, the pending
@@ -255,10 +258,11 @@ impl<T: Turns> Component<T> {
         ensures kept { OnErr result (self.new ≡ self.old) }
         ensures out_kept { OnErr result (out.new ≡ out.old) }
     {
-        let turned = self.next_turned(alloc)?;
-        match &turned.outcome {
-            Outcome::Idle => self.do_idle(alloc, turned.key),
-            Outcome::Did(_) => self.do_sending(alloc, turned, out),
+        let mut found = None;
+        let key = self.next_into(alloc, &mut found)?;
+        match found {
+            None => self.do_idle(alloc, key),
+            Some(action) => self.do_sending(alloc, did(key, action), out),
         }
     }
 
@@ -298,24 +302,30 @@ impl<T: Turns> Component<T> {
         Ok(key)
     }
 
-    // The own turn that comes next, with what comes of it.
-    pub(crate) fn next_turned(&self, alloc: Global) -> Result<Turned, NoMemory>
+    // The key of the own turn that comes next, and what comes of it: its action, if it takes one, in place of what was in `found`.
+    #[inline(always)]
+    pub(crate) fn next_into(
+        &self,
+        alloc: Global,
+        found: &mut Option<Action>,
+    ) -> Result<Key, NoMemory>
         requires { IsTrue (is_turning (next_entry T.turn_of self.now)) }
-        ensures { IfOk result (IsNextTurn T.turn_of self.now) }
+        ensures { IfOk result (λ key. IsNextTurn T.turn_of self.now (turned_of found.new key)) }
     {
         let Some(key) = self.coming else {
             unreachable!();
         };
         let turn = self.clock.turn(&self.setup, key.number);
-        let outcome = outcome_at(
+        outcome_into(
             alloc,
             &self.setup,
             self.number,
             key.number,
             turn,
             &self.store,
+            found,
         )?;
-        Ok(Turned { key, outcome })
+        Ok(key)
     }
 
     // Does the own turn that comes next. What came of it goes to these components.

@@ -5,11 +5,11 @@ ghost use Rattle.rollback.specs.ComponentView.{is_turning};
 ghost use Rattle.rollback.specs.Stepped.{HasNextKey, IsNextSent, IsNextTurn, next_entry, stepped};
 
 use crate::component::Component;
-use crate::growth::{messages_to, post_all, receivers_of_turn};
+use crate::growth::{did, messages_to, post_all, receivers_of_turn};
 use crate::keys::fits;
 use crate::refused::ProcessRefused;
 use antimessage::Bag;
-use event_keys::{Key, Outcome, Sign, Turned};
+use event_keys::{Key, Sign, Turned};
 use plans::laws::receivers_law;
 use std::alloc::Global;
 use task_seed::Turns;
@@ -82,10 +82,11 @@ impl<T: Turns> Component<T> {
         ensures out_kept { OnErr result (out.new ≡ out.old) }
         ensures copies_kept { OnErr result (copies.new ≡ copies.old) }
     {
-        let turned = self.next_turned(alloc)?;
-        match &turned.outcome {
-            Outcome::Idle => self.do_idle(alloc, turned.key),
-            Outcome::Did(_) => self.do_copied(alloc, turned, out, copies),
+        let mut found = None;
+        let key = self.next_into(alloc, &mut found)?;
+        match found {
+            None => self.do_idle(alloc, key),
+            Some(action) => self.do_copied(alloc, did(key, action), out, copies),
         }
     }
 

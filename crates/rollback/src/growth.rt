@@ -1,5 +1,5 @@
 //! The growths of a step, over the parts of a component.
-ghost use Rattle.std.specs.Prelude.{◌≡◌, ◌∷◌, ◌<◌, [], map, length, OnOk, OnErr, IfOk, IfSome, IsTrue};
+ghost use Rattle.std.specs.Prelude.{◌≡◌, ◌∷◌, ◌<◌, [], Some, map, length, OnOk, OnErr, IfOk, IfSome, IsTrue};
 ghost use Rattle.raw_events.specs.Around.{head, tail, is_nonempty};
 ghost use Rattle.event_keys.specs.declared.message.Sign.TheVariants.{Plus, Minus};
 ghost use Rattle.event_keys.specs.declared.outcome.Outcome.TheVariants.{Idle};
@@ -11,6 +11,7 @@ ghost use Rattle.virtual_time.specs.Records.{sent};
 ghost use Rattle.plans.specs.Plans.{composition};
 ghost use Rattle.plans.specs.Steps.{applied};
 ghost use Rattle.task_seed.specs.Setups.{system, plan_of};
+ghost use Rattle.task_seed.specs.Taken.{turned_of};
 ghost use Rattle.task_seed.specs.Turning.{turn_in};
 ghost use Rattle.task_seed.specs.Machines.{turn_outcome};
 ghost use Rattle.rollback.specs.Grown.{IsTurnSent, after_action, after_input, after_turn, done_turn, marked_as, with_done};
@@ -69,28 +70,34 @@ pub(crate) fn advance_turn<T: Turns>(
     }
 }
 
-/// What comes of turn `n`, which is this one if it exists, in the current state.
-pub(crate) fn outcome_at<T: Turns>(
+/// What comes of turn `n`, which is this one, in the current state: its action, if it takes one, in place of what was in `found`.
+#[inline(always)]
+pub(crate) fn outcome_into<T: Turns>(
     alloc: Global,
     setup: &Setup<T>,
     i: u16,
     n: u64,
-    turn: Option<Turn>,
+    turn: Turn,
     store: &Store,
-) -> Result<Outcome, NoMemory>
-    requires { turn ≡ turn_in (system T.turn_of setup.now) i n }
-    ensures { IfOk result (λ outcome. action_of outcome ≡ turn_outcome (system T.turn_of setup.now) i n store.now.current) }
+    found: &mut Option<Action>,
+) -> Result<(), NoMemory>
+    requires { Some turn ≡ turn_in (system T.turn_of setup.now) i n }
+    ensures { OnOk result (found.new ≡ turn_outcome (system T.turn_of setup.now) i n store.now.current) }
 {
     let _ = n;
-    let Some(turn) = turn else {
-        return Ok(Outcome::Idle);
-    };
-    match setup
+    setup
         .plan()
-        .outcome(alloc, i, turn.task, turn.choice, store)?
-    {
-        None => Ok(Outcome::Idle),
-        Some(action) => Ok(Outcome::Did(action)),
+        .outcome_into(alloc, i, turn.task, turn.choice, store, found)
+}
+
+// A turn that took an action.
+#[inline(always)]
+pub(crate) fn did(key: Key, action: Action) -> Turned
+    ensures { result ≡ turned_of (Some action) key }
+{
+    Turned {
+        key,
+        outcome: Outcome::Did(action),
     }
 }
 

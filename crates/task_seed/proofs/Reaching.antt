@@ -1,9 +1,9 @@
 -- What a clock has reached, where one turn more is reached.
-use Rattle.std.proofs.Common.{◌≡◌, ℕ, ◌+◌, ◌/◌, ◌%◌, ◌<◌, ◌≤◌, ◌⊎◌, inl, inr, Bool, true, false, List, [], ◌∷◌, ◌++◌, length, Option, None, Some, refl, sym, ◌∙◌, subst, arith}
+use Rattle.std.proofs.Common.{◌≡◌, ℕ, ◌+◌, ◌/◌, ◌%◌, ◌<◌, ◌≤◌, ◌⊎◌, inl, inr, Bool, true, false, List, [], ◌∷◌, ◌++◌, length, Option, None, Some, refl, ap, sym, ◌∙◌, subst, arith}
 use Rattle.std.specs.Prelude.{max, nat_le, IfSome, IfNone, ◌&&◌, ◌==◌}
 use Rattle.std.proofs.lemmas.Bool.Decides.{nat_tests}
 use Rattle.event_keys.specs.declared.key.Key.{Key}
-use Rattle.task_seed.specs.Clocks.{AreKept, IsClock, Reached, Reaching, is_due}
+use Rattle.task_seed.specs.Clocks.{AreKept, IsClock, IsOwnTurn, Reached, Reaching, is_due}
 use Rattle.task_seed.specs.declared.clock.Clock.{Clock}
 use Rattle.task_seed.specs.declared.setup.Setup.{Setup}
 use Rattle.task_seed.specs.declared.turns.Turn.{Turn}
@@ -56,7 +56,7 @@ module _ {T : Type 0} (turn_of : T → ℕ → ℕ → Option Turn) (setup : Set
       (λ last one kept multiple. absurd (let due = due_by old.ticks.items n multiple (not_due (system turn_of setup) i last n old.ticks.items kept one multiple) in let both : ◌≡◌ {A = Bool} true false = sym due ∙ idle in cc))
 
   -- where it is to be kept
-  reaches_kept : (old new : Clock) (n : ℕ) (key : Key) → (n ≡ 0 → ⊥) → (IsClock turn_of setup i old → IsClock turn_of setup i new) → Some key ≡ key_of (system turn_of setup) i n
+  pub reaches_kept : (old new : Clock) (n : ℕ) (key : Key) → (n ≡ 0 → ⊥) → (IsClock turn_of setup i old → IsClock turn_of setup i new) → Some key ≡ key_of (system turn_of setup) i n
       → is_due old.ticks.items n ≡ true → new.ticks.items ≡ old.ticks.items ++ key.tick ∷ [] → Reaching turn_of setup i old n new
   reaches_kept old new n key some own is due kept = record { first = λ zero _. absurd (some zero); further = further } where
     parts : (n % 256 ≡ 0) × (length old.ticks.items ≤ n / 256)
@@ -75,11 +75,18 @@ module _ {T : Type 0} (turn_of : T → ℕ → ℕ → Option Turn) (setup : Set
             kept = subst (AreKept (system turn_of setup) i n) (sym kept) (kept_pushed (system turn_of setup) i last n old.ticks.items key reached.kept one parts.0 parts.1 is);
           })
 
-  -- where it is to be kept, if that turn exists
-  pub reaches_due : (old new : Clock) (n : ℕ) (next : Option Key) → (n ≡ 0 → ⊥) → (IsClock turn_of setup i old → IsClock turn_of setup i new) → next ≡ key_of (system turn_of setup) i n
-      → is_due old.ticks.items n ≡ true → IfSome next (λ key. new.ticks.items ≡ old.ticks.items ++ key.tick ∷ []) → IfNone next (new.ticks.items ≡ old.ticks.items) → Reaching turn_of setup i old n new
-  reaches_due old new n None some own is due kept same = reaches_alike old new n some own same (λ last one kept multiple. is)
-  reaches_due old new n (Some key) some own is due kept same = reaches_kept old new n key some own is due kept
+  -- a clock that only has more room reaches what the one before did
+  pub reaches_from : (old mid new : Clock) (n : ℕ) → mid ≡ record old { ticks = mid.ticks } → mid.ticks.items ≡ old.ticks.items → Reaching turn_of setup i mid n new → Reaching turn_of setup i old n new
+  reaches_from old mid new n same items reaching = record {
+    first = λ zero none. reaching.first zero (record { own = own none.own; none = items ∙ none.none });
+    further = λ last next reached.
+        reaching.further last next (record { own = own reached.own; kept = subst (AreKept (system turn_of setup) i last) (sym items) reached.kept });
+  } where
+    own : IsClock turn_of setup i old → IsClock turn_of setup i mid
+    own before = record {
+      component = ap (λ (c : Clock). c.component) same ∙ before.component;
+      read = subst (IsOwnTurn turn_of setup i) (sym (ap (λ (c : Clock). c.read) same)) before.read;
+    }
 
   -- the first turn
   pub reaches_first : (old new : Clock) (first : Option Key) → first ≡ key_of (system turn_of setup) i 0 → (IsClock turn_of setup i old → IsClock turn_of setup i new) → old.ticks.items ≡ []

@@ -1,10 +1,12 @@
 -- A turn that exists.
-use Rattle.std.proofs.Common.{◌≡◌, ℕ, ◌+◌, ◌∙◌, Bool, true, false, Option, None, Some, ap, refl}
-use Rattle.std.specs.Prelude.{option_map, if◌then◌else◌}
+use Rattle.std.proofs.Common.{◌≡◌, ℕ, ◌+◌, ◌∙◌, Bool, true, false, Option, None, Some, IsSome, is_some, ap, refl, sym}
+use Rattle.std.specs.List.{list_all}
+use Rattle.std.specs.Prelude.{◌&&◌, option_map, if◌then◌else◌}
 use Rattle.plans.specs.Outcomes.{task_count}
 use Rattle.event_keys.specs.declared.key.Key.{Key}
 use Rattle.task_seed.specs.declared.turns.Turn.{Turn}
-use Rattle.task_seed.specs.Turning.{System, has_turns, key_at, key_of, ticks, turn_in, with_task_below}
+use Rattle.task_seed.specs.Ticks.{exist-more, has_parts}
+use Rattle.task_seed.specs.Turning.{System, first_turns, has_turns, key_at, key_of, ticks, turn_in, with_task_below}
 
 -- where there is something, the first of two was taken
 taken : {A : Type 0} {B : Type 0} (b : Bool) (x : A) (y : A) (z : Option B) → Some x ≡ (if b then Some y else None) → (if b then z else None) ≡ z
@@ -15,3 +17,17 @@ pub turn_there : (s : System) (i n : ℕ) (key : Key) (turn : Turn) → Some key
 turn_there s i n key turn there found =
     let below = with_task_below (task_count s.composition i) in
     taken (has_turns s i (n + 1)) key (key_at i n (ticks s i (n + 1))) (option_map below (s.turn i n)) there ∙ ap (option_map below) found
+
+gone : (before : Bool) (o : Option Turn) (below : Turn → Turn) → None ≡ option_map below o → (before && is_some o) ≡ true → ⊥
+gone true None below e h = cc
+gone false None below e h = cc
+gone before (Some turn) below e h = cc
+
+-- a turn whose key exists is there
+pub turn_exists : (s : System) (i n : ℕ) → IsSome (key_of s i n) → None ≡ turn_in s i n → ⊥
+turn_exists s i n some none = go (has_turns s i (n + 1)) refl some none where
+  go : (there : Bool) → has_turns s i (n + 1) ≡ there → IsSome (if there then Some (key_at i n (ticks s i (n + 1))) else None)
+      → None ≡ (if there then option_map (with_task_below (task_count s.composition i)) (s.turn i n) else None) → ⊥
+  go true h some none =
+      gone (list_all is_some (first_turns s i n)) (s.turn i n) (with_task_below (task_count s.composition i)) none (sym (exist-more s i n) ∙ (has_parts s i (n + 1) h).exist)
+  go false h some none = cc

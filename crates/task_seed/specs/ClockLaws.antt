@@ -1,12 +1,20 @@
 -- What a clock has reached, where it reaches on or stays.
-use Rattle.std.specs.Prelude.{◌≡◌, ℕ, ◌+◌, ◌≤◌, max, Option, None, IfSome, []}
+use Rattle.std.specs.Prelude.{◌≡◌, ℕ, ◌+◌, ◌≤◌, max, Bool, true, false, if◌then◌else◌, Option, None, Some, IsSome, []}
 use Rattle.std.proofs.Common.{arith, ap, refl, sym, subst, ◌∙◌}
 use Rattle.task_seed.specs.declared.clock.Clock.{Clock}
 use Rattle.task_seed.specs.declared.setup.Setup.{Setup}
-use Rattle.task_seed.specs.declared.turns.KeyedTurn.{KeyedTurn}
 use Rattle.task_seed.specs.declared.turns.Turn.{Turn}
 use Rattle.task_seed.specs.Clocks.{AreKept, HasReached, IsOwnTurn, ReachedNone, Reaching}
 use Rattle.task_seed.specs.Setups.{system}
+use Rattle.task_seed.specs.Ticks.{has_parts}
+use Rattle.task_seed.specs.Turning.{System, has_turns, key_at, key_of, ticks}
+
+-- no turn has so great a number
+beyond : (s : System) (i n : ℕ) → 4294967296 ≤ n → IsSome (key_of s i n) → ⊥
+beyond s i n late some = go (has_turns s i (n + 1)) refl some where
+  go : (there : Bool) → has_turns s i (n + 1) ≡ there → IsSome (if there then Some (key_at i n (ticks s i (n + 1))) else None) → ⊥
+  go true h some = let few = (has_parts s i (n + 1) h).few in omega (arith, few, late)
+  go false h some = cc
 
 module _ {T : Type 0} (turn_of : T → ℕ → ℕ → Option Turn) (setup : Setup T) (i : ℕ) where
   -- it has reached the turns before one that it has reached
@@ -38,20 +46,20 @@ module _ {T : Type 0} (turn_of : T → ℕ → ℕ → Option Turn) (setup : Set
         reached = record {
           own = record {
             component = component ∙ h.reached.own.component;
-            read = subst (λ (r : Option KeyedTurn). IfSome r (IsOwnTurn turn_of setup i)) (sym read) h.reached.own.read;
+            read = subst (IsOwnTurn turn_of setup i) (sym read) h.reached.own.read;
           };
           kept = subst (AreKept (system turn_of setup) i h.last) (sym ticks) h.reached.kept;
         };
       }
 
   -- a new clock has reached nothing
-  none_reached : (clock : Clock) → clock.component ≡ i → clock.ticks.items ≡ [] → clock.read ≡ None → ReachedNone turn_of setup i clock
+  none_reached : (clock : Clock) → clock.component ≡ i → clock.ticks.items ≡ [] → clock.read.number ≡ 18446744073709551615 → ReachedNone turn_of setup i clock
   none_reached clock component ticks read = record {
-    own = record { component = component; read = subst (λ (o : Option KeyedTurn). IfSome o (IsOwnTurn turn_of setup i)) (sym read) tt };
+    own = record { component = component; read = λ some. absurd (beyond (system turn_of setup) i clock.read.number (omega (arith, read)) some) };
     none = ticks;
   }
 
   -- the first turn was reached
-  pub first_reached : (old new : Clock) → old.component ≡ i → old.ticks.items ≡ [] → old.read ≡ None → Reaching turn_of setup old.component old 0 new → HasReached turn_of setup i new 0
+  pub first_reached : (old new : Clock) → old.component ≡ i → old.ticks.items ≡ [] → old.read.number ≡ 18446744073709551615 → Reaching turn_of setup old.component old 0 new → HasReached turn_of setup i new 0
   first_reached old new component ticks read reaching =
       reached_first old new (none_reached old component ticks read) (subst (λ j. Reaching turn_of setup j old 0 new) component reaching)

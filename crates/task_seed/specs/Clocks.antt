@@ -1,10 +1,10 @@
 -- Clocks: which ticks of a component's turns are kept, and which turn was read last.
-use Rattle.std.specs.Prelude.{◌≡◌, ℕ, ◌+◌, ◌*◌, ◌/◌, ◌%◌, ◌<◌, ◌≤◌, ◌==◌, ◌&&◌, ◌⊎◌, max, nat_le, Bool, if◌then◌else◌, Option, None, Some, IfSome, option_map, List, [], length, slice_get}
+use Rattle.std.specs.Prelude.{◌≡◌, ℕ, ◌+◌, ◌*◌, ◌/◌, ◌%◌, ◌<◌, ◌≤◌, ◌==◌, ◌&&◌, ◌⊎◌, max, nat_le, Bool, true, if◌then◌else◌, Option, None, Some, IsSome, option_map, List, [], length, slice_get, vec_capacity, vec_len}
 use Rattle.event_keys.specs.declared.key.Key.{Key}
 use Rattle.event_keys.specs.Ranks.{rank}
 use Rattle.task_seed.specs.declared.clock.Clock.{Clock}
+use Rattle.task_seed.specs.declared.clock.NumberedTurn.{NumberedTurn}
 use Rattle.task_seed.specs.declared.setup.Setup.{Setup}
-use Rattle.task_seed.specs.declared.turns.KeyedTurn.{KeyedTurn}
 use Rattle.task_seed.specs.declared.turns.Turn.{Turn}
 use Rattle.task_seed.specs.Machines.{end_rank}
 use Rattle.task_seed.specs.Setups.{system}
@@ -26,17 +26,21 @@ AreKept s i n ticks = (k : ℕ) → slice_get ticks k ≡ (if nat_le (256 * k) n
 abbrev pub is_due : List ℕ → ℕ → Bool
 is_due ticks n = (n % 256 == 0) && nat_le (length ticks) (n / 256)
 
+-- there is room for the tick of turn n, if it is to be kept
+abbrev pub HasRoom : Clock → ℕ → Type 0
+HasRoom clock n = is_due clock.ticks.items n ≡ true → vec_len clock.ticks < vec_capacity clock.ticks
+
 -- of component i of a setup whose turns are read by turn_of
 module _ {T : Type 0} (turn_of : T → ℕ → ℕ → Option Turn) (setup : Setup T) (i : ℕ) where
-  -- this is a turn of the component, with its key
-  abbrev pub IsOwnTurn : KeyedTurn → Type 0
-  IsOwnTurn own = (Some own.key ≡ key_of (system turn_of setup) i own.key.number)
-      × (turn_in (system turn_of setup) i own.key.number ≡ Some own.turn)
+  -- where the component has a turn of this number, it is this one
+  abbrev pub IsOwnTurn : NumberedTurn → Type 0
+  IsOwnTurn read = IsSome (key_of (system turn_of setup) i read.number)
+      → Some read.turn ≡ turn_in (system turn_of setup) i read.number
 
   -- the clock is the component's, and what it read is a turn of it
   pub record IsClock (clock : Clock) : Type 0 where
     pub component : clock.component ≡ i
-    pub read : IfSome clock.read IsOwnTurn
+    pub read : IsOwnTurn clock.read
 
   -- it reached no turn
   pub record ReachedNone (clock : Clock) : Type 0 where

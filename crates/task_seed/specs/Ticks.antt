@@ -26,7 +26,7 @@ one None = refl
 one (Some turn) = refl
 
 -- whether one turn more exists
-exist-more : (s : System) (i n : ℕ) → list_all is_some (first_turns s i (n + 1)) ≡ (list_all is_some (first_turns s i n) && is_some (s.turn i n))
+pub exist-more : (s : System) (i n : ℕ) → list_all is_some (first_turns s i (n + 1)) ≡ (list_all is_some (first_turns s i n) && is_some (s.turn i n))
 exist-more s i n =
     ap (list_all is_some) (map-range_with_len_more (s.turn i) 0 n n (omega arith))
     ∙ list_all-append is_some (first_turns s i n) (s.turn i n ∷ [])

@@ -1,13 +1,13 @@
 //! The clock of a component: the keys of its turns, on demand.
-ghost use Rattle.std.specs.Prelude.{◌≡◌, ◌<◌, ◌≤◌, ◌+◌, [], None, Some, ◌∷◌, ◌++◌, IfSome, IfNone, IfOk, OnOk, OnErr, IsSome, vec_len, vec_capacity};
+ghost use Rattle.std.specs.Prelude.{◌≡◌, ◌<◌, ◌≤◌, ◌+◌, [], Some, IfSome, IfOk, OnOk, OnErr, IsSome};
 ghost use Rattle.event_keys.specs.Ranks.{rank};
-ghost use Rattle.task_seed.specs.Clocks.{CanReach, HasReached, IsClock, IsTurnKey, Reaching, is_due};
+ghost use Rattle.task_seed.specs.Clocks.{CanReach, HasReached, HasRoom, IsClock, IsTurnKey, Reaching, is_due};
 ghost use Rattle.task_seed.specs.Machines.{end_rank};
 ghost use Rattle.task_seed.specs.Setups.{system};
 ghost use Rattle.task_seed.specs.Turning.{key_of, turn_in};
 
 use crate::setup::Setup;
-use crate::turns::{KeyedTurn, Turn, Turns};
+use crate::turns::{Turn, Turns};
 use crate::walk::Walk;
 use event_keys::Key;
 use event_keys::laws::rank_law;
@@ -17,6 +17,16 @@ use terms::NoMemory;
 // A clock keeps the tick of one turn in so many.
 const TURNS_A_TICK: u64 = 256;
 
+// No turn has this number.
+const NO_TURN: u64 = u64::MAX;
+
+// A turn and its number.
+#[derive(Clone, Copy)]
+pub(crate) struct NumberedTurn {
+    pub(crate) number: u64,
+    pub(crate) turn: Turn,
+}
+
 /// The clock of a component: it gives the key of any turn that it has reached, by at most 256 questions to the turns and without memory.
 /// For it keeps the tick of each turn that it reached whose number is a multiple of 256. Turns that are taken one after another are read one
 /// after another; where turns were taken back, the next one is looked up.
@@ -24,8 +34,8 @@ const TURNS_A_TICK: u64 = 256;
 pub struct Clock {
     pub(crate) component: u16,
     pub(crate) ticks: Vec<u64>,
-    // The turn that was read last, mostly the next one.
-    pub(crate) read: Option<KeyedTurn>,
+    // The turn that was read last, mostly the next one; where none was read, a number that no turn has.
+    pub(crate) read: NumberedTurn,
     pub(crate) walk: Walk,
 }
 
@@ -34,12 +44,19 @@ impl Clock {
     pub fn new(alloc: Global, component: u16) -> Clock
         ensures component { result.component ≡ component }
         ensures ticks { result.ticks.items ≡ [] }
-        ensures read { result.read ≡ None }
+        ensures read { result.read.number ≡ 18446744073709551615 }
     {
         Clock {
             component,
             ticks: Vec::new(alloc),
-            read: None,
+            read: NumberedTurn {
+                number: NO_TURN,
+                turn: Turn {
+                    gap: 0,
+                    task: 0,
+                    choice: 0,
+                },
+            },
             walk: Walk::new(),
         }
     }
@@ -114,27 +131,38 @@ impl Clock {
         ensures err { OnErr result (self.new ≡ record self.old { ticks = self.new.ticks }) }
         ensures err_ticks { OnErr result (self.new.ticks.items ≡ self.old.ticks.items) }
     {
-        if self.is_due(key.number + 1) {
-            self.ticks.reserve(1)?;
-            return Ok(self.read_and_keep(setup, key));
-        }
-        Ok(self.read_on(setup, key))
+        self.make_room(key.number + 1)?;
+        Ok(self.move_on(setup, key))
     }
 
-    // The same, where the tick of that turn is to be kept, and there is room for it. It stays a call, so that most turns don't pay for it.
-    #[inline(never)]
-    fn read_and_keep<T: Turns>(&mut self, setup: &Setup<T>, key: Key) -> Option<Key>
+    // Has room for the tick of turn `n`, if it is to be kept.
+    #[inline(always)]
+    fn make_room(&mut self, n: u64) -> Result<(), NoMemory>
+        ensures room { OnOk result (HasRoom self.new n) }
+        ensures kept { self.new ≡ record self.old { ticks = self.new.ticks } }
+        ensures ticks { self.new.ticks.items ≡ self.old.ticks.items }
+    {
+        if self.is_due(n) {
+            self.ticks.reserve(1)?;
+        }
+        Ok(())
+    }
+
+    // Reaches the turn after the one of this key, and gives its key, if there is one. There is room for its tick. The room is looked after first and
+    // the turn is read in one place, so that the turns whose ticks aren't kept, which are most, don't pay for the others.
+    #[inline(always)]
+    fn move_on<T: Turns>(&mut self, setup: &Setup<T>, key: Key) -> Option<Key>
         requires there { Some key ≡ key_of (system T.turn_of setup.now) self.old.component key.number }
         requires small { key.number < 4294967296 }
-        requires room { vec_len self.old.ticks < vec_capacity self.old.ticks }
+        requires room { HasRoom self.old (key.number + 1) }
         ensures key { result ≡ key_of (system T.turn_of setup.now) self.old.component (key.number + 1) }
         ensures small { IfSome result IsTurnKey }
-        ensures own { IsClock T.turn_of setup.now self.old.component self.old → IsClock T.turn_of setup.now self.old.component self.new }
-        ensures some { IfSome result (λ next. self.new.ticks.items ≡ self.old.ticks.items ++ next.tick ∷ []) }
-        ensures none { IfNone result (self.new.ticks.items ≡ self.old.ticks.items) }
+        ensures reaching { Reaching T.turn_of setup.now self.old.component self.old (key.number + 1) self.new }
     {
         let next = self.read_on(setup, key)?;
-        self.ticks.push_reserved(next.tick);
+        if self.is_due(next.number) {
+            self.ticks.push_reserved(next.tick);
+        }
         Some(next)
     }
 
@@ -150,7 +178,10 @@ impl Clock {
     {
         let next = setup.turn_after(self.component, key, &mut self.walk)?;
         is_timed(next.key);
-        self.read = Some(next);
+        self.read = NumberedTurn {
+            number: next.key.number,
+            turn: next.turn,
+        };
         Some(next.key)
     }
 
@@ -160,11 +191,6 @@ impl Clock {
         ensures value { result ≡ key_of (system T.turn_of setup.now) self.now.component n }
         ensures bounded { IfSome result (λ key. key.number < 4294967296) }
     {
-        if let Some(read) = self.read {
-            if read.key.number == n {
-                return Some(read.key);
-            }
-        }
         let tick = *self.ticks.get((n / TURNS_A_TICK) as usize)?;
         let kept = Key {
             tick,
@@ -177,14 +203,17 @@ impl Clock {
     /// Turn `n`, which exists, its task below the number of the component's tasks (0 where it has none). One question to the turns, and none
     /// where this turn was read last.
     #[inline]
-    pub fn turn<T: Turns>(&self, setup: &Setup<T>, n: u64) -> Option<Turn>
+    pub fn turn<T: Turns>(&self, setup: &Setup<T>, n: u64) -> Turn
         requires there { IsSome (key_of (system T.turn_of setup.now) self.now.component n) }
         requires own { IsClock T.turn_of setup.now self.now.component self.now }
-        ensures { result ≡ turn_in (system T.turn_of setup.now) self.now.component n }
+        ensures { Some result ≡ turn_in (system T.turn_of setup.now) self.now.component n }
     {
-        match self.read {
-            Some(read) if read.key.number == n => Some(read.turn),
-            _ => setup.turn_at(self.component, n),
+        if self.read.number == n {
+            return self.read.turn;
+        }
+        match setup.turn_at(self.component, n) {
+            Some(turn) => turn,
+            None => unreachable!(),
         }
     }
 }

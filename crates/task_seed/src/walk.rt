@@ -43,8 +43,17 @@ impl Walk {
         ensures { self.new ≡ record { seed = seed; stream = stream; number = n } }
     {
         if self.number != n || self.seed != seed || self.stream != stream {
-            *self = jumped(seed, stream, n);
+            self.jump(seed, stream, n);
         }
+    }
+
+    // A generator jumps to turn `n` of a stream. It stays a call, so that turns that are read one after another don't pay for it.
+    #[inline(never)]
+    fn jump(&mut self, seed: u64, stream: u64, n: u64)
+        requires { n < 4294967296 }
+        ensures { self.new ≡ record { seed = seed; stream = stream; number = n } }
+    {
+        *self = jumped(seed, stream, n);
     }
 
     // A turn of these gaps is read: its three words.
@@ -65,7 +74,6 @@ impl Walk {
 }
 
 // A walk before turn `n` of a stream, to which a generator jumps.
-#[inline(never)]
 fn jumped(seed: u64, stream: u64, number: u64) -> Walk
     requires { number < 4294967296 }
     ensures { result ≡ record { seed = seed; stream = stream; number = number } }

@@ -29,4 +29,4 @@ returns g c =
     let clock = c.index.result.now in
     let here = subst (λ x. HasReached t setup key.component x (slice_index_or c.args.numbers.now key.component 0)) (sym c.index.ensures)
     (clock_here t setup c.args.numbers.now c.args.self.now.clocks.items key.component c.from.result clock c.requires.clocks c.from.ensures c.requires.within) in
-    subst (λ i. c.turn.result ≡ turn_in (system t setup) i key.number) here.reached.own.component c.turn.ensures
+    subst (λ i. Some c.turn.result ≡ turn_in (system t setup) i key.number) here.reached.own.component c.turn.ensures

@@ -1,11 +1,15 @@
-use Rattle.std.proofs.Common.{rules, ◌≡◌, ◌+◌, ◌-◌, None, Some, refl, sym, subst, arith}
+use Rattle.std.proofs.Common.{rules, ◌≡◌, ◌+◌, ◌-◌, None, Some, refl, sym, ◌∙◌, subst, arith}
 use Rattle.task_seed.specs.Clocks.{Reaching}
 use Rattle.task_seed.specs.Setups.{system}
 use Rattle.task_seed.specs.Ticks.{no_later_key}
 use Rattle.task_seed.specs.Turning.{key_of}
 use Rattle.task_seed.proofs.Looking.{number_is}
-use Rattle.task_seed.proofs.Reaching.{reaches_alike}
+use Rattle.task_seed.proofs.Reaching.{reaches_alike, reaches_idle}
 use Rattle.task_seed.proofs.clock.Clock.reach.Goals as goal
+
+pub returns-then-not-is_due-clause-ok : goal.returns-then-not-is_due-clause-ok
+returns-then-not-is_due-clause-ok g c =
+    reaches_idle g.T.Turns.turn_of c.args.setup.now c.args.self.now.component c.args.self.now c.args.self.now c.args.n c.if-n-eq0.false (λ own. own) refl (sym c.is_due.ensures ∙ c.if-not-is_due.true)
 
 pub returns-in-None-clause-ok : goal.returns-in-None-clause-ok
 returns-in-None-clause-ok g c =
