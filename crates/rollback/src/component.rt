@@ -305,17 +305,18 @@ impl<T: Turns> Component<T> {
     // The key of the own turn that comes next, and what comes of it: its action, if it takes one, in place of what was in `found`.
     #[inline(always)]
     pub(crate) fn next_into(
-        &self,
+        &mut self,
         alloc: Global,
         found: &mut Option<Action>,
     ) -> Result<Key, NoMemory>
-        requires { IsTrue (is_turning (next_entry T.turn_of self.now)) }
-        ensures { IfOk result (λ key. IsNextTurn T.turn_of self.now (turned_of found.new key)) }
+        requires { IsTrue (is_turning (next_entry T.turn_of self.old)) }
+        ensures next { IfOk result (λ key. IsNextTurn T.turn_of self.old (turned_of found.new key)) }
+        ensures kept { self.new ≡ self.old }
     {
         let Some(key) = self.coming else {
             unreachable!();
         };
-        let turn = self.clock.turn(&self.setup, key.number);
+        let turn = self.clock.turn_again(&self.setup, key.number);
         outcome_into(
             alloc,
             &self.setup,
@@ -328,7 +329,8 @@ impl<T: Turns> Component<T> {
         Ok(key)
     }
 
-    // Does the own turn that comes next. What came of it goes to these components.
+    // Does the own turn that comes next. What came of it goes to these components. It stays a call, so that the turn isn't moved about.
+    #[inline(never)]
     pub(crate) fn do_turned(
         &mut self,
         alloc: Global,

@@ -1,5 +1,5 @@
 -- A turn that exists.
-use Rattle.std.proofs.Common.{◌≡◌, ℕ, ◌+◌, ◌∙◌, Bool, true, false, Option, None, Some, IsSome, is_some, ap, refl, sym}
+use Rattle.std.proofs.Common.{◌≡◌, ℕ, ◌+◌, ◌∙◌, Bool, true, false, Option, None, Some, IfSome, IsSome, is_some, ap, refl, sym}
 use Rattle.std.specs.List.{list_all}
 use Rattle.std.specs.Prelude.{◌&&◌, option_map, if◌then◌else◌}
 use Rattle.plans.specs.Outcomes.{task_count}
@@ -31,3 +31,20 @@ turn_exists s i n some none = go (has_turns s i (n + 1)) refl some none where
   go true h some none =
       gone (list_all is_some (first_turns s i n)) (s.turn i n) (with_task_below (task_count s.composition i)) none (sym (exist-more s i n) ∙ (has_parts s i (n + 1) h).exist)
   go false h some none = cc
+
+some_key : (o : Option Key) → IsSome o → (key : Key) × (Some key ≡ o)
+some_key None h = cc
+some_key (Some key) h = (key, refl)
+
+-- the turn of a number that has one
+pub own_turn : (s : System) (i n : ℕ) (turn : Turn) → IsSome (key_of s i n) → s.turn i n ≡ Some turn → Some (with_task_below (task_count s.composition i) turn) ≡ turn_in s i n
+own_turn s i n turn there found = let key = some_key (key_of s i n) there in sym (turn_there s i n key.0 turn key.1 found)
+
+-- what a part of what is there says
+pub mapped : {A : Type 0} {B : Type 0} {C : Type 0} (f : B → C) (part : A → B) (o : Option A) → option_map f (option_map part o) ≡ option_map (λ x. f (part x)) o
+mapped f part None = refl
+mapped f part (Some x) = refl
+
+pub some_mapped : {A : Type 0} {B : Type 0} (P : Type 0) (part : A → B) (o : Option A) → IfSome (option_map part o) (λ _. P) → IfSome o (λ _. P)
+some_mapped P part None h = tt
+some_mapped P part (Some x) h = h

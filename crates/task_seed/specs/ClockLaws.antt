@@ -48,9 +48,24 @@ module _ {T : Type 0} (turn_of : T → ℕ → ℕ → Option Turn) (setup : Set
             component = component ∙ h.reached.own.component;
             read = subst (IsOwnTurn turn_of setup i) (sym read) h.reached.own.read;
           };
+          tasks = ap (λ (c : Clock). c.tasks) same ∙ h.reached.tasks;
           kept = subst (AreKept (system turn_of setup) i h.last) (sym ticks) h.reached.kept;
         };
       }
+
+  -- and so has one whose walk alone is another
+  pub reached_walked : (old new : Clock) (n : ℕ) → new ≡ record old { walk = new.walk } → HasReached turn_of setup i old n → HasReached turn_of setup i new n
+  reached_walked old new n same h =
+      subst (λ clock. HasReached turn_of setup i clock n) (sym same)
+      (record {
+        last = h.last;
+        within = h.within;
+        reached = record {
+          own = record { component = h.reached.own.component; read = h.reached.own.read };
+          tasks = h.reached.tasks;
+          kept = h.reached.kept;
+        };
+      })
 
   -- a new clock has reached nothing
   none_reached : (clock : Clock) → clock.component ≡ i → clock.ticks.items ≡ [] → clock.read.number ≡ 18446744073709551615 → ReachedNone turn_of setup i clock

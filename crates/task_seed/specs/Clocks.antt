@@ -2,12 +2,14 @@
 use Rattle.std.specs.Prelude.{◌≡◌, ℕ, ◌+◌, ◌*◌, ◌/◌, ◌%◌, ◌<◌, ◌≤◌, ◌==◌, ◌&&◌, ◌⊎◌, max, nat_le, Bool, true, if◌then◌else◌, Option, None, Some, IsSome, option_map, List, [], length, slice_get, vec_capacity, vec_len}
 use Rattle.event_keys.specs.declared.key.Key.{Key}
 use Rattle.event_keys.specs.Ranks.{rank}
+use Rattle.plans.specs.Outcomes.{task_count}
+use Rattle.plans.specs.Plans.{composition}
 use Rattle.task_seed.specs.declared.clock.Clock.{Clock}
 use Rattle.task_seed.specs.declared.clock.NumberedTurn.{NumberedTurn}
 use Rattle.task_seed.specs.declared.setup.Setup.{Setup}
 use Rattle.task_seed.specs.declared.turns.Turn.{Turn}
 use Rattle.task_seed.specs.Machines.{end_rank}
-use Rattle.task_seed.specs.Setups.{system}
+use Rattle.task_seed.specs.Setups.{plan_of, system}
 use Rattle.task_seed.specs.Turning.{System, key_of, turn_in}
 
 -- a key that may be that of a turn
@@ -30,6 +32,10 @@ is_due ticks n = (n % 256 == 0) && nat_le (length ticks) (n / 256)
 abbrev pub HasRoom : Clock → ℕ → Type 0
 HasRoom clock n = is_due clock.ticks.items n ≡ true → vec_len clock.ticks < vec_capacity clock.ticks
 
+-- the clock knows how many tasks component i has
+abbrev pub KnowsTasks : {T : Type 0} → Setup T → ℕ → Clock → Type 0
+KnowsTasks setup i clock = clock.tasks ≡ task_count (composition (plan_of setup)) i
+
 -- of component i of a setup whose turns are read by turn_of
 module _ {T : Type 0} (turn_of : T → ℕ → ℕ → Option Turn) (setup : Setup T) (i : ℕ) where
   -- where the component has a turn of this number, it is this one
@@ -50,6 +56,7 @@ module _ {T : Type 0} (turn_of : T → ℕ → ℕ → Option Turn) (setup : Set
   -- it reached turn n, and none after it
   pub record Reached (clock : Clock) (n : ℕ) : Type 0 where
     pub own : IsClock clock
+    pub tasks : KnowsTasks setup i clock
     pub kept : AreKept (system turn_of setup) i n clock.ticks.items
 
   -- it reached turn n, and perhaps later ones

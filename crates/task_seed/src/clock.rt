@@ -1,12 +1,12 @@
 //! The clock of a component: the keys of its turns, on demand.
-ghost use Rattle.std.specs.Prelude.{◌≡◌, ◌<◌, ◌≤◌, ◌+◌, [], Some, IfSome, IfOk, OnOk, OnErr, IsSome};
+ghost use Rattle.std.specs.Prelude.{◌≡◌, ◌<◌, ◌≤◌, ◌+◌, [], Some, IfSome, IfOk, OnOk, OnErr, IsSome, option_to_list};
 ghost use Rattle.event_keys.specs.Ranks.{rank};
-ghost use Rattle.task_seed.specs.Clocks.{CanReach, HasReached, HasRoom, IsClock, IsTurnKey, Reaching, is_due};
+ghost use Rattle.task_seed.specs.Clocks.{CanReach, HasReached, HasRoom, IsClock, IsTurnKey, KnowsTasks, Reaching, is_due, tick_of};
 ghost use Rattle.task_seed.specs.Machines.{end_rank};
 ghost use Rattle.task_seed.specs.Setups.{system};
 ghost use Rattle.task_seed.specs.Turning.{key_of, turn_in};
 
-use crate::setup::Setup;
+use crate::setup::{Setup, in_tasks};
 use crate::turns::{Turn, Turns};
 use crate::walk::Walk;
 use event_keys::Key;
@@ -33,6 +33,8 @@ pub(crate) struct NumberedTurn {
 #[derive(Drop)]
 pub struct Clock {
     pub(crate) component: u16,
+    // How many tasks the component has, from the first turn that it reaches.
+    pub(crate) tasks: u32,
     pub(crate) ticks: Vec<u64>,
     // The turn that was read last, mostly the next one; where none was read, a number that no turn has.
     pub(crate) read: NumberedTurn,
@@ -48,6 +50,7 @@ impl Clock {
     {
         Clock {
             component,
+            tasks: 0,
             ticks: Vec::new(alloc),
             read: NumberedTurn {
                 number: NO_TURN,
@@ -96,9 +99,33 @@ impl Clock {
         ensures err_ticks { OnErr result (self.new.ticks.items ≡ self.old.ticks.items) }
     {
         if self.ticks.is_empty() {
-            if let Some(key) = setup.first_key(self.component) {
-                self.ticks.push(key.tick)?;
-            }
+            return self.start(setup);
+        }
+        Ok(())
+    }
+
+    // Reaches the first turn, where none was reached.
+    fn start<T: Turns>(&mut self, setup: &Setup<T>) -> Result<(), NoMemory>
+        requires { self.old.ticks.items ≡ [] }
+        ensures ok { OnOk result (Reaching T.turn_of setup.now self.old.component self.old 0 self.new) }
+        ensures err { OnErr result (self.new ≡ record self.old { ticks = self.new.ticks }) }
+        ensures err_ticks { OnErr result (self.new.ticks.items ≡ self.old.ticks.items) }
+    {
+        self.keep_first(setup)?;
+        self.tasks = setup.plan().tasks(self.component);
+        Ok(())
+    }
+
+    // Keeps the tick of the first turn, if there is one, where none is kept.
+    fn keep_first<T: Turns>(&mut self, setup: &Setup<T>) -> Result<(), NoMemory>
+        requires { self.old.ticks.items ≡ [] }
+        ensures ok { OnOk result (self.new.ticks.items ≡ option_to_list
+            (tick_of (system T.turn_of setup.now) self.old.component 0)) }
+        ensures kept { self.new ≡ record self.old { ticks = self.new.ticks } }
+        ensures err_ticks { OnErr result (self.new.ticks.items ≡ self.old.ticks.items) }
+    {
+        if let Some(key) = setup.first_key(self.component) {
+            self.ticks.push(key.tick)?;
         }
         Ok(())
     }
@@ -155,6 +182,7 @@ impl Clock {
         requires there { Some key ≡ key_of (system T.turn_of setup.now) self.old.component key.number }
         requires small { key.number < 4294967296 }
         requires room { HasRoom self.old (key.number + 1) }
+        requires tasks { KnowsTasks setup.now self.old.component self.old }
         ensures key { result ≡ key_of (system T.turn_of setup.now) self.old.component (key.number + 1) }
         ensures small { IfSome result IsTurnKey }
         ensures reaching { Reaching T.turn_of setup.now self.old.component self.old (key.number + 1) self.new }
@@ -171,8 +199,10 @@ impl Clock {
     fn read_on<T: Turns>(&mut self, setup: &Setup<T>, key: Key) -> Option<Key>
         requires there { Some key ≡ key_of (system T.turn_of setup.now) self.old.component key.number }
         requires small { key.number < 4294967296 }
+        requires tasks { KnowsTasks setup.now self.old.component self.old }
         ensures key { result ≡ key_of (system T.turn_of setup.now) self.old.component (key.number + 1) }
         ensures small { IfSome result IsTurnKey }
+        ensures kept { self.new.tasks ≡ self.old.tasks }
         ensures own { IsClock T.turn_of setup.now self.old.component self.old → IsClock T.turn_of setup.now self.old.component self.new }
         ensures ticks { self.new.ticks ≡ self.old.ticks }
     {
@@ -180,7 +210,7 @@ impl Clock {
         is_timed(next.key);
         self.read = NumberedTurn {
             number: next.key.number,
-            turn: next.turn,
+            turn: in_tasks(self.tasks, next.turn),
         };
         Some(next.key)
     }
@@ -212,6 +242,33 @@ impl Clock {
             return self.read.turn;
         }
         match setup.turn_at(self.component, n) {
+            Some(turn) => turn,
+            None => unreachable!(),
+        }
+    }
+
+    /// The same, where the turn after it is mostly read next: after turns were taken back, that one is then looked up no more.
+    #[inline]
+    pub fn turn_again<T: Turns>(&mut self, setup: &Setup<T>, n: u64) -> Turn
+        requires there { IsSome (key_of (system T.turn_of setup.now) self.old.component n) }
+        requires own { IsClock T.turn_of setup.now self.old.component self.old }
+        ensures turn { Some result ≡ turn_in (system T.turn_of setup.now) self.old.component n }
+        ensures kept { self.new ≡ record self.old { walk = self.new.walk } }
+    {
+        if self.read.number == n {
+            return self.read.turn;
+        }
+        self.look_up(setup, n)
+    }
+
+    // Looks a turn up that wasn't read last. It stays a call, so that the others don't pay for it.
+    #[inline(never)]
+    fn look_up<T: Turns>(&mut self, setup: &Setup<T>, n: u64) -> Turn
+        requires { IsSome (key_of (system T.turn_of setup.now) self.old.component n) }
+        ensures turn { Some result ≡ turn_in (system T.turn_of setup.now) self.old.component n }
+        ensures kept { self.new ≡ record self.old { walk = self.new.walk } }
+    {
+        match setup.turn_by(self.component, n, &mut self.walk) {
             Some(turn) => turn,
             None => unreachable!(),
         }

@@ -1,5 +1,6 @@
 //! The setup of a simulation, and the keys of its turns.
 ghost use Rattle.std.specs.Prelude.{◌≡◌, ℕ, ◌≤◌, ◌<◌, ◌+◌, ◌↔◌, Option, None, Some, IfSome, IfOk, IsErrOf, IsSome};
+ghost use Rattle.task_seed.specs.Turning.{with_task_below};
 
 use crate::turns::{KeyedTurn, MOST_TURNS, Timed, Turn, Turns};
 use crate::walk::Walk;
@@ -55,7 +56,7 @@ impl<T: Turns> Setup<T> {
     ghost use Rattle.std.specs.Prelude.{◌≡◌, ℕ, ◌≤◌, ◌<◌, ◌+◌, ◌↔◌, Option, None, Some, IfSome, IfOk, IsErrOf, IsSome, option_map};
     ghost use Rattle.plans.specs.Outcomes.{task_count};
     ghost use Rattle.plans.specs.Plans.{composition};
-    ghost use Rattle.task_seed.specs.Turning.{key_at, key_of, turn_in, with_task_below, Reaches};
+    ghost use Rattle.task_seed.specs.Turning.{key_at, key_of, turn_in, Reaches};
     ghost use Rattle.task_seed.specs.Steps.{tick_after, tick_with};
     ghost use Rattle.task_seed.specs.Setups.{system, plan_of, source_of, horizon_of};
     ghost use Rattle.task_seed.specs.declared.turns.Timed.{Timed};
@@ -146,22 +147,10 @@ impl<T: Turns> Setup<T> {
     fn next_turn(&self, i: u16, n: u64, tick: u64, walk: &mut Walk) -> Option<Timed>
         requires { Reaches (system T.turn_of self.now) i n tick }
         ensures key { option_map (λ (timed : Timed). key_at i n timed.tick) result ≡ key_of (system T.turn_of self.now) i n }
-        ensures turn { IfSome result (λ timed. turn_in (system T.turn_of self.now) i n ≡ Some timed.turn) }
+        ensures turn { IfSome result (λ timed. (system T.turn_of self.now).turn i n ≡ Some timed.turn) }
         ensures bounded { IfSome result (λ _. n < 4294967296) }
     {
-        let timed = self.walk_after(i, n, tick, walk)?;
-        let turn = self.in_tasks(i, timed.turn);
-        Some(Timed { turn, ..timed })
-    }
-
-    // A turn, its task below the number of the component's tasks, 0 where it has none.
-    #[inline(always)]
-    fn in_tasks(&self, i: u16, turn: Turn) -> Turn
-        ensures { result ≡ with_task_below (task_count (composition (plan_of self.now)) i) turn }
-    {
-        let tasks = self.plan.tasks(i);
-        let task = if tasks == 0 { 0 } else { turn.task % tasks };
-        Turn { task, ..turn }
+        self.walk_after(i, n, tick, walk)
     }
 
     /// The key of turn `n` of component `i`, if that turn exists. The work grows with `n`.
@@ -206,13 +195,14 @@ impl<T: Turns> Setup<T> {
         })
     }
 
-    /// The turn of component `i` after the one of this key, with its own key, if there is one. It is read by the walk: one question to the turns.
+    /// The turn of component `i` after the one of this key, with its own key, if there is one; its task is any number. It is read by the walk: one
+    /// question to the turns.
     #[inline(always)]
     pub fn turn_after(&self, i: u16, key: Key, walk: &mut Walk) -> Option<KeyedTurn>
         requires there { Some key ≡ key_of (system T.turn_of self.now) i key.number }
         requires small { key.number < 4294967296 }
         ensures key { option_map (λ (next : KeyedTurn). next.key) result ≡ key_of (system T.turn_of self.now) i (key.number + 1) }
-        ensures turn { IfSome result (λ next. turn_in (system T.turn_of self.now) i next.key.number ≡ Some next.turn) }
+        ensures turn { IfSome result (λ next. (system T.turn_of self.now).turn i next.key.number ≡ Some next.turn) }
         ensures bounded { IfSome result (λ next. next.key.number < 4294967296) }
     {
         let number = key.number + 1;
@@ -243,7 +233,24 @@ impl<T: Turns> Setup<T> {
         requires { IsSome (key_of (system T.turn_of self.now) i n) }
         ensures { result ≡ turn_in (system T.turn_of self.now) i n }
     {
-        let turn = self.turns.turn(i, n)?;
-        Some(self.in_tasks(i, turn))
+        self.turn_by(i, n, &mut Walk::new())
     }
+
+    /// The same, read by the walk.
+    pub fn turn_by(&self, i: u16, n: u64, walk: &mut Walk) -> Option<Turn>
+        requires { IsSome (key_of (system T.turn_of self.now) i n) }
+        ensures { result ≡ turn_in (system T.turn_of self.now) i n }
+    {
+        let turn = self.turns.turn_by(i, n, walk)?;
+        Some(in_tasks(self.plan.tasks(i), turn))
+    }
+}
+
+// A turn, its task below the number of a component's tasks, 0 where it has none.
+#[inline(always)]
+pub(crate) fn in_tasks(tasks: u32, turn: Turn) -> Turn
+    ensures { result ≡ with_task_below tasks turn }
+{
+    let task = if tasks == 0 { 0 } else { turn.task % tasks };
+    Turn { task, ..turn }
 }

@@ -164,7 +164,7 @@ fn put_line<W: Write>(
         (line_of plan.now (turned_of (option_copied found.entry) key)) fault) }
 {
     match found {
-        Some(action) => put_did(out, plan, &key, action, before),
+        Some(action) => put_did(out, plan, key, action, before),
         None => put_idle(out, key, before),
     }
 }
@@ -174,18 +174,18 @@ fn put_line<W: Write>(
 fn put_did<W: Write>(
     out: &mut Counted<W>,
     plan: &Plan,
-    key: &Key,
+    key: Key,
     action: &Action,
     before: u64,
 ) -> Result<u64, WriteFault>
     ensures ok { IfOk result (λ after. Puts W.contents out.old out.new
-        before after (key_text key.now ++ (action_text plan.now action.now ++ 10 ∷ []))) }
+        before after (key_text key ++ (action_text plan.now action.now ++ 10 ∷ []))) }
     ensures err { IfErr result (λ fault. Stops W.contents out.old out.new
-        before (key_text key.now ++ (action_text plan.now action.now ++ 10 ∷ [])) fault) }
+        before (key_text key ++ (action_text plan.now action.now ++ 10 ∷ [])) fault) }
 {
     let mut bytes = [0; LINE_ROOM];
-    match write_line(plan, key, action, &mut bytes) {
+    match write_line(plan, &key, action, &mut bytes) {
         Some(start) => put_bytes(out, &bytes[start..], before),
-        None => put_long(out, plan, key, action, before),
+        None => put_long(out, plan, &key, action, before),
     }
 }

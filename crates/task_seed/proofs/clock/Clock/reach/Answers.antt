@@ -9,7 +9,7 @@ use Rattle.task_seed.proofs.clock.Clock.reach.Goals as goal
 
 pub returns-then-not-is_due-clause-ok : goal.returns-then-not-is_due-clause-ok
 returns-then-not-is_due-clause-ok g c =
-    reaches_idle g.T.Turns.turn_of c.args.setup.now c.args.self.now.component c.args.self.now c.args.self.now c.args.n c.if-n-eq0.false (λ own. own) refl (sym c.is_due.ensures ∙ c.if-not-is_due.true)
+    reaches_idle g.T.Turns.turn_of c.args.setup.now c.args.self.now.component c.args.self.now c.args.self.now c.args.n c.if-n-eq0.false (λ own. own) refl refl (sym c.is_due.ensures ∙ c.if-not-is_due.true)
 
 pub returns-in-None-clause-ok : goal.returns-in-None-clause-ok
 returns-in-None-clause-ok g c =
@@ -17,7 +17,7 @@ returns-in-None-clause-ok g c =
     let i = c.args.self.now.component in
     let before : None ≡ key_of s i (c.args.n - 1) = search rules in
     let none : None ≡ key_of s i c.args.n = sym (no_later_key s i (c.args.n - 1) c.args.n (omega arith) before) in
-    reaches_alike g.T.Turns.turn_of c.args.setup.now i c.args.self.now c.args.self.now c.args.n c.if-n-eq0.false (λ own. own) refl (λ last one kept multiple. none)
+    reaches_alike g.T.Turns.turn_of c.args.setup.now i c.args.self.now c.args.self.now c.args.n c.if-n-eq0.false (λ own. own) refl refl (λ last one kept multiple. none)
 
 pub returns-in_ok-reach_after-in-Some-clause-ok : goal.returns-in_ok-reach_after-in-Some-clause-ok
 returns-in_ok-reach_after-in-Some-clause-ok g c =
