@@ -1,4 +1,5 @@
 pub mod Breaking
+pub mod Constants
 pub mod Firsts
 pub mod Lists
 pub mod Lookups

@@ -7,7 +7,7 @@ use Rattle.std.proofs.lemmas.List.Elements.{filter-append}
 use Rattle.std.specs.declared.vec.Vec.{Vec}
 use Rattle.plans.specs.Signatures.{fits, same_kind}
 use Rattle.plans.specs.declared.automaton.Kind.TheVariants.{Input, Output, Internal}
-use Rattle.compatibility.specs.Rules.{is_barred}
+use Rattle.compatibility.specs.Rules.{is_barred, suits_all, suits_inputs}
 use Rattle.compatibility.specs.declared.rule.Rule.{Rule}
 use Rattle.compatibility.specs.declared.rule.Rule.TheVariants.{Own}
 use Rattle.compatibility.specs.declared.rule.Rule.TheVariants as rule
@@ -165,6 +165,35 @@ into_first xs s false b e = refl
 pub not_into : (xs : List Stood) (s : Stood) (a b : Bool) → b ≡ false → xs ≡ xs ++ cond (a && b) (s ∷ []) []
 not_into xs s true b e = unadded xs s b e
 not_into xs s false b e = sym (append-nil xs)
+
+no_and : (b : Bool) → (b && false) ≡ true → ⊥
+no_and true h = true≢false (sym h)
+no_and false h = true≢false (sym h)
+
+no_both : (a b : Bool) → (a && (b && false)) ≡ true → ⊥
+no_both true true h = true≢false (sym h)
+no_both true false h = true≢false (sym h)
+no_both false b h = true≢false (sym h)
+
+-- an entry that suits all inputs breaks the rule with none
+pub inputs_suit : (rule : Rule) (one : Bool) (a b : Kind) → same_kind Input a ≡ true → suits_inputs rule b ≡ true → is_barred rule one a b ≡ true → ⊥
+inputs_suit rule one Output b p q r = true≢false (sym p)
+inputs_suit rule one Internal b p q r = true≢false (sym p)
+inputs_suit Own one Input Input p q r = no_and one r
+inputs_suit Own one Input Output p q r = true≢false (sym q)
+inputs_suit Own one Input Internal p q r = true≢false (sym q)
+inputs_suit rule.Internal one Input Input p q r = no_and (not one) r
+inputs_suit rule.Internal one Input Output p q r = no_and (not one) r
+inputs_suit rule.Internal one Input Internal p q r = true≢false (sym q)
+inputs_suit rule.Output one Input b p q r = no_and (not one) r
+
+-- and one that suits all with no other
+pub all_suit : (rule : Rule) (one : Bool) (a b : Kind) → suits_all rule b ≡ true → is_barred rule one a b ≡ true → ⊥
+all_suit Own one a b q r = true≢false (sym q)
+all_suit rule.Internal one a b q r = true≢false (sym q)
+all_suit rule.Output one a Input q r = no_both (not one) (same_kind a Output) r
+all_suit rule.Output one a Output q r = true≢false (sym q)
+all_suit rule.Output one a Internal q r = no_both (not one) (same_kind a Output) r
 
 -- two inputs break no rule
 pub inputs_agree : (rule : Rule) (one : Bool) (a b : Kind) → same_kind Input a ≡ true → same_kind Input b ≡ true → is_barred rule one a b ≡ true → ⊥

@@ -1,8 +1,8 @@
 -- When components aren't compatible (Lynch, Distributed Algorithms, sections 8.1 and 8.2.1), and with which of them this begins.
-use Rattle.std.specs.Prelude.{◌≡◌, ◌≢◌, ◌≤◌, ◌⊎◌, ℕ, Bool, true, not, ◌&&◌, ◌||◌, List, Option, None, Some}
+use Rattle.std.specs.Prelude.{◌≡◌, ◌≢◌, ◌≤◌, ◌⊎◌, ℕ, Bool, true, false, not, ◌&&◌, ◌||◌, List, Option, None, Some}
 use Rattle.terms.specs.Named.{Named}
 use Rattle.plans.specs.declared.automaton.Kind.{Kind}
-use Rattle.plans.specs.declared.automaton.Kind.TheVariants.{Output, Internal}
+use Rattle.plans.specs.declared.automaton.Kind.TheVariants.{Input, Output, Internal}
 use Rattle.plans.specs.Automata.{Instance}
 use Rattle.plans.specs.Signatures.{inputs, outputs, internals, acts, same_kind}
 use Rattle.compatibility.specs.declared.rule.Rule.{Rule}
@@ -60,3 +60,15 @@ abbrev pub is_barred : Rule → Bool → Kind → Kind → Bool
 is_barred rule.Own is_one kind other = is_one && not (same_kind kind other)
 is_barred rule.Internal is_one kind other = not is_one && (same_kind kind Internal || same_kind other Internal)
 is_barred rule.Output is_one kind other = not is_one && (same_kind kind Output && same_kind other Output)
+
+-- an entry of this kind breaks the rule with no input
+abbrev pub suits_inputs : Rule → Kind → Bool
+suits_inputs rule.Own kind = same_kind kind Input
+suits_inputs rule.Internal kind = not (same_kind kind Internal)
+suits_inputs rule.Output kind = true
+
+-- an entry of this kind breaks the rule with no other
+abbrev pub suits_all : Rule → Kind → Bool
+suits_all rule.Own kind = false
+suits_all rule.Internal kind = false
+suits_all rule.Output kind = not (same_kind kind Output)

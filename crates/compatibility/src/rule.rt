@@ -1,6 +1,6 @@
 //! The rules of compatible signatures.
 ghost use Rattle.std.specs.Prelude.{◌≡◌};
-ghost use Rattle.compatibility.specs.Rules.{is_barred};
+ghost use Rattle.compatibility.specs.Rules.{is_barred, suits_all, suits_inputs};
 
 use plans::Kind;
 
@@ -23,5 +23,27 @@ pub(crate) fn is_barred(rule: Rule, is_one: bool, kind: Kind, other: Kind) -> bo
         Rule::Own => is_one && kind != other,
         Rule::Internal => !is_one && (kind == Kind::Internal || other == Kind::Internal),
         Rule::Output => !is_one && kind == Kind::Output && other == Kind::Output,
+    }
+}
+
+// Whether an entry of this kind breaks the rule with no input, so that it needn't be compared with any.
+pub(crate) fn suits_inputs(rule: Rule, kind: Kind) -> bool
+    ensures { result ≡ suits_inputs rule kind }
+{
+    match rule {
+        Rule::Own => kind == Kind::Input,
+        Rule::Internal => kind != Kind::Internal,
+        Rule::Output => true,
+    }
+}
+
+// The same of all others.
+pub(crate) fn suits_all(rule: Rule, kind: Kind) -> bool
+    ensures { result ≡ suits_all rule kind }
+{
+    match rule {
+        Rule::Own => false,
+        Rule::Internal => false,
+        Rule::Output => kind != Kind::Output,
     }
 }

@@ -4,7 +4,7 @@ ghost use Rattle.compatibility.specs.Standings.{stood, seen_at, is_input_of, is_
 ghost use Rattle.plans.specs.Signatures.{same_kind};
 ghost use Rattle.plans.specs.declared.automaton.Kind.TheVariants.{Input};
 
-use crate::rule::Rule;
+use crate::rule::{Rule, suits_all, suits_inputs};
 use crate::standing::{Standing, clash};
 use plans::Kind;
 use std::alloc::Global;
@@ -58,6 +58,9 @@ pub(crate) fn is_clash(rule: Rule, seen: &[Vec<Standing>], standing: &Standing) 
     ensures some { result ≡ true → Has (λ a. Clash rule a (stood standing.now)) (seen_at seen.now (stood standing.now).entry.name) }
     ensures none { result ≡ false → Has (λ a. Clash rule a (stood standing.now)) (seen_at seen.now (stood standing.now).entry.name) → ⊥ }
 {
+    if suits_all(rule, standing.entry.kind) {
+        return false;
+    }
     match seen.get(standing.entry.name as usize) {
         Some(earlier) => clash_with(rule, earlier.as_slice(), standing),
         None => false,
@@ -90,12 +93,12 @@ fn is_input(kind: Kind) -> bool
     }
 }
 
-/// Whether one of the inputs so far and the given entry break a rule. Two inputs never do, and aren't compared.
+/// Whether one of the inputs so far and the given entry break a rule. They aren't compared where no input and an entry of this kind do.
 pub(crate) fn is_clash_with_input(rule: Rule, inputs: &[Vec<Standing>], standing: &Standing) -> bool
     ensures some { result ≡ true → Has (λ a. Clash rule a (stood standing.now)) (seen_at inputs.now (stood standing.now).entry.name) }
     ensures none { result ≡ false → Has (λ a. ClashesAsInput rule a (stood standing.now)) (seen_at inputs.now (stood standing.now).entry.name) → ⊥ }
 {
-    if is_input(standing.entry.kind) {
+    if suits_inputs(rule, standing.entry.kind) {
         return false;
     }
     is_clash(rule, inputs, standing)

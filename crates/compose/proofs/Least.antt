@@ -88,8 +88,8 @@ module _ (names : List Bytes) (m : MeantSource) (are : AreNames names m) where
               least Hidden k l i = absurd (omega (arith, l))
 
           module _ (s : IsFirst (HasFault names m Types) None) where
-            many_least : 64 < length m.components → IsLeastFault names m Many 64
-            many_least h = record { first = ((refl, h), λ k i. let same : k ≡ 64 = i.0 in omega (arith, same)); least = least }
+            many_least : 1024 < length m.components → IsLeastFault names m Many 1024
+            many_least h = record { first = ((refl, h), λ k i. let same : k ≡ 1024 = i.0 in omega (arith, same)); least = least }
               where
                 least : (g : Fault) (k : ℕ) → fault_number g < 25 → HasFault names m g k → ⊥
                 least Unknown k l i = u k i
@@ -100,7 +100,7 @@ module _ (names : List Bytes) (m : MeantSource) (are : AreNames names m) where
                 least Many k l i = absurd (omega (arith, l))
                 least Hidden k l i = absurd (omega (arith, l))
 
-            module _ (n : 64 < length m.components → ⊥) where
+            module _ (n : 1024 < length m.components → ⊥) where
               hidden_least : (j : ℕ) → IsFirst (HasFault names m Hidden) (Some j) → IsLeastFault names m Hidden j
               hidden_least j h = record { first = h; least = least }
                 where
@@ -122,18 +122,18 @@ module _ (names : List Bytes) (m : MeantSource) (are : AreNames names m) where
               no_fault h Many j i = n i.1
               no_fault h Hidden j i = h j i
 
-  many_by : (n : ℕ) → n ≡ length m.components → nat_lt 64 n ≡ true → 64 < length m.components
+  many_by : (n : ℕ) → n ≡ length m.components → nat_lt 1024 n ≡ true → 1024 < length m.components
   many_by n same h = grind (arith, nat_tests)
 
-  few_by : (n : ℕ) → n ≡ length m.components → nat_lt 64 n ≡ false → 64 < length m.components → ⊥
-  few_by n same h l = let few : n ≤ 64 = grind (arith, nat_tests) in absurd (omega (arith, few, same, l))
+  few_by : (n : ℕ) → n ≡ length m.components → nat_lt 1024 n ≡ false → 1024 < length m.components → ⊥
+  few_by n same h l = let few : n ≤ 1024 = grind (arith, nat_tests) in absurd (omega (arith, few, same, l))
 
   named : (e : ComposeError) (f : Fault) (j : ℕ) → IsLeastFault names m f j → (names : List Bytes) × (AreNames names m × IsLeastFault names m f j)
   named e f j h = (names, (are, h))
 
-  last_by : (n : ℕ) (b : Bool) → nat_lt 64 n ≡ b → (hidden : Option ℕ) → IsFirst (HasFault names m Hidden) hidden → (e : ComposeError)
-      → (64 < length m.components → IsLeastFault names m Many 64)
-      → ((64 < length m.components → ⊥) → (j : ℕ) → IsFirst (HasFault names m Hidden) (Some j) → IsLeastFault names m Hidden j)
+  last_by : (n : ℕ) (b : Bool) → nat_lt 1024 n ≡ b → (hidden : Option ℕ) → IsFirst (HasFault names m Hidden) hidden → (e : ComposeError)
+      → (1024 < length m.components → IsLeastFault names m Many 1024)
+      → ((1024 < length m.components → ⊥) → (j : ℕ) → IsFirst (HasFault names m Hidden) (Some j) → IsLeastFault names m Hidden j)
       → n ≡ length m.components → (if b then Some error.TooManyComponents else last_error hidden) ≡ Some e → IsRefused m e
   last_by n true h hidden first e many others same is = let found : error.TooManyComponents ≡ e = cc in subst (IsRefused m) found (names, (are, many (many_by n same h)))
   last_by n false h (Some j) first e many others same is = let found : error.NotAnOutput j ≡ e = cc in subst (IsRefused m) found (names, (are, others (few_by n same h) j first))
@@ -148,11 +148,11 @@ module _ (names : List Bytes) (m : MeantSource) (are : AreNames names m) where
   refused_by None None None (Some j) types n hidden h e is = let found : error.OutputShared j ≡ e = cc in subst (IsRefused m) found (names, (are, output_least h.unknown_first h.own_first h.internal_first j h.output_first))
   refused_by None None None None (Some j) n hidden h e is = let found : error.ShapeDiffers j ≡ e = cc in subst (IsRefused m) found (names, (are, types_least h.unknown_first h.own_first h.internal_first h.output_first j h.types_first))
   refused_by None None None None None n hidden h e is =
-      last_by n (nat_lt 64 n) refl hidden h.hidden_first e
+      last_by n (nat_lt 1024 n) refl hidden h.hidden_first e
       (many_least h.unknown_first h.own_first h.internal_first h.output_first h.types_first)
       (hidden_least h.unknown_first h.own_first h.internal_first h.output_first h.types_first) h.count is
 
-  none_last : (n : ℕ) (b : Bool) → nat_lt 64 n ≡ b → (hidden : Option ℕ) → (if b then Some error.TooManyComponents else last_error hidden) ≡ None → (b ≡ false) × (hidden ≡ None)
+  none_last : (n : ℕ) (b : Bool) → nat_lt 1024 n ≡ b → (hidden : Option ℕ) → (if b then Some error.TooManyComponents else last_error hidden) ≡ None → (b ≡ false) × (hidden ≡ None)
   none_last n true h hidden is = cc
   none_last n false h (Some j) is = cc
   none_last n false h None is = (refl, refl)
@@ -166,5 +166,5 @@ module _ (names : List Bytes) (m : MeantSource) (are : AreNames names m) where
   faultless_by None None None (Some j) types n hidden h is = cc
   faultless_by None None None None (Some j) n hidden h is = cc
   faultless_by None None None None None n hidden h is =
-      let last = none_last n (nat_lt 64 n) refl hidden is in
+      let last = none_last n (nat_lt 1024 n) refl hidden is in
       no_fault h.unknown_first h.own_first h.internal_first h.output_first h.types_first (few_by n h.count last.0) (subst (IsFirst (HasFault names m Hidden)) last.1 h.hidden_first)

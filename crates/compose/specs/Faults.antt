@@ -18,6 +18,10 @@ use Rattle.instances.specs.Names.{AreNames, automaton_at, first_types, is_hidden
 use Rattle.compose.specs.declared.fault.ComposeError.{ComposeError}
 use Rattle.compose.specs.declared.fault.ComposeError.TheVariants as error
 
+-- the most components of a composition
+abbrev pub most_components : ℕ
+most_components = 1024
+
 pub data Fault : Type 0 where
   -- the automaton of a component isn't known
   Unknown : Fault
@@ -27,7 +31,7 @@ pub data Fault : Type 0 where
   Output : Fault
   -- entries of one name differ in the types of their parameters
   Types : Fault
-  -- more than 64 components
+  -- more than 1,024 components
   Many : Fault
   -- a hidden name is no component's output
   Hidden : Fault
@@ -95,7 +99,7 @@ HasFault names m Own j = Breaks rule.Own (instances names m) j
 HasFault names m Internal j = Breaks rule.Internal (instances names m) j
 HasFault names m Output j = Breaks rule.Output (instances names m) j
 HasFault names m Types j = TypesDiffer m j
-HasFault names m Many j = (j ≡ 64) × (64 < length m.components)
+HasFault names m Many j = (j ≡ most_components) × (most_components < length m.components)
 HasFault names m Hidden j = OutputMissing m j
 
 -- The fault is there, j is the least component, or hidden name, with which it is, and no fault of a lesser number is there.
@@ -111,7 +115,7 @@ fault_of (error.OwnOverlap j) = Some (Own, j)
 fault_of (error.InternalShared j) = Some (Internal, j)
 fault_of (error.OutputShared j) = Some (Output, j)
 fault_of (error.ShapeDiffers j) = Some (Types, j)
-fault_of error.TooManyComponents = Some (Many, 64)
+fault_of error.TooManyComponents = Some (Many, most_components)
 fault_of (error.NotAnOutput j) = Some (Hidden, j)
 
 -- a refusal is the least fault, or want of memory, of which nothing is said
@@ -155,4 +159,4 @@ least_error None (Some j) internal output types n hidden = Some (error.OwnOverla
 least_error None None (Some j) output types n hidden = Some (error.InternalShared j)
 least_error None None None (Some j) types n hidden = Some (error.OutputShared j)
 least_error None None None None (Some j) n hidden = Some (error.ShapeDiffers j)
-least_error None None None None None n hidden = if nat_lt 64 n then Some error.TooManyComponents else last_error hidden
+least_error None None None None None n hidden = if nat_lt most_components n then Some error.TooManyComponents else last_error hidden

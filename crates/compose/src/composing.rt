@@ -17,7 +17,7 @@ use plans::Plan;
 use std::alloc::Global;
 
 /// The most components of a composition.
-const MOST_COMPONENTS: usize = 64;
+const MOST_COMPONENTS: usize = 1024;
 
 // The first component whose automaton isn't known.
 fn first_unknown(components: &[Component]) -> Option<usize>

@@ -27,8 +27,8 @@ pub enum ComposeError {
     /// Two entries of one name differ in the number or the types of their parameters.
     #[error("the parameters of an action of component {0} differ from those of the same name")]
     ShapeDiffers(usize),
-    /// More than 64 components.
-    #[error("there are more than 64 components")]
+    /// More than 1,024 components.
+    #[error("there are more than 1,024 components")]
     TooManyComponents,
     /// No component has an output of a name that is to be hidden.
     #[error("hidden name {0} is no output of a component")]
@@ -63,7 +63,7 @@ impl Refusal for ComposeError {
             ComposeError::InternalShared(component) => Some(*component),
             ComposeError::OutputShared(component) => Some(*component),
             ComposeError::ShapeDiffers(component) => Some(*component),
-            ComposeError::TooManyComponents => Some(64),
+            ComposeError::TooManyComponents => Some(1024),
             ComposeError::NotAnOutput(name) => Some(*name),
         }
     }

@@ -111,7 +111,7 @@ module _ (names : List Bytes) (are : AreNames names meant) where
     no_fault Internal j h = unbroken (instances names meant) compatible rule.Internal j h
     no_fault Output j h = unbroken (instances names meant) compatible rule.Output j h
     no_fault Types j h = same_types h.a h.b (is_node h.i h.a h.automaton) (is_node h.k h.b h.other_automaton) h.place h.other_place h.e h.f h.entry h.other_entry h.differ
-    no_fault Many j h = let two : 64 < 2 = h.1 in omega (arith, two)
+    no_fault Many j h = let two : 1024 < 2 = h.1 in omega (arith, two)
     no_fault Hidden j h = let none : ◌≡◌ {A = Option Bytes} None (Some h.name) = h.at in cc
 
 module _ (unbroken : (composition : List Instance) → IsCompatible composition → (r : Rule) (j : ℕ) → Breaks r composition j → ⊥) where
@@ -123,5 +123,5 @@ module _ (unbroken : (composition : List Instance) → IsCompatible composition 
   only_memory (error.InternalShared j) h = absurd (no_fault h.0 h.1.0 unbroken Internal j h.1.1.first.0)
   only_memory (error.OutputShared j) h = absurd (no_fault h.0 h.1.0 unbroken Output j h.1.1.first.0)
   only_memory (error.ShapeDiffers j) h = absurd (no_fault h.0 h.1.0 unbroken Types j h.1.1.first.0)
-  only_memory error.TooManyComponents h = absurd (no_fault h.0 h.1.0 unbroken Many 64 h.1.1.first.0)
+  only_memory error.TooManyComponents h = absurd (no_fault h.0 h.1.0 unbroken Many 1024 h.1.1.first.0)
   only_memory (error.NotAnOutput j) h = absurd (no_fault h.0 h.1.0 unbroken Hidden j h.1.1.first.0)

@@ -1,14 +1,14 @@
 use Rattle.std.proofs.Common.{◌∙◌, nat_eq, sym}
 use Rattle.compatibility.specs.Standings.{stood, seen_at, Clash, ClashesAsInput}
 use Rattle.compatibility.proofs.Lists.{has_none, has_weaker}
-use Rattle.compatibility.proofs.Lookups.{inputs_agree}
+use Rattle.compatibility.proofs.Lookups.{inputs_suit}
 use Rattle.compatibility.proofs.seen.is_clash_with_input.Goals as goal
 
-pub returns-then-is_input-clause-none : goal.returns-then-is_input-clause-none
-returns-then-is_input-clause-none c none h =
+pub returns-then-suits_inputs-clause-none : goal.returns-then-suits_inputs-clause-none
+returns-then-suits_inputs-clause-none c none h =
     let s = stood c.args.standing.now in
     has_none (λ a. ClashesAsInput c.args.rule a s)
-    (λ a clash. inputs_agree c.args.rule (nat_eq a.component s.component) a.entry.kind s.entry.kind clash.0 (sym c.is_input.ensures ∙ c.if-is_input.true) clash.1.0) (seen_at c.args.inputs.now s.entry.name) h
+    (λ a clash. inputs_suit c.args.rule (nat_eq a.component s.component) a.entry.kind s.entry.kind clash.0 (sym c.suits_inputs.ensures ∙ c.if-suits_inputs.true) clash.1.0) (seen_at c.args.inputs.now s.entry.name) h
 
 pub returns-clause-none : goal.returns-clause-none
 returns-clause-none c none h =
