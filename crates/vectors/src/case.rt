@@ -144,7 +144,7 @@ impl Case {
         if let Some(source) = self.text("source") {
             return self.is_checked(alloc, source);
         }
-        match self.text("composed") {
+        match self.value.get("composed") {
             Some(source) => self.is_composed(alloc, source),
             None => self.is_served(rt, alloc),
         }
@@ -174,8 +174,8 @@ impl Case {
     }
 
     // Whether the source is composed, or refused with the wanted number at the wanted component.
-    fn is_composed(&self, alloc: Global, source: &str) -> Result<bool, AllocError> {
-        let bytes = bytes_of(alloc, source)?;
+    fn is_composed(&self, alloc: Global, source: &Value) -> Result<bool, AllocError> {
+        let bytes = content_of(alloc, source)?;
         let Ok(source) = read(alloc, bytes.as_slice()) else {
             return Ok(false);
         };
