@@ -1,7 +1,8 @@
 """Sources and lists of steps to measure the program on, beside bench/loads."""
+import random
 from pathlib import Path
 
-RING = Path(__file__).parent / "loads/ring8.ioa"
+LOADS = Path(__file__).parent / "loads"
 EFFECT = ("automaton C signature internal up states n: Int := 0 transitions internal up pre n < 5 eff n := 0", " tasks {up} automaton S components c: C\n")
 STATEMENT = "; if n = 1 and not (n < 2) then n := n + 1 * (2 - n) mod 7 else n := len(q[0]) fi"
 
@@ -14,8 +15,23 @@ def source(size):
 
 def ring(size):
     """Returns the source of a token ring of so many nodes."""
-    head = RING.read_text().partition("c0:")[0].replace("0..7", f"0..{size - 1}")
+    head = (LOADS / "ring8.ioa").read_text().partition("c0:")[0].replace("0..7", f"0..{size - 1}")
     return head + ";\n".join(f"c{it}: Node({it}, {(it + 1) % size}, {str(it == 0).lower()})" for it in range(size)) + "\n"
+
+
+def phold(size):
+    """Returns the source of PHOLD with so many components, 4 or more: each has a job, which goes to one of three others, drawn at random."""
+    head = (LOADS / "phold64.ioa").read_text().partition("c0:")[0].replace("0..63", f"0..{size - 1}")
+    chance, lines = random.Random(size), []
+    for it in range(size):
+        others = [other + (other >= it) for other in chance.sample(range(size - 1), 3)]
+        lines.append(f"c{it}: Node({', '.join(map(str, [it, *others]))})")
+    return head + ";\n".join(lines) + "\n"
+
+
+def loads():
+    """Returns the sources of bench/loads by their names, and a ring and PHOLD of 1,024 components, which have 30 and 33 KB."""
+    return {**{it.stem: it.read_text() for it in LOADS.glob("*.ioa")}, "ring1024": ring(1024), "phold1024": phold(1024)}
 
 
 def in_order(turns):

@@ -1,27 +1,37 @@
 #!/usr/bin/env python3
-"""Prints how many turns a second the program takes on the loads in bench/loads, text to /dev/null: by `reference`, and the speed of `run` by 1, 2 and
-4 workers beside it. Each is the median of five runs, which take turns; only a quiet machine with four processors tells something.
+"""Prints how many turns a second the program takes on the loads in bench/loads and on PHOLD of 1,024, text to /dev/null: by `reference`, and the
+speed of `run` by 1, 2 and 4 workers beside it. Each is the median of five runs, which take turns; only a quiet machine with four processors tells
+something.
 
 usage: times.py PROGRAM"""
-import statistics, subprocess, sys, time
+import statistics, subprocess, sys, tempfile, time
 from pathlib import Path
 
-LOADS = [("ring8", 300000), ("compute64", 2000), ("phold64", 20000), ("phold64w", 4000)]
+from generated import loads
+
+LOADS = [("ring8", 300000), ("compute64", 2000), ("phold64", 20000), ("phold64w", 4000), ("phold1024", 1250)]
 CREWS = [1, 2, 4]
 
 
-def seconds(words):
+def seconds(folder, words):
     start = time.perf_counter()
-    subprocess.run(words, cwd=Path(__file__).parent / "loads", stdin=subprocess.DEVNULL, stdout=subprocess.DEVNULL, check=True)
+    subprocess.run(words, cwd=folder, stdin=subprocess.DEVNULL, stdout=subprocess.DEVNULL, check=True)
     return time.perf_counter() - start
 
 
-program = Path(sys.argv[1]).resolve()
-for load, ticks in LOADS:
+def print_times(folder, load, ticks):
     words = [f"{load}.ioa", "--ticks", str(ticks)]
     commands = {0: [program, "reference", *words], **{it: [program, "run", *words, "--workers", str(it)] for it in CREWS}}
-    turns = subprocess.run(commands[0], cwd=Path(__file__).parent / "loads", capture_output=True, check=True).stdout.count(b"\n")
-    rounds = [{it: seconds(command) for it, command in commands.items()} for _ in range(5)]
+    turns = subprocess.run(commands[0], cwd=folder, capture_output=True, check=True).stdout.count(b"\n")
+    rounds = [{it: seconds(folder, command) for it, command in commands.items()} for _ in range(5)]
     took = {it: statistics.median(found[it] for found in rounds) for it in commands}
     beside = ", ".join(f"{took[0] / took[it]:.2f}" for it in CREWS)
     print(f"{load}: {turns} turns, {turns / took[0]:,.0f} a second by one thread; {beside} of its speed by 1, 2 and 4 workers", flush=True)
+
+
+program = Path(sys.argv[1]).resolve()
+with tempfile.TemporaryDirectory() as folder:
+    for name, text in loads().items():
+        (Path(folder) / f"{name}.ioa").write_text(text)
+    for load, ticks in LOADS:
+        print_times(folder, load, ticks)
