@@ -14,7 +14,7 @@ use Rattle.trace.proofs.Dark.{is_plain, is_dark, number_plain, written_dark, fre
 use Rattle.trace.proofs.Keys.{key_parts}
 
 -- actions and numbers have no spaces
-written_lacks : (plan : Plan) (w : Written) → IsWritten plan w → Lacks 32 (written_text plan w)
+pub written_lacks : (plan : Plan) (w : Written) → IsWritten plan w → Lacks 32 (written_text plan w)
 written_lacks plan w h = free is_dark 32 refl (written_text plan w) (written_dark plan w h)
 
 pub number_lacks : (n : ℕ) → n < 2 ^ 64 → Lacks 32 (decimal n)

@@ -49,7 +49,7 @@ all_sound plan (text ∷ texts) actions h = ((h.0, h.2), all_sound plan texts h.
 sound_no_bad : (plan : Plan) (text : List ℕ) → IsSound plan text → IsBad plan text → ⊥
 sound_no_bad plan text h bad = bad h.1.line h.1.proper h.1.is
 
-sound_no_unknown : (plan : Plan) (text : List ℕ) → IsSound plan text → IsUnknown plan text → ⊥
+pub sound_no_unknown : (plan : Plan) (text : List ℕ) → IsSound plan text → IsUnknown plan text → ⊥
 sound_no_unknown plan text h u =
     let same : h.1.line ≡ u.line = line_same plan h.1.line u.line h.1.proper u.proper (sym h.1.is ∙ u.is) in
     u.unknown h.0 (subst (λ (l : Line). LineGives plan l h.0) same h.1.gives)

@@ -1,5 +1,5 @@
 -- A text is that of one line.
-use Rattle.std.proofs.Common.{◌≡◌, ℕ, suc, Bool, true, false, ◌||◌, List, [], ◌∷◌, ◌++◌, length, refl, ap, sym, subst, ◌∙◌, append-nil, inl, inr, arith}
+use Rattle.std.proofs.Common.{◌≡◌, ℕ, suc, Bool, true, false, ◌||◌, ◌^◌, ◌<◌, List, [], ◌∷◌, ◌++◌, length, refl, ap, sym, subst, ◌∙◌, append-nil, inl, inr, arith}
 use Rattle.std.specs.Prelude.{◌==◌, codes, ℤ, pos, negsuc, FitsSigned, slice_index, if◌then◌else◌}
 use Rattle.std.specs.Int.{w64, IsInRange}
 use Rattle.std.specs.List.{list_all, AllByRecursion}
@@ -37,7 +37,7 @@ number_same names text m n h k = elim (cases_order m n) [
 ]
 
 -- what whole numbers go on with
-abbrev is_numeric : ℕ → Bool
+abbrev pub is_numeric : ℕ → Bool
 is_numeric b = is_digit b || b == 45
 
 digit_is_numeric : (b : ℕ) → IsInRange 48 57 b → is_numeric b ≡ true
@@ -50,9 +50,12 @@ digits_numeric : (ds : List ℕ) → AllDigits 10 ds → list_all is_numeric ds 
 digits_numeric [] d = refl
 digits_numeric (c ∷ cs) d = and_from (is_numeric c) (list_all is_numeric cs) (digit_is_numeric c (digit_at (c ∷ cs) 0 d (omega arith))) (digits_numeric cs d.1)
 
+pub number_numeric : (n : ℕ) → n < 2 ^ 64 → list_all is_numeric (decimal n) ≡ true
+number_numeric n h = digits_numeric (decimal n) (decimal_is_IsNumeral n h).0.1
+
 whole_numeric : (z : ℤ) → FitsSigned w64 z → list_all is_numeric (signed_decimal z) ≡ true
-whole_numeric (pos n) h = digits_numeric (decimal n) (decimal_is_IsNumeral n (omega (arith, h.sfits))).0.1
-whole_numeric (negsuc n) h = digits_numeric (decimal (suc n)) (decimal_is_IsNumeral (suc n) (omega (arith, h.sfits))).0.1
+whole_numeric (pos n) h = number_numeric n (omega (arith, h.sfits))
+whole_numeric (negsuc n) h = number_numeric (suc n) (omega (arith, h.sfits))
 
 numeric_no_name : (text : List ℕ) → list_all is_numeric text ≡ true → is_letter (slice_index text 0) ≡ true → ⊥
 numeric_no_name [] h begins = both_ways (is_letter 0) refl begins
@@ -132,7 +135,7 @@ key_same key other rest later h k e =
     ((λ i. record { tick = tick i; component = component i; number = number i }), third.1)
 
 -- `idle` is no action
-idle_no_action : (plan : Plan) (name : List ℕ) (args : List Scalar) → IsName name → name ++ arguments_text plan args ≡ codes "idle" → ⊥
+pub idle_no_action : (plan : Plan) (name : List ℕ) (args : List Scalar) → IsName name → name ++ arguments_text plan args ≡ codes "idle" → ⊥
 idle_no_action plan name [] h e = h.is_free w.Idle (sym e ∙ append-nil name)
 idle_no_action plan name (a ∷ rest) h e = no_cut 40 (codes "idle") name (argument_text plan a ++ (others_text plan rest ++ codes ")")) (free is_word_byte 40 refl (codes "idle") refl) (sym e)
 

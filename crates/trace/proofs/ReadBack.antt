@@ -24,17 +24,17 @@ lines_cons : (b : ℕ) (bs : List ℕ) → b ≢ 10 → lines_of (b ∷ bs) ≡ 
 lines_cons b bs h = grind (arith, common_steps)
 
 -- a line, and what follows its line feed
-first_line_is : (line rest : List ℕ) → list_all is_inked line ≡ true → lines_of (line ++ (10 ∷ rest)) ≡ line ∷ lines_of rest
+pub first_line_is : (line rest : List ℕ) → list_all is_inked line ≡ true → lines_of (line ++ (10 ∷ rest)) ≡ line ∷ lines_of rest
 first_line_is [] rest h = refl
 first_line_is (b ∷ bs) rest h =
     let parts = and_parts (is_inked b) (list_all is_inked bs) h in
     lines_cons b (bs ++ (10 ∷ rest)) (inked_is_in_line b parts.0) ∙ ap (onto_first b) (first_line_is bs rest parts.1)
 
-turn_given : (plan : Plan) (key : Key) (outcome : Outcome) → IsKey key → IsOutcome plan outcome → IsGiven plan (key_text key ++ outcome_text plan outcome) (actions_of outcome)
+pub turn_given : (plan : Plan) (key : Key) (outcome : Outcome) → IsKey key → IsOutcome plan outcome → IsGiven plan (key_text key ++ outcome_text plan outcome) (actions_of outcome)
 turn_given plan key outcome.Idle k h = record { line = Idle key; proper = k; is = refl; gives = refl }
 turn_given plan key (outcome.Did action) k h = record { line = Turn key (written_of plan action); proper = (k, h.0); is = refl; gives = (action, refl, h.1) }
 
-line_split : (plan : Plan) (turned : Turned) (rest : List ℕ) → line_of plan turned ++ rest ≡ (key_text turned.key ++ outcome_text plan turned.outcome) ++ (10 ∷ rest)
+pub line_split : (plan : Plan) (turned : Turned) (rest : List ℕ) → line_of plan turned ++ rest ≡ (key_text turned.key ++ outcome_text plan turned.outcome) ++ (10 ∷ rest)
 line_split plan turned rest = simp append_assoc refl
 
 pub read_back : (plan : Plan) (turns : List Turned) → AllByRecursion (IsTurn plan) turns → Gives plan (lines_of (text_of plan All turns)) (actions_done turns)

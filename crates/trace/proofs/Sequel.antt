@@ -37,7 +37,7 @@ module _ {X : Type 0} (gives : List (List ℕ) → List X → Type 0) where
   read_all bytes rest count items h e = subst (λ l. gives l items) (sym (h.split ∙ ap (λ l. h.before ++ lines_of l) e ∙ append-nil h.before)) h.given
 
   -- the next line is at fault
-  fault_next : (has_fault : List ℕ → Type 0) (bytes rest text later : List ℕ) (count : ℕ) (items : List X) → IsReadTo gives bytes rest count items → lines_of rest ≡ text ∷ lines_of later → has_fault text → IsFirstAtFault gives has_fault bytes (count + 1)
+  pub fault_next : (has_fault : List X → List ℕ → Type 0) (bytes rest text later : List ℕ) (count : ℕ) (items : List X) → IsReadTo gives bytes rest count items → lines_of rest ≡ text ∷ lines_of later → has_fault items text → IsFirstAtFault gives has_fault bytes (count + 1)
   fault_next has_fault bytes rest text later count items h e k =
       record {
         before = h.before;
@@ -52,8 +52,8 @@ module _ {X : Type 0} (gives : List (List ℕ) → List X → Type 0) where
 
   pub file_fault : (bad unknown : List ℕ → Type 0) (bytes rest text later : List ℕ) (count : ℕ) (items : List X) (e : LineFault) → IsReadTo gives bytes rest count items → lines_of rest ≡ text ∷ lines_of later → Blames (bad text) (unknown text) e → IsFileFault gives bad unknown bytes (fault_of e (count + 1))
   file_fault bad unknown bytes rest text later count items fault.NoMemory h e k = tt
-  file_fault bad unknown bytes rest text later count items fault.Bad h e k = fault_next bad bytes rest text later count items h e k
-  file_fault bad unknown bytes rest text later count items fault.Unknown h e k = fault_next unknown bytes rest text later count items h e k
+  file_fault bad unknown bytes rest text later count items fault.Bad h e k = fault_next (λ before. bad) bytes rest text later count items h e k
+  file_fault bad unknown bytes rest text later count items fault.Unknown h e k = fault_next (λ before. unknown) bytes rest text later count items h e k
 
 -- one line more of a trace
 gives_more : (plan : Plan) (before : List (List ℕ)) (text : List ℕ) (actions given : List Named) → Gives plan before actions → IsGiven plan text given → Gives plan (before ++ text ∷ []) (actions ++ given)

@@ -13,9 +13,11 @@ abbrev pub trace_number : TraceError → ℕ
 trace_number trace.NoMemory = 1
 trace_number (trace.BadLine line) = 50
 trace_number (trace.UnknownAction line) = 51
+trace_number (trace.NotInOrder line) = 52
 
 -- the line of a trace that isn't read
 abbrev pub trace_place : TraceError → Option ℕ
 trace_place trace.NoMemory = None
 trace_place (trace.BadLine line) = Some line
 trace_place (trace.UnknownAction line) = Some line
+trace_place (trace.NotInOrder line) = Some line

@@ -1,12 +1,13 @@
 -- Turns whose lines are read back.
-use Rattle.std.specs.Prelude.{List, [], ◌∷◌, flat_map}
+use Rattle.std.specs.Prelude.{List, [], ◌∷◌, flat_map, filter}
 use Rattle.terms.specs.Named.{Named}
 use Rattle.event_keys.specs.declared.outcome.Outcome.{Outcome}
 use Rattle.event_keys.specs.declared.outcome.Outcome.TheVariants.{Idle, Did}
 use Rattle.event_keys.specs.declared.outcome.Turned.{Turned}
 use Rattle.plans.specs.declared.plan.Plan.{Plan}
 use Rattle.plans.specs.Plans.{action_texts}
-use Rattle.trace.specs.Lines.{name_at}
+use Rattle.trace.specs.declared.lines.Lines.{Lines}
+use Rattle.trace.specs.Lines.{is_shown, name_at}
 use Rattle.trace.specs.Written.{Written, IsWritten, IsKnown, IsKey}
 
 -- an action, as it is written
@@ -31,3 +32,7 @@ pub record IsTurn (plan : Plan) (turned : Turned) : Type 0 where
 -- the actions that turns have, in order
 abbrev pub actions_done : List Turned → List Named
 actions_done turns = flat_map (λ turned. actions_of turned.outcome) turns
+
+-- those of the turns that are written
+abbrev pub shown_turns : Plan → Lines → List Turned → List Turned
+shown_turns plan lines turns = filter (λ turned. is_shown plan lines turned.outcome) turns

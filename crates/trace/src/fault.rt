@@ -43,6 +43,10 @@ pub enum TraceError {
     /// The first line at fault has the form of such lines, but the composition has no such action.
     #[error("line {0} has an action that the composition doesn't have")]
     UnknownAction(usize),
+    /// The first line at fault has a turn whose key isn't above that of the turn on the line before; only of a trace file of
+    /// version 2.
+    #[error("line {0} has a turn that isn't after the turn before it")]
+    NotInOrder(usize),
 }
 
 impl Refusal for TraceError {
@@ -57,13 +61,16 @@ impl Refusal for TraceError {
             TraceError::NoMemory => 1,
             TraceError::BadLine(_) => 50,
             TraceError::UnknownAction(_) => 51,
+            TraceError::NotInOrder(_) => 52,
         }
     }
 
     fn place(&self) -> Option<usize> {
         match self {
             TraceError::NoMemory => None,
-            TraceError::BadLine(line) | TraceError::UnknownAction(line) => Some(*line),
+            TraceError::BadLine(line)
+            | TraceError::UnknownAction(line)
+            | TraceError::NotInOrder(line) => Some(*line),
         }
     }
 }

@@ -3,13 +3,15 @@
 
 pub mod counted;
 pub mod fault;
+pub mod file;
 mod known;
 pub mod laws;
 mod line;
 mod line_fault;
 pub mod lines;
 mod long;
-pub mod reading;
+mod ordered;
+mod reading;
 pub mod steps;
 pub mod texts;
 mod words;
@@ -17,7 +19,7 @@ mod written;
 
 pub use counted::Counted;
 pub use fault::{TraceError, WriteFault};
+pub use file::read_trace;
 pub use lines::{Lines, append_taken, append_turn, append_turns, write_turns};
-pub use reading::read_trace;
 pub use steps::read_steps;
-pub use texts::write_text;
+pub use texts::{Form, write_front, write_head, write_text};

@@ -164,25 +164,43 @@ fn put_line<W: Write>(
         (line_of plan.now (turned_of (option_copied found.entry) key)) fault) }
 {
     match found {
-        Some(action) => put_did(out, plan, key, action, before),
+        Some(action) => put_did(
+            out,
+            plan,
+            key.tick,
+            key.component,
+            key.number,
+            action,
+            before,
+        ),
         None => put_idle(out, key, before),
     }
 }
 
-// The line of a turn that took an action, in a frame of its own.
+// The line of a turn that took an action, in a frame of its own. The key comes as its numbers: a key that is handed on stands in memory, also on the
+// way on which no call is made.
 #[inline(never)]
 fn put_did<W: Write>(
     out: &mut Counted<W>,
     plan: &Plan,
-    key: Key,
+    tick: u64,
+    component: u16,
+    number: u64,
     action: &Action,
     before: u64,
 ) -> Result<u64, WriteFault>
-    ensures ok { IfOk result (λ after. Puts W.contents out.old out.new
-        before after (key_text key ++ (action_text plan.now action.now ++ 10 ∷ []))) }
-    ensures err { IfErr result (λ fault. Stops W.contents out.old out.new
-        before (key_text key ++ (action_text plan.now action.now ++ 10 ∷ [])) fault) }
+    ensures ok { IfOk result (λ after. Puts W.contents out.old out.new before after
+        (key_text (record { tick = tick; component = component; number = number })
+        ++ (action_text plan.now action.now ++ 10 ∷ []))) }
+    ensures err { IfErr result (λ fault. Stops W.contents out.old out.new before
+        (key_text (record { tick = tick; component = component; number = number })
+        ++ (action_text plan.now action.now ++ 10 ∷ [])) fault) }
 {
+    let key = Key {
+        tick,
+        component,
+        number,
+    };
     let mut bytes = [0; LINE_ROOM];
     match write_line(plan, &key, action, &mut bytes) {
         Some(start) => put_bytes(out, &bytes[start..], before),

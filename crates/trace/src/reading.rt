@@ -1,4 +1,4 @@
-//! Reading a trace file.
+//! Reading the lines of a trace file, in whichever order they stand.
 ghost use Rattle.std.specs.Prelude.{◌≡◌, ◌++◌, option_to_list, IfOk, IfErr};
 ghost use Rattle.event_keys.specs.declared.key.Key.{Key};
 ghost use Rattle.task_seed.specs.Table.{lines_of};
@@ -71,17 +71,12 @@ pub(crate) fn fault_at(fault: LineFault, line: usize) -> TraceError
     }
 }
 
-/// Reads a trace file: the actions of its lines, in order.
-///
-/// A line is an action (`send(true,-3)`), or a turn as [`write_turns`](crate::write_turns) writes it: its tick, component
-/// and number, and its action or `idle`, which gives no action. Words are separated by one space, and a line ends with a
-/// line feed, which the last one may lack. The three numbers are at most the greatest `u64`, and aren't compared with
-/// anything. An argument is a whole number of 64 bits, `true`, `false` or the name of a member of an enumeration; whether
-/// a number is in a range isn't asked.
-///
-/// Refused is the first line, counted from 1, that is no such line ([`TraceError::BadLine`]), or whose action the
-/// composition doesn't have ([`TraceError::UnknownAction`]): no action has its name, or those have other parameters.
-pub fn read_trace(alloc: Global, plan: &Plan, bytes: &[u8]) -> Result<Vec<Action>, TraceError>
+/// Reads lines that may stand in any order: their actions, one after another.
+pub(crate) fn read_lines(
+    alloc: Global,
+    plan: &Plan,
+    bytes: &[u8],
+) -> Result<Vec<Action>, TraceError>
     ensures ok { IfOk result (λ actions. Gives plan.now (lines_of bytes.now) actions.items) }
     ensures err { IfErr result (λ error. IsTraceFault plan.now bytes.now error) }
 {

@@ -37,7 +37,7 @@ fn component_before(text: &str) -> Option<(u16, &str)>
 }
 
 // The key at the front, and the text after it.
-fn key_before(text: &str) -> Option<(Key, &str)>
+pub(crate) fn key_before(text: &str) -> Option<(Key, &str)>
     ensures some { IfSome result (λ r. IsStepKey r.0 × (text.now ≡ key_text r.0 ++ r.1.now)) }
     ensures only { (key : Time) (rest : List ℕ) → IsStepKey key → text.now ≡ key_text key ++ rest → IsSomeAnd result (λ r. (r.0 ≡ key) × (r.1.now ≡ rest)) }
 {

@@ -2,7 +2,7 @@ use Rattle.std.proofs.Common.{◌+◌, [], ◌∷◌, arith, append-nil, sym, su
 use Rattle.std.specs.Prelude.{option_to_list}
 use Rattle.trace.specs.TraceFile.{IsGiven, Gives}
 use Rattle.trace.proofs.Sequel.{IsReadTo, actions_more}
-use Rattle.trace.proofs.reading.read_trace.Goals as goal
+use Rattle.trace.proofs.reading.read_lines.Goals as goal
 
 pub loop-rest-preserved-in_ok-push-in-Ok-Some : goal.loop-rest-preserved-in_ok-push-in-Ok-Some
 loop-rest-preserved-in_ok-push-in-Ok-Some c =

@@ -1,11 +1,10 @@
 use Rattle.std.proofs.Common.{◌+◌, ◌≤◌, length}
-use Rattle.trace.specs.TraceFile.{Gives}
-use Rattle.trace.proofs.Sequel.{IsReadTo}
-use Rattle.trace.proofs.reading.read_trace.Given as goal
+use Rattle.trace.proofs.InOrder.{IsReadInOrder}
+use Rattle.trace.proofs.ordered.read_in_order.Given as goal
 
 abbrev pub invariant-loop-rest : goal.invariant-loop-rest
 invariant-loop-rest l = record {
-  read : IsReadTo (Gives l.plan) l.bytes l.rest l.line l.actions.items;
+  read : IsReadInOrder l.plan l.bytes l.rest l.line l.last l.actions.items;
   room : l.line + length l.rest ≤ length l.bytes;
 }
 
