@@ -1,4 +1,5 @@
-mod Both
 mod Beginnings
 mod Driven
+mod Fronted
+mod Rising
 mod Streaming

@@ -1,5 +1,5 @@
 -- Turns that are written as they are taken.
-use Rattle.std.proofs.Common.{◌≡◌, ℕ, ◌-◌, ◌<◌, List, [], ◌∷◌, ◌++◌, map, reverse, length, refl, ap, sym, subst, ◌∙◌, arith, length-append}
+use Rattle.std.proofs.Common.{◌≡◌, ℕ, ◌-◌, ◌<◌, ◌^◌, List, [], ◌∷◌, ◌++◌, map, reverse, length, refl, ap, sym, subst, ◌∙◌, arith, length-append}
 use Rattle.std.specs.Prelude.{Option, Result, Ok, Err, IfErr}
 use Rattle.std.specs.Result.{IsErrAnd}
 use Rattle.std.specs.Io.KnownBytes.{Keeps}
@@ -31,11 +31,11 @@ use Rattle.commands.specs.Simulated.{IsSimulated, IsSimulatedInPart}
 use Rattle.commands.specs.Streams.{IsKnown}
 use Rattle.commands.proofs.Beginnings.{newest_first, turned_of, turns_again, turns_joined}
 
--- the lines of the turns that were taken went out, so many bytes
-pub record Sofar {W : Type 0} (known : W → Option (List ℕ)) (plan : Plan) (lines : Lines) (old new : Counted W) (taken : List (Turn Named)) (bytes : ℕ) : Type 0 where
+-- the lines of the turns that were taken went out, so many bytes with those from the start
+pub record Sofar {W : Type 0} (known : W → Option (List ℕ)) (plan : Plan) (lines : Lines) (old new : Counted W) (start : ℕ) (taken : List (Turn Named)) (bytes : ℕ) : Type 0 where
   pub turns : List Turned
   pub are : turns_of turns ≡ taken
-  pub puts : Puts known old new 0 bytes (text_of plan lines turns)
+  pub puts : Puts known old new start bytes (text_of plan lines turns)
 
 -- no turns are all those below the least key
 pub complete_none : (m : Machine (List Datum) Named) {taken : List (Turn Named)} → taken ≡ [] → IsComplete m taken
@@ -66,6 +66,11 @@ module _ (plan : Plan) (s : System) (laws : IsKnown plan s) where
       let more = ap length next in
       omega (arith, whole, here, more)
 
+  -- what is so of each text is so of that of all turns
+  pub of_any : {lines : Lines} (Became : List ℕ → Type 0) → ((text : List ℕ) → Became text) → IsSimulated plan s lines Became
+  of_any Became always =
+      let all = all_after [] (complete_none (machine s) refl) in record { turns = all.0; are = all.1; became = always _ }
+
   module _ {W : Type 0} {known : W → Option (List ℕ)} {lines : Lines} where
     -- no turn was taken yet
     pub none_yet : (out : Counted W) → IsSimulatedInPart plan s lines (IsWritten known out out)
@@ -83,7 +88,7 @@ module _ (plan : Plan) (s : System) (laws : IsKnown plan s) where
         }
 
     -- the lines of the first turns went out
-    pub in_part : {old new : Counted W} {taken : List (Turn Named)} {bytes : ℕ} → IsComplete (machine s) taken → Sofar known plan lines old new taken bytes → IsSimulatedInPart plan s lines (IsWritten known old new)
+    pub in_part : {old new : Counted W} {start : ℕ} {taken : List (Turn Named)} {bytes : ℕ} → IsComplete (machine s) taken → Sofar known plan lines old new start taken bytes → IsSimulatedInPart plan s lines (IsWritten known old new)
     in_part complete h =
         let first = subst (IsComplete (machine s)) (sym h.are) complete in
         let rest = all_after h.turns first in record {
@@ -99,7 +104,7 @@ module _ (plan : Plan) (s : System) (laws : IsKnown plan s) where
         }
 
     -- the lines of all turns went out
-    pub whole : {old new : Counted W} {taken : List (Turn Named)} {bytes : ℕ} → IsReference (machine s) end_rank taken → Sofar known plan lines old new taken bytes → IsSimulated plan s lines (IsWritten known old new)
+    pub whole : {old new : Counted W} {start : ℕ} {taken : List (Turn Named)} {bytes : ℕ} → IsReference (machine s) end_rank taken → Sofar known plan lines old new start taken bytes → IsSimulated plan s lines (IsWritten known old new)
     whole {taken = taken} all h =
         let is = h.are ∙ laws.one taken all in record {
           turns = h.turns;
@@ -108,9 +113,9 @@ module _ (plan : Plan) (s : System) (laws : IsKnown plan s) where
         }
 
     -- a write failed in the line of a turn
-    pub cut : {old mid new : Counted W} {taken now : List (Turn Named)} {bytes : ℕ} {fault : WriteFault} (turned : Turned) → now ≡ turn_of turned ∷ taken → IsComplete (machine s) now
-        → Sofar known plan lines old mid taken bytes → Stops known mid new bytes (shown_text plan lines turned) fault → IsSimulated plan s lines (λ text. Stops known old new 0 text fault)
-    cut {old} {mid} {new} {taken} {now} {bytes} {fault} turned next complete h stopped =
+    pub cut : {old mid new : Counted W} {start : ℕ} {taken now : List (Turn Named)} {bytes : ℕ} {fault : WriteFault} (turned : Turned) → now ≡ turn_of turned ∷ taken → IsComplete (machine s) now
+        → Sofar known plan lines old mid start taken bytes → Stops known mid new bytes (shown_text plan lines turned) fault → IsSimulated plan s lines (λ text. Stops known old new start text fault)
+    cut {old} {mid} {new} {start} {taken} {now} {bytes} {fault} turned next complete h stopped =
         let turns = h.turns ++ turned ∷ [] in
         let are : turns_of turns ≡ now = turns_joined h.turns (turned ∷ []) ∙ ap (λ l. turn_of turned ∷ l) h.are ∙ sym next in
         let rest = all_after turns (subst (IsComplete (machine s)) (sym are) complete) in
@@ -118,22 +123,22 @@ module _ (plan : Plan) (s : System) (laws : IsKnown plan s) where
         let text = flat_map-append f turns rest.0 ∙ ap (λ l. l ++ text_of plan lines rest.0) (sym (flat_map_more f [] h.turns turned)) in record {
           turns = turns ++ rest.0;
           are = rest.1;
-          became = subst (λ l. Stops known old new 0 l fault) (sym text) (stops (text_of plan lines rest.0) (then_stops h.puts stopped));
+          became = subst (λ l. Stops known old new start l fault) (sym text) (stops (text_of plan lines rest.0) (then_stops h.puts stopped));
         }
 
 module _ {W : Type 0} {known : W → Option (List ℕ)} where
   -- no turn was taken
-  pub starts : {plan : Plan} {lines : Lines} {taken : List (Turn Named)} (out : Counted W) → taken ≡ [] → Sofar known plan lines out out taken 0
-  starts out none = record { turns = []; are = sym none; puts = puts_nothing out 0 (omega arith) }
+  pub starts : {plan : Plan} {lines : Lines} {taken : List (Turn Named)} (out : Counted W) (start : ℕ) → start < 2 ^ 64 → taken ≡ [] → Sofar known plan lines out out start taken start
+  starts out start low none = record { turns = []; are = sym none; puts = puts_nothing out start low }
 
   -- the line of one more turn went out
-  pub one_more : {plan : Plan} {lines : Lines} {old mid new : Counted W} {taken now : List (Turn Named)} {before after : ℕ} (turned : Turned) → now ≡ turn_of turned ∷ taken
-      → Sofar known plan lines old mid taken before → Puts known mid new before after (shown_text plan lines turned) → Sofar known plan lines old new now after
-  one_more {plan} {lines} {old} {mid} {new} {taken} {now} {before} {after} turned next h puts =
+  pub one_more : {plan : Plan} {lines : Lines} {old mid new : Counted W} {start : ℕ} {taken now : List (Turn Named)} {before after : ℕ} (turned : Turned) → now ≡ turn_of turned ∷ taken
+      → Sofar known plan lines old mid start taken before → Puts known mid new before after (shown_text plan lines turned) → Sofar known plan lines old new start now after
+  one_more {plan} {lines} {old} {mid} {new} {start} {taken} {now} {before} {after} turned next h puts =
       record {
         turns = h.turns ++ turned ∷ [];
         are = turns_joined h.turns (turned ∷ []) ∙ ap (λ l. turn_of turned ∷ l) h.are ∙ sym next;
-        puts = subst (Puts known old new 0 after) (flat_map_more (shown_text plan lines) [] h.turns turned) (then_puts h.puts puts);
+        puts = subst (Puts known old new start after) (flat_map_more (shown_text plan lines) [] h.turns turned) (then_puts h.puts puts);
       }
 
   -- what was put is there still, when what is held of it goes out

@@ -3,8 +3,9 @@ ghost use Rattle.std.specs.Prelude.{◌≡◌, IfErr, IfOk, OnOk, map, reverse};
 ghost use Rattle.task_seed.specs.Setups.{plan_of, system};
 ghost use Rattle.rollback.specs.ComponentView.{machine_of};
 ghost use Rattle.virtual_time.specs.Worlds.{start_world};
+ghost use Rattle.trace.specs.Headed.{Behind, headed};
 ghost use Rattle.trace.specs.Lines.{text_of};
-ghost use Rattle.trace.specs.Puts.{Stops};
+ghost use Rattle.trace.specs.Puts.{Puts, Stops};
 ghost use Rattle.trace.specs.Went.{IsWritten};
 ghost use Rattle.world.specs.Simulation.{world_of};
 ghost use Rattle.world.specs.Steps.{answer_of};
@@ -18,7 +19,7 @@ use std::sync::Arc;
 use task_seed::laws::machine_is_lawful;
 use task_seed::{Setup, Turns};
 use terms::{Action, Refusal, State};
-use trace::{Counted, Lines, WriteFault, write_turns};
+use trace::{Counted, Form, Lines, WriteFault, append_turns, write_front};
 use virtual_time::reference::{reference_is_complete, reference_is_one};
 use world::{Reply, Step, StepRefused, World};
 
@@ -31,25 +32,30 @@ pub struct RefusedStep {
     pub number: u8,
 }
 
-/// Drives a world from its start by steps, and writes the lines of the turns that are committed after all of them; a refused step leaves the
-/// world, and the next one follows. The answer is the refused steps, in their order.
+/// Drives a world from its start by steps, and writes the lines of the turns that are committed after all of them, behind the head where it is
+/// asked for; a refused step leaves the world, and the next one follows. The answer is the refused steps, in their order.
 ///
 /// # Errors
 ///
-/// `NoMemory`; then nothing is written. `Write` where a write failed, with the number of the text's bytes that went out before.
+/// `NoMemory`; then nothing is written, the head neither. `Write` where a write failed, with the number of the bytes, those of the head too,
+/// that went out before.
 pub fn drive<T: Turns, W: Write>(
     alloc: Global,
     setup: Setup<T>,
     steps: &[Step],
-    lines: Lines,
+    form: Form,
     out: &mut Counted<W>,
 ) -> Result<Vec<RefusedStep>, DriveFault>
-    ensures driven { IfOk result (λ refused. IsDriven (plan_of setup) (system T.turn_of setup) lines steps.now (IsWritten W.contents out.old out.new) refused.items) }
-    ensures undriven { IfErr result (IsUndriven (plan_of setup) (system T.turn_of setup) lines steps.now (out.new ≡ out.old) (Stops W.contents out.old out.new 0)) }
+    ensures driven { IfOk result (λ refused. IsDriven (plan_of setup) (system T.turn_of setup)
+        form.lines steps.now (Behind form.head (IsWritten W.contents out.old out.new))
+        refused.items) }
+    ensures undriven { IfErr result (IsUndriven (plan_of setup) (system T.turn_of setup)
+        form.lines steps.now (out.new ≡ out.old)
+        (λ text. Stops W.contents out.old out.new 0 (headed form.head text))) }
 {
     let shared = Arc::new(alloc, setup)?;
     let mut world = World::new(alloc, shared)?;
-    drive_world(alloc, &mut world, steps, lines, out)
+    drive_world(alloc, &mut world, steps, form, out)
 }
 
 // Drives a world that is at its start.
@@ -57,18 +63,22 @@ fn drive_world<T: Turns, W: Write>(
     alloc: Global,
     world: &mut World<T>,
     steps: &[Step],
-    lines: Lines,
+    form: Form,
     out: &mut Counted<W>,
 ) -> Result<Vec<RefusedStep>, DriveFault>
     requires start { world_of (machine_of T.turn_of world.old.setup) world.old ≡ start_world (machine_of T.turn_of world.old.setup) }
-    ensures driven { IfOk result (λ refused. IsDriven (plan_of world.old.setup) (system T.turn_of world.old.setup) lines steps.now (IsWritten W.contents out.old out.new) refused.items) }
-    ensures undriven { IfErr result (IsUndriven (plan_of world.old.setup) (system T.turn_of world.old.setup) lines steps.now (out.new ≡ out.old) (Stops W.contents out.old out.new 0)) }
+    ensures driven { IfOk result (λ refused. IsDriven (plan_of world.old.setup)
+        (system T.turn_of world.old.setup) form.lines steps.now
+        (Behind form.head (IsWritten W.contents out.old out.new)) refused.items) }
+    ensures undriven { IfErr result (IsUndriven (plan_of world.old.setup)
+        (system T.turn_of world.old.setup) form.lines steps.now (out.new ≡ out.old)
+        (λ text. Stops W.contents out.old out.new 0 (headed form.head text))) }
 {
     let replies = world.run(alloc, steps)?;
     let refused = refused_steps(alloc, replies.as_slice())?;
-    committed_begins(world, lines);
-    match write_committed(world, lines, out) {
-        Ok(()) => Ok(refused),
+    committed_begins(world, form.lines);
+    match write_committed(world, form, out) {
+        Ok(_) => Ok(refused),
         Err(fault) => Err(DriveFault::Write(fault)),
     }
 }
@@ -103,14 +113,41 @@ fn committed_begins<T: Turns>(world: &World<T>, lines: Lines)
     let _ = world.committed();
 }
 
-// Writes the lines of what is committed, in the order of keys.
+// Writes the lines of what is committed, in the order of keys, behind the head where it is asked for,
+// and answers the number of bytes.
 fn write_committed<T: Turns, W: Write>(
     world: &World<T>,
-    lines: Lines,
+    form: Form,
     out: &mut Counted<W>,
-) -> Result<(), WriteFault>
-    ensures ok { OnOk result (IsWritten W.contents out.old out.new (text_of (plan_of world.now.setup) lines (reverse world.now.committed))) }
-    ensures err { IfErr result (Stops W.contents out.old out.new 0 (text_of (plan_of world.now.setup) lines (reverse world.now.committed))) }
+) -> Result<u64, WriteFault>
+    ensures ok { IfOk result (λ after. Puts W.contents out.old out.new 0 after (headed form.head
+        (text_of (plan_of world.now.setup) form.lines (reverse world.now.committed)))) }
+    ensures err { IfErr result (Stops W.contents out.old out.new 0 (headed form.head
+        (text_of (plan_of world.now.setup) form.lines (reverse world.now.committed)))) }
 {
-    write_turns(world.setup().plan(), world.committed().iter(), lines, out)
+    match write_front(form.head, out) {
+        Ok(before) => put_committed(world, form.lines, before, out),
+        Err(fault) => Err(fault),
+    }
+}
+
+// Writes the lines, where so many bytes went out before, and answers the number from then on.
+fn put_committed<T: Turns, W: Write>(
+    world: &World<T>,
+    lines: Lines,
+    before: u64,
+    out: &mut Counted<W>,
+) -> Result<u64, WriteFault>
+    ensures ok { IfOk result (λ after. Puts W.contents out.old out.new before after
+        (text_of (plan_of world.now.setup) lines (reverse world.now.committed))) }
+    ensures err { IfErr result (Stops W.contents out.old out.new before
+        (text_of (plan_of world.now.setup) lines (reverse world.now.committed))) }
+{
+    append_turns(
+        world.setup().plan(),
+        world.committed().iter(),
+        lines,
+        before,
+        out,
+    )
 }

@@ -4,6 +4,7 @@
 pub mod checking;
 pub mod driving;
 pub mod fault;
+pub mod laws;
 pub mod simulating;
 
 pub use checking::check_trace;

@@ -12,7 +12,7 @@ invariant-loop-found g l =
     record {
       same : l.reference.setup ≡ setup;
       complete : IsComplete (machine (system g.T.Turns.turn_of setup)) l.reference.taken;
-      sofar : Sofar g.W.Write.contents (plan_of setup) l.lines l.initial.out l.out l.reference.taken l.written;
+      sofar : Sofar g.W.Write.contents (plan_of setup) l.lines l.initial.out l.out l.before l.reference.taken l.written;
     }
 
 abbrev pub decreases-loop-found : goal.decreases-loop-found

@@ -1,0 +1,27 @@
+use Rattle.std.proofs.Common.{◌≡◌, ◌^◌, ◌<◌, length, sym, subst, arith}
+use Rattle.std.proofs.lemmas.List.{length-map}
+use Rattle.plans.specs.Automata.{instance_of}
+use Rattle.plans.specs.Plans.{composition}
+use Rattle.virtual_time.specs.Reference.{IsReference}
+use Rattle.task_seed.specs.Machines.{machine, end_rank}
+use Rattle.task_seed.specs.Setups.{plan_of, system}
+use Rattle.task_seed.specs.Taken.{turns_of}
+use Rattle.commands.proofs.Rising.{rising}
+use Rattle.commands.proofs.laws.order_law.Goals as goal
+
+pub returns-clause-order : goal.returns-clause-order
+returns-clause-order g c =
+    let plan = c.args.setup.now.plan in
+    let few = plan.few in
+    let components : length (composition plan) < 2 ^ 16 = omega (arith, few, plan.components.ok.0, length-map plan.components.items (instance_of plan.automata.items)) in
+    let m = machine (system g.T.Turns.turn_of c.args.setup.now) in
+    λ turns b is all. rising plan components turns all (c.reference_is_complete.ensures.ordered m b (turns_of turns) c.machine_is_lawful.ensures.lawful is)
+
+pub returns-clause-reads : goal.returns-clause-reads
+returns-clause-reads g c =
+    let plan = c.args.setup.now.plan in
+    let m = machine (system g.T.Turns.turn_of c.args.setup.now) in
+    let order = returns-clause-order g c in
+    λ lines turns are all.
+    let whole = c.reference_is_complete.ensures.exists m end_rank c.machine_is_lawful.ensures.lawful (omega arith) in
+    c.head_law.ensures.read_back plan lines turns (order turns end_rank (subst (IsReference m end_rank) (sym are.all) whole) all)
