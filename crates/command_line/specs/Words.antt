@@ -50,14 +50,15 @@ whole = Unsigned 0 18446744073709551615
 -- a subcommand that simulates or drives
 abbrev pub simulating : App → App
 simulating app =
-    with_rule (with_rule (with_rule (with_rule (with_rule (with_rule (with_rule app
+    with_rule (with_rule (with_rule (with_rule (with_rule (with_rule (with_rule (with_rule app
     (number_rule (codes "seed") (codes "1") whole))
     (number_rule (codes "stream") (codes "0") whole))
     (number_rule (codes "gap") (codes "8") (Unsigned 1 65535)))
     (flag_rule (codes "from-zero")))
     (number_rule (codes "ticks") (codes "1000") (Unsigned 0 4294967296)))
     table_rule)
-    (flag_rule (codes "trace"))
+    (flag_rule (codes "trace")))
+    (flag_rule (codes "head"))
 
 abbrev pub reference_app : App
 reference_app = simulating (of_file (codes "reference") (codes "F"))
@@ -104,6 +105,7 @@ pub record HasOptions (rows : List Row) (options : Options) : Type 0 where
   pub ticks : IsNumber rows (codes "ticks") 0 4294967296 options.ticks
   pub table : option_map (λ s. s.now) options.table ≡ first_of (codes "table") rows
   pub trace : IsFlag (first_of (codes "trace") rows) options.trace
+  pub head : IsFlag (first_of (codes "head") rows) options.head
 
 -- the workers, how far each runs ahead, and whether they tell what they did, as they were entered
 pub record HasCrew (rows : List Row) (crew : Crew) : Type 0 where

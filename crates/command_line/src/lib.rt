@@ -65,6 +65,8 @@ pub struct Options<'a> {
     pub table: Option<&'a str>,
     /// Only turns with an external action are written.
     pub trace: bool,
+    /// A head is written in front of the turns.
+    pub head: bool,
 }
 
 /// Why the words ask for nothing.
@@ -218,7 +220,12 @@ fn with_options<'a>(alloc: Global, command: Command<'a>) -> Result<Command<'a>, 
         ))?
         .arg(number(alloc, "ticks", "1000", ticks, "The last tick"))?
         .arg(table(alloc))?
-        .arg(flag(alloc, "trace", "Write only turns with an external action"))
+        .arg(flag(alloc, "trace", "Write only turns with an external action"))?
+        .arg(flag(
+            alloc,
+            "head",
+            "Begin with the line `trace 2`, after which `check` wants rising keys",
+        ))
 }
 
 // The options of what workers simulate.
@@ -351,6 +358,7 @@ fn options_of<'a>(found: &ArgMatches<'a>) -> Option<Options<'a>>
         ticks,
         table: file_of(found, "table"),
         trace: is_set(found, "trace"),
+        head: is_set(found, "head"),
     })
 }
 

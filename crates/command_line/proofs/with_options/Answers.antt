@@ -20,4 +20,5 @@ returns c =
     let four = c.in_ok-arg-4.ensures.shape c.flag.ensures.local ∙ (λ i. with_rule (three i) (c.flag.ensures.rule i)) in
     let five = c.in_ok-arg-5.ensures.shape c.number-4.ensures.local ∙ (λ i. with_rule (four i) (last i)) in
     let six = c.in_ok-arg-6.ensures.shape c.table.ensures.local ∙ (λ i. with_rule (five i) (c.table.ensures.rule i)) in
-    IfOk-weaker c.arg-7.result _ _ (λ made h. h.shape c.flag-2.ensures.local ∙ (λ i. with_rule (six i) (c.flag-2.ensures.rule i))) c.arg-7.ensures
+    let seven = c.in_ok-arg-7.ensures.shape c.flag-2.ensures.local ∙ (λ i. with_rule (six i) (c.flag-2.ensures.rule i)) in
+    IfOk-weaker c.arg-8.result _ _ (λ made h. h.shape c.flag-3.ensures.local ∙ (λ i. with_rule (seven i) (c.flag-3.ensures.rule i))) c.arg-8.ensures
