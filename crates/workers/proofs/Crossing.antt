@@ -21,8 +21,10 @@ use Rattle.exchange.proofs.judging.MeetRefused.TheSendSync as meet_refused
 use Rattle.gvt.proofs.word.Published.TheSendSync as published
 use Rattle.gvt.proofs.word.Seat.TheSendSync as seat
 use Rattle.pools.proofs.places.Pass.TheSendSync as pass
+use Rattle.workers.proofs.away.Away.TheSendSync as away
 use Rattle.workers.proofs.pace.Pace.TheSendSync as pace
 use Rattle.workers.proofs.places.Places.TheSendSync as places
+use Rattle.workers.proofs.ready.Ready.TheSendSync as ready
 use Rattle.workers.proofs.rounds.Rounds.TheSendSync as rounds
 use Rattle.workers.proofs.stats.Visits.TheSendSync as visits
 use Rattle.exchange.proofs.notes.Notes.TheSendSync as notes
@@ -84,7 +86,7 @@ module _ (T : RattleType) (g : turns.Ghosts T.Denot) (e : equal.Ghosts T.Denot) 
   Waiting-send s y = search (Exchange-send, Waiter-send, option.the_field_send, option.the_send, vec.the_send, crossing.crosses, value.crosses, effect.crosses, shape.crosses, term.crosses, sendable) depth 60 fits 20000
 
   pub Depot-send : IsSend T → IsSync T → IsSend (Depot.the_row T g e)
-  Depot-send s y = search (Waiting-send, places.the_send, rounds.the_field_send, visits.the_field_send, bound.the_field_send, turned.the_send, event_list.the_send, crossing.crosses, value.crosses, effect.crosses, shape.crosses, term.crosses, sendable) depth 60 fits 20000
+  Depot-send s y = search (Waiting-send, away.the_field_send, places.the_send, ready.the_field_send, rounds.the_field_send, visits.the_field_send, bound.the_field_send, turned.the_send, event_list.the_send, crossing.crosses, value.crosses, effect.crosses, shape.crosses, term.crosses, sendable) depth 60 fits 20000
 
   pub Lent-send : IsSend T → IsSync T → IsSend (Lent.the_row T g e)
   Lent-send s y = search (Depot-send, crossing.crosses, effect.crosses, shape.crosses, term.crosses, sendable) depth 60 fits 20000

@@ -1,5 +1,6 @@
 mod Crossing
 mod Ended
+mod Fronted
 mod Growing
 mod Known
 mod Portioned

@@ -1,5 +1,5 @@
 -- What the calling thread has written, portion after portion.
-use Rattle.std.proofs.Common.{◌≡◌, ℕ, ◌≤◌, List, [], ◌++◌, length, take, refl, ap, sym, subst, ◌∙◌, arith, length-append}
+use Rattle.std.proofs.Common.{◌≡◌, ℕ, ◌<◌, ◌≤◌, ◌^◌, List, [], ◌++◌, length, take, refl, ap, sym, subst, ◌∙◌, arith, length-append}
 use Rattle.std.specs.Prelude.{Option}
 use Rattle.std.proofs.lemmas.Grind.{flat_map-append}
 use Rattle.std.proofs.lemmas.List.{take-append-le, take_all}
@@ -26,14 +26,14 @@ use Rattle.workers.specs.Refusals.{run_fault}
 use Rattle.workers.specs.Runs.{IsBegun, IsCut, IsUnfinished, IsWhole}
 use Rattle.workers.proofs.Growing.{as_many, grown, length_turns, turns_for, turns_joined}
 
--- the lines of the first turns went out, so many turns and so many bytes
-pub record Sofar {W : Type 0} (known : W → Option (List ℕ)) (plan : Plan) (s : System) (lines : Lines) (old new : Counted W) (written bytes : ℕ) : Type 0 where
+-- the lines of the first turns went out, so many turns, and so many bytes with those from the start
+pub record Sofar {W : Type 0} (known : W → Option (List ℕ)) (plan : Plan) (s : System) (lines : Lines) (old new : Counted W) (start written bytes : ℕ) : Type 0 where
   pub turns : List Turned
   pub bound : ℕ
   pub within : bound ≤ end_rank
   pub are : turns_of turns ≡ reference_below (machine s) bound
   pub count : written ≡ length turns
-  pub puts : Puts known old new 0 bytes (text_of plan lines turns)
+  pub puts : Puts known old new start bytes (text_of plan lines turns)
 
 module _ (s : System) where
   -- what a portion has comes after what was written
@@ -53,14 +53,19 @@ module _ (s : System) where
 all_turns : (plan : Plan) (s : System) → HasSchedulesBelow plan s → (turns : List Turned) → turns_of turns ≡ reference_below (machine s) end_rank → AreAllTurns plan s turns
 all_turns plan s has turns are = record { all = are; scheduled = has turns end_rank (omega arith) are }
 
+-- what is so of each text is so of that of all turns
+pub of_any : (plan : Plan) (s : System) (lines : Lines) → HasSchedulesBelow plan s → (Cut : List ℕ → Type 0) → ((text : List ℕ) → Cut text) → IsCut plan s lines Cut
+of_any plan s lines has Cut always =
+    let rest = all_after s [] 0 (omega arith) refl in record { turns = rest.0; are = all_turns plan s has rest.0 rest.1; cut = always _ }
+
 module _ {W : Type 0} {known : W → Option (List ℕ)} {plan : Plan} {s : System} {lines : Lines} where
-  pub starts : (out : Counted W) → Sofar known plan s lines out out 0 0
-  starts out = record { turns = []; bound = 0; within = omega arith; are = refl; count = refl; puts = puts_nothing out 0 (omega arith) }
+  pub starts : (out : Counted W) (start : ℕ) → start < 2 ^ 64 → Sofar known plan s lines out out start 0 start
+  starts out start low = record { turns = []; bound = 0; within = omega arith; are = refl; count = refl; puts = puts_nothing out start low }
 
   -- a portion more
-  pub more : {old mid new : Counted W} {written before after : ℕ} (portion : Portion) → Sofar known plan s lines old mid written before → IsPortion s portion → portion.first ≡ written
-      → Puts known mid new before after (text_of plan lines portion.turns.after) → Sofar known plan s lines old new portion.given after
-  more {old} {mid} {new} {written} {before} {after} portion h is first puts =
+  pub more : {old mid new : Counted W} {start written before after : ℕ} (portion : Portion) → Sofar known plan s lines old mid start written before → IsPortion s portion → portion.first ≡ written
+      → Puts known mid new before after (text_of plan lines portion.turns.after) → Sofar known plan s lines old new start portion.given after
+  more {old} {mid} {new} {start} {written} {before} {after} portion h is first puts =
       let first_is : portion.first ≡ length h.turns = first ∙ h.count in
       let given = is.count in record {
         turns = h.turns ++ portion.turns.after;
@@ -68,11 +73,11 @@ module _ {W : Type 0} {known : W → Option (List ℕ)} {plan : Plan} {s : Syste
         within = is.within;
         are = next_turns s h.turns portion.turns.after h.bound portion.first is.bound h.are first_is is.next;
         count = simp length-append (omega (arith, given, first_is));
-        puts = subst (Puts known old new 0 after) (sym (flat_map-append (shown_text plan lines) h.turns portion.turns.after)) (then_puts h.puts puts);
+        puts = subst (Puts known old new start after) (sym (flat_map-append (shown_text plan lines) h.turns portion.turns.after)) (then_puts h.puts puts);
       }
 
   -- the lines of the first turns went out
-  pub begun : {old new : Counted W} {written bytes : ℕ} → HasSchedulesBelow plan s → Sofar known plan s lines old new written bytes → IsBegun plan s lines (IsWritten known old new)
+  pub begun : {old new : Counted W} {start written bytes : ℕ} → HasSchedulesBelow plan s → Sofar known plan s lines old new start written bytes → IsBegun plan s lines (IsWritten known old new)
   begun {old} {new} has h =
       let rest = all_after s h.turns h.bound h.within h.are in
       let front : take (length h.turns) (h.turns ++ rest.0) ≡ h.turns = take-append-le (length h.turns) h.turns rest.0 (omega arith) ∙ take_all (length h.turns) h.turns (omega arith) in record {
@@ -84,19 +89,19 @@ module _ {W : Type 0} {known : W → Option (List ℕ)} {plan : Plan} {s : Syste
       }
 
   -- the lines of all turns went out
-  pub whole : {old new : Counted W} {written bytes : ℕ} → HasSchedulesBelow plan s → (h : Sofar known plan s lines old new written bytes) → h.bound ≡ end_rank → IsWhole plan s lines (IsWritten known old new) written
+  pub whole : {old new : Counted W} {start written bytes : ℕ} → HasSchedulesBelow plan s → (h : Sofar known plan s lines old new start written bytes) → h.bound ≡ end_rank → IsWhole plan s lines (IsWritten known old new) written
   whole has h end = record { turns = h.turns; are = all_turns plan s has h.turns (h.are ∙ ap (reference_below (machine s)) end); count_is = h.count; became = record { bytes = h.puts.bytes; failures = h.puts.failures } }
 
   -- a portion more was the last one
-  pub last : {old mid new : Counted W} {written before after : ℕ} → HasSchedulesBelow plan s → (portion : Portion) → Sofar known plan s lines old mid written before → (is : IsPortion s portion) → portion.first ≡ written
+  pub last : {old mid new : Counted W} {start written before after : ℕ} → HasSchedulesBelow plan s → (portion : Portion) → Sofar known plan s lines old mid start written before → (is : IsPortion s portion) → portion.first ≡ written
       → Puts known mid new before after (text_of plan lines portion.turns.after) → is.bound ≡ end_rank → IsWhole plan s lines (IsWritten known old new) portion.given
   unfolding more
   last has portion h is first puts end = whole has (more portion h is first puts) end
 
   -- a write failed in a portion
-  pub cut : {old mid new : Counted W} {written before : ℕ} {fault : WriteFault} → HasSchedulesBelow plan s → (portion : Portion) → Sofar known plan s lines old mid written before → IsPortion s portion → portion.first ≡ written
-      → Stops known mid new before (text_of plan lines portion.turns.after) fault → IsCut plan s lines (λ text. Stops known old new 0 text fault)
-  cut {old} {mid} {new} {written} {before} {fault} has portion h is first stopped =
+  pub cut : {old mid new : Counted W} {start written before : ℕ} {fault : WriteFault} → HasSchedulesBelow plan s → (portion : Portion) → Sofar known plan s lines old mid start written before → IsPortion s portion → portion.first ≡ written
+      → Stops known mid new before (text_of plan lines portion.turns.after) fault → IsCut plan s lines (λ text. Stops known old new start text fault)
+  cut {old} {mid} {new} {start} {written} {before} {fault} has portion h is first stopped =
       let first_is : portion.first ≡ length h.turns = first ∙ h.count in
       let turns = h.turns ++ portion.turns.after in
       let are = next_turns s h.turns portion.turns.after h.bound portion.first is.bound h.are first_is is.next in
@@ -105,11 +110,11 @@ module _ {W : Type 0} {known : W → Option (List ℕ)} {plan : Plan} {s : Syste
       let text = flat_map-append f turns rest.0 ∙ ap (λ l. l ++ text_of plan lines rest.0) (flat_map-append f h.turns portion.turns.after) in record {
         turns = turns ++ rest.0;
         are = all_turns plan s has (turns ++ rest.0) rest.1;
-        cut = subst (λ l. Stops known old new 0 l fault) (sym text) (stops (text_of plan lines rest.0) (then_stops h.puts stopped));
+        cut = subst (λ l. Stops known old new start l fault) (sym text) (stops (text_of plan lines rest.0) (then_stops h.puts stopped));
       }
 
   -- what befell a worker leaves the lines of the first turns
-  pub unfinished : {old new : Counted W} {written bytes : ℕ} → HasSchedulesBelow plan s → (fault : WorkFault) → Sofar known plan s lines old new written bytes → IsUnfinished plan s lines (IsWritten known old new) (Stops known old new 0) (run_fault fault)
+  pub unfinished : {old new : Counted W} {start written bytes : ℕ} → HasSchedulesBelow plan s → (fault : WorkFault) → Sofar known plan s lines old new start written bytes → IsUnfinished plan s lines (IsWritten known old new) (Stops known old new start) (run_fault fault)
   unfinished has NoMemory h = begun has h
   unfinished has (Meeting refused) h = begun has h
   unfinished has ThreadRefused h = begun has h

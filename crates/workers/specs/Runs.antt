@@ -10,6 +10,8 @@ use Rattle.reference.specs.Schedules.{AreAllTurns, AreSchedule}
 use Rattle.trace.specs.declared.fault.WriteFault.{WriteFault}
 use Rattle.trace.specs.declared.counted.Counted.{Counted}
 use Rattle.trace.specs.declared.lines.Lines.{Lines}
+use Rattle.trace.specs.declared.texts.Form.{Form}
+use Rattle.trace.specs.Headed.{Behind, headed}
 use Rattle.trace.specs.Lines.{text_of}
 use Rattle.trace.specs.Puts.{Stops}
 use Rattle.trace.specs.Went.{IsWritten}
@@ -51,6 +53,16 @@ module _ {T W : Type 0} (turn_of : T → ℕ → ℕ → Option Turn) (known : W
   abbrev pub WroteAll : ℕ → Type 0
   WroteAll count = IsWhole (plan_of setup) (system turn_of setup) lines (IsWritten known old new) count
 
-  -- not all of it, for this reason
-  abbrev pub WroteSome : RunFault → Type 0
-  WroteSome why = IsUnfinished (plan_of setup) (system turn_of setup) lines (IsWritten known old new) (Stops known old new 0) why
+  -- not all of it, for this reason, where so many bytes went out before
+  abbrev pub WroteSome : ℕ → RunFault → Type 0
+  WroteSome before why = IsUnfinished (plan_of setup) (system turn_of setup) lines (IsWritten known old new) (Stops known old new before) why
+
+-- the same of the text behind the head, where that is asked for
+module _ {T W : Type 0} (turn_of : T → ℕ → ℕ → Option Turn) (known : W → Option (List ℕ)) (setup : Setup T) (form : Form) (old new : Counted W) where
+  abbrev pub WroteAllIn : ℕ → Type 0
+  WroteAllIn count = IsWhole (plan_of setup) (system turn_of setup) form.lines (Behind form.head (IsWritten known old new)) count
+
+  abbrev pub WroteSomeIn : RunFault → Type 0
+  WroteSomeIn why =
+      IsUnfinished (plan_of setup) (system turn_of setup) form.lines (Behind form.head (IsWritten known old new))
+      (λ text. Stops known old new 0 (headed form.head text)) why

@@ -6,9 +6,11 @@ ghost use Rattle.task_seed.specs.Setups.{plan_of, system};
 ghost use Rattle.workers.specs.Leases.{IsVisitOf, handed_setup};
 ghost use Rattle.workers.specs.Portions.{IsCutOf};
 
+use crate::away::Away;
 use crate::crew::{Handed, Paced};
 use crate::places::{Least, Places};
 use crate::policy::POLICY;
+use crate::ready::Ready;
 use crate::rounds::Rounds;
 use crate::stats::{Activity, Visits};
 use crate::waiting::Waiting;
@@ -44,13 +46,13 @@ pub(crate) struct Visit<T: Turns> {
 pub(crate) struct Depot<T: Turns> {
     waiting: Waiting<T>,
     places: Places,
-    // At which visit those were taken that workers have.
-    away: Places,
+    away: Away,
     rounds: Rounds,
     // The bound at which all that waited met the exchange, since there was nothing else to do.
     settled: Bound,
     // How many turns are below the bound.
     count: u64,
+    ready: Ready,
     // Cells of turns that were written; they serve again.
     spare: EventList<Turned>,
     // What workers told of their visits.
@@ -74,7 +76,7 @@ impl<T: Turns> Model for Depot<T> {
 
 impl<T: Turns> Depot<T> {
     // The exchange, while all leases are away.
-    pub(crate) fn new(waiting: Waiting<T>, places: Places, away: Places) -> Depot<T>
+    pub(crate) fn new(waiting: Waiting<T>, places: Places, away: Away, ready: Ready) -> Depot<T>
         ensures { result ≡ waiting }
     {
         let components = waiting.exchange().setup().plan().components();
@@ -86,6 +88,7 @@ impl<T: Turns> Depot<T> {
             rounds: Rounds::new(components),
             settled,
             count: 0,
+            ready,
             spare: EventList::new(),
             visits: Visits::default(),
         }
@@ -95,9 +98,9 @@ impl<T: Turns> Depot<T> {
         self.waiting.exchange().setup().plan().components()
     }
 
-    // How many turns are below the bound.
-    pub(crate) fn count(&self) -> u64 {
-        self.count
+    // How many turns a chunk can have given.
+    pub(crate) fn ready(&self) -> u64 {
+        self.ready.least()
     }
 
     // Whether all turns that there are lie below the bases.
@@ -149,6 +152,7 @@ impl<T: Turns> Depot<T> {
         ensures { self.new ≡ self.old }
     {
         self.count = self.waiting.commit();
+        self.rounds.raise();
     }
 
     // A lease waits, at the place of what it has to do next.
@@ -157,7 +161,7 @@ impl<T: Turns> Depot<T> {
         ensures { self.new ≡ self.old }
     {
         let number = handed.paced.lease.number();
-        self.away.leave(number);
+        self.away.give_back(number);
         self.waiting.put(handed);
         self.place(number);
     }
@@ -175,7 +179,9 @@ impl<T: Turns> Depot<T> {
     fn meet(&mut self, number: u16, spare: &mut EventList<Turned>) -> Result<(), MeetRefused>
         ensures { self.new ≡ self.old }
     {
-        self.waiting.meet(number, self.rounds.pass(), spare)
+        self.waiting.meet(number, self.rounds.pass(), spare)?;
+        self.ready.meet(number, self.count);
+        Ok(())
     }
 
     // A lease tells what was done of it, if anybody wants to know, and waits.
@@ -189,9 +195,11 @@ impl<T: Turns> Depot<T> {
     {
         self.visits.end_one(handed.paced.lease.take_effort());
         take_spare(&mut handed.paced.lease, spare);
-        let is_due = self.is_due_to_meet(&*handed.paced);
+        let is_first = handed.paced.pace.visit(self.rounds.raises());
+        self.rounds.note(is_first);
+        let is_due = self.is_due_to_meet(&*handed.paced, is_first);
         let number = handed.paced.lease.number();
-        self.away.leave(number);
+        self.away.give_back(number);
         self.waiting.put(handed);
         if is_due {
             self.meet(number, spare)?;
@@ -201,13 +209,15 @@ impl<T: Turns> Depot<T> {
         Ok(())
     }
 
-    // Whether a lease has something for others, or others have something for it, or it hasn't met the exchange in this pass.
-    fn is_due_to_meet(&self, paced: &Paced<T>) -> bool {
+    // Whether a lease has something for others, or others have something for it, or it hasn't met the exchange in this pass, or it did much since its
+    // base and was visited for the first time since the bound was raised.
+    fn is_due_to_meet(&self, paced: &Paced<T>, is_first: bool) -> bool {
         let lease = &paced.lease;
         lease.is_sending()
             || !paced.pace.has_met(self.rounds.pass())
             || lease.next() == Bound::End
             || self.waiting.exchange().has_mail(lease.number())
+            || (is_first && lease.depth() as u64 >= POLICY.most_held / 2)
     }
 
     // Those to whom something came go on at once, if they wait for it.
@@ -290,7 +300,7 @@ impl<T: Turns> Depot<T> {
         ensures own { IsVisitOf self.old result }
     {
         let mut handed = self.waiting.take(number)?;
-        self.away.wait_for(number, self.rounds.visits());
+        self.away.take(number, self.rounds.visits());
         handed.paced.lease.swap_spare(spare);
         Some(Visit { handed, reach })
     }
@@ -319,13 +329,13 @@ impl<T: Turns> Depot<T> {
     // Whether the least lease may be taken while others are away. A parked one may wait for them, and one that lost something lately would only lose
     // more if another has been away for long, whose worker may not be running.
     fn may_take(&self, least: Least) -> bool {
-        let Some(oldest) = self.away.least() else {
+        let Some(oldest) = self.away.oldest() else {
             return true;
         };
         if least.is_parked {
             return false;
         }
-        let since = self.rounds.visits().saturating_sub(oldest.tick);
+        let since = self.rounds.visits().saturating_sub(oldest);
         since < POLICY.visits_ahead || !self.is_careful(least.number)
     }
 
@@ -394,7 +404,8 @@ impl<T: Turns> Depot<T> {
         ensures own { IfOk result (IsVisitOf self.old) }
     {
         let components = self.components();
-        if self.rounds.begin(components) {
+        let begins = self.rounds.begin(components);
+        if begins || self.rounds.may_raise() {
             self.commit();
         }
         let stale = self.take_stale(spare)?;
@@ -402,7 +413,7 @@ impl<T: Turns> Depot<T> {
             return Ok(stale);
         }
         let visit = self.take_least(spare)?;
-        if visit.is_none() && self.away.least().is_none() {
+        if visit.is_none() && self.away.oldest().is_none() {
             self.wind_up(spare)?;
         }
         Ok(visit)

@@ -20,6 +20,8 @@ pub(crate) struct Pace {
     is_idle: bool,
     // The pass in which it last met the exchange.
     met: u64,
+    // How often the bound had been raised when its last visit ended.
+    visited: u64,
 }
 
 impl Pace {
@@ -33,6 +35,7 @@ impl Pace {
             kept: POLICY.many_arrivals,
             is_idle: false,
             met: 0,
+            visited: 0,
         }
     }
 
@@ -112,6 +115,13 @@ impl Pace {
         self.ran = count;
         self.is_used_up = count == allowed;
         self.is_idle = is_idle;
+    }
+
+    // A visit ends after the bound was raised so often; whether it is the first since.
+    pub(crate) fn visit(&mut self, raises: u64) -> bool {
+        let is_first = self.visited != raises;
+        self.visited = raises;
+        is_first
     }
 
     // It meets the exchange in this pass.

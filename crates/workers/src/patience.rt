@@ -62,7 +62,7 @@ impl Patience {
         waited
     }
 
-    // So many turns are below the bound.
+    // So many turns are published.
     pub(crate) fn see(&mut self, count: u64) {
         self.count = count;
     }

@@ -65,11 +65,6 @@ impl Places {
         self.move_to(number, place_of(next, number).saturating_add(PARKED));
     }
 
-    // A lease waits at this tick, or visit.
-    pub(crate) fn wait_for(&mut self, number: u16, tick: u64) {
-        self.move_to(number, place_at(tick, number));
-    }
-
     // A lease goes away, or has nothing to do.
     pub(crate) fn leave(&mut self, number: u16) {
         self.move_to(number, NOWHERE);

@@ -5,6 +5,8 @@
 pub(crate) struct Policy {
     /// How many visits there are for each component between two passes over all leases, each of which begins by raising the bound.
     pub(crate) visits_a_pass: u64,
+    /// How many visits there are at least between two times that the bound is raised before a pass is over, as it is where few components move.
+    pub(crate) visits_a_raise: u64,
     /// How many entries a component does at most in a visit beyond what the others have to do: what isn't committed yet has to
     /// stay in the processor's caches.
     pub(crate) most_window: u32,
@@ -41,6 +43,7 @@ pub(crate) struct Policy {
 
 pub(crate) const POLICY: Policy = Policy {
     visits_a_pass: 1,
+    visits_a_raise: 64,
     most_window: 8,
     most_held: 64,
     visits_ahead: 32,

@@ -2,7 +2,8 @@
 use crate::policy::POLICY;
 
 // A pass goes over the leases that wait and takes each that hasn't met the exchange for long. It begins once in some visits for each component,
-// and the bound is raised then, so that a visit costs the same however many components there are.
+// and the bound is raised then, so that a visit costs the same however many components there are. Where few of many components move, the bound is
+// raised more often, so that what they did since their bases doesn't grow with the number of the others.
 #[derive(Drop)]
 pub(crate) struct Rounds {
     // The number of the pass, from 1.
@@ -13,6 +14,11 @@ pub(crate) struct Rounds {
     visits: u64,
     // How many visits there were.
     all: u64,
+    // How often the bound was raised, and 1 more.
+    raises: u64,
+    // How many visits there were since it was raised last, and of how many components.
+    since: u64,
+    moved: u64,
 }
 
 impl Rounds {
@@ -23,6 +29,9 @@ impl Rounds {
             next: components,
             visits: 0,
             all: 0,
+            raises: 1,
+            since: 0,
+            moved: 0,
         }
     }
 
@@ -34,6 +43,32 @@ impl Rounds {
     pub(crate) fn visit(&mut self) {
         self.visits = self.visits.saturating_add(1);
         self.all = self.all.saturating_add(1);
+        self.since = self.since.saturating_add(1);
+    }
+
+    // A visit of a component ends, the first since the bound was raised or not.
+    pub(crate) fn note(&mut self, is_first: bool) {
+        if is_first {
+            self.moved = self.moved.saturating_add(1);
+        }
+    }
+
+    // The bound is raised.
+    pub(crate) fn raise(&mut self) {
+        self.raises = self.raises.saturating_add(1);
+        self.since = 0;
+        self.moved = 0;
+    }
+
+    // How often it was raised, and 1 more.
+    pub(crate) fn raises(&self) -> u64 {
+        self.raises
+    }
+
+    // Whether those that moved were visited again, half of them in the mean, in some visits at least: then it may be raised before the pass is over.
+    pub(crate) fn may_raise(&self) -> bool {
+        self.since >= POLICY.visits_a_raise
+            && self.since >= self.moved.saturating_add(self.moved / 2)
     }
 
     // How many visits there were.

@@ -3,16 +3,20 @@ ghost use Rattle.std.specs.Prelude.{◌≡◌, ◌≤◌, All, IfErr, IfOk, leng
 ghost use Rattle.std.specs.Arc.{arc_value};
 ghost use Rattle.gvt.specs.Seats.{IsSeatOf};
 ghost use Rattle.pools.specs.Passes.{IsOf as IsOfPool};
+ghost use Rattle.reference.specs.Schedules.{HasSchedulesBelow};
+ghost use Rattle.task_seed.specs.Setups.{plan_of, system};
 ghost use Rattle.workers.specs.Crews.{IsCallerOf, IsOf, IsOfAll};
 ghost use Rattle.workers.specs.Leases.{setup_of};
-ghost use Rattle.workers.specs.Runs.{WroteAll, WroteSome};
+ghost use Rattle.workers.specs.Runs.{WroteAll, WroteAllIn, WroteSome, WroteSomeIn};
 
+use crate::away::Away;
 use crate::crew::{Caller, Handed, Lent, Paced, Worker};
 use crate::depot::Depot;
 use crate::fault::{RunFault, WorkFault};
 use crate::gate::Gate;
 use crate::pace::Pace;
 use crate::places::Places;
+use crate::ready::Ready;
 use crate::shared::{Shared, end, note};
 use crate::stats::{Activity, Stats};
 use crate::waiting::Waiting;
@@ -32,7 +36,7 @@ use std::thread;
 use std::thread::Threads;
 use task_seed::{Setup, Turns};
 use terms::NoMemory;
-use trace::{Counted, Lines};
+use trace::{Counted, Form, Lines, write_front};
 
 /// What a run came to.
 #[derive(Clone, Copy, Debug, PartialEq, Eq)]
@@ -66,15 +70,17 @@ pub fn run<T: Turns, W: Write + Drop, G: Gate<T>, R: Threads + Wait + Sync>(
     requires workers { (1 ≤ workers) × (workers ≤ 64) }
     requires budget { (1 ≤ budget) × (budget ≤ 65535) }
     ensures whole { IfOk result (λ summary. WroteAll T.turn_of W.contents (arc_value setup) lines out.old out.new summary.turns) }
-    ensures unfinished { IfErr result (WroteSome T.turn_of W.contents (arc_value setup) lines out.old out.new) }
+    ensures unfinished { IfErr result (WroteSome T.turn_of W.contents (arc_value setup) lines out.old out.new 0) }
 {
-    match run_with_stats(rt, alloc, setup, workers, budget, gate, lines, out) {
+    let form = Form { lines, head: false };
+    match run_with_stats(rt, alloc, setup, workers, budget, gate, form, out) {
         Ok(stats) => Ok(Summary { turns: stats.turns }),
         Err(fault) => Err(fault),
     }
 }
 
-/// Does the same as [`run`], with the same faults, and answers what the workers did too.
+/// Does the same as [`run`], with the same faults, and answers what the workers did too. A head that is asked for goes out before any turn, and
+/// `written` counts its bytes.
 pub fn run_with_stats<T: Turns, W: Write + Drop, G: Gate<T>, R: Threads + Wait + Sync>(
     rt: &R,
     alloc: Global,
@@ -82,17 +88,48 @@ pub fn run_with_stats<T: Turns, W: Write + Drop, G: Gate<T>, R: Threads + Wait +
     workers: u16,
     budget: u32,
     gate: &G,
-    lines: Lines,
+    form: Form,
     out: &mut Counted<W>,
 ) -> Result<Stats, RunFault>
     requires workers { (1 ≤ workers) × (workers ≤ 64) }
     requires budget { (1 ≤ budget) × (budget ≤ 65535) }
-    ensures whole { IfOk result (λ stats. WroteAll T.turn_of W.contents (arc_value setup) lines out.old out.new stats.turns) }
-    ensures unfinished { IfErr result (WroteSome T.turn_of W.contents (arc_value setup) lines out.old out.new) }
+    ensures whole { IfOk result (λ stats. WroteAllIn T.turn_of W.contents (arc_value setup) form
+        out.old out.new stats.turns) }
+    ensures unfinished { IfErr result (WroteSomeIn T.turn_of W.contents (arc_value setup) form
+        out.old out.new) }
 {
     turns_are_schedule(&setup);
-    match start(rt, alloc, &setup, workers) {
-        Ok(begun) => run_begun(rt, alloc, &setup, begun, budget, gate, lines, out),
+    match write_front(form.head, out) {
+        Ok(before) => run_on(
+            rt, alloc, &setup, workers, budget, gate, form.lines, before, out,
+        ),
+        Err(fault) => Err(RunFault::Write(fault)),
+    }
+}
+
+// Runs, where so many bytes went out before the lines.
+fn run_on<T: Turns, W: Write + Drop, G: Gate<T>, R: Threads + Wait + Sync>(
+    rt: &R,
+    alloc: Global,
+    setup: &Arc<Setup<T>>,
+    workers: u16,
+    budget: u32,
+    gate: &G,
+    lines: Lines,
+    before: u64,
+    out: &mut Counted<W>,
+) -> Result<Stats, RunFault>
+    requires workers { (1 ≤ workers) × (workers ≤ 64) }
+    requires budget { (1 ≤ budget) × (budget ≤ 65535) }
+    requires known { HasSchedulesBelow (plan_of (arc_value setup.now))
+        (system T.turn_of (arc_value setup.now)) }
+    ensures whole { IfOk result (λ stats. WroteAll T.turn_of W.contents (arc_value setup.now)
+        lines out.old out.new stats.turns) }
+    ensures unfinished { IfErr result (WroteSome T.turn_of W.contents (arc_value setup.now)
+        lines out.old out.new before) }
+{
+    match start(rt, alloc, setup, workers) {
+        Ok(begun) => run_begun(rt, alloc, setup, begun, budget, gate, lines, before, out),
         Err(_refused) => Err(RunFault::NoMemory),
     }
 }
@@ -116,7 +153,7 @@ fn start<T: Turns, R: Wait>(
     ensures crew { IfOk result (λ begun. All (IsOf begun.shared) begun.crew.items) }
     ensures caller { IfOk result (λ begun. IsCallerOf begun.shared (arc_value setup.now) begun.caller) }
 {
-    let lent = Vec::from_array(alloc, [lend_out(alloc, setup)?])?;
+    let lent = Vec::from_array(alloc, [lend_out(alloc, setup, workers)?])?;
     let (exchange, mut locks) = Pool::new(rt, alloc, lent, workers + 1)?;
     let (published, mut seats) = Published::new(alloc, workers + 1)?;
     let (Some(lock), Some(seat)) = (locks.pop(), seats.pop()) else {
@@ -145,16 +182,21 @@ fn start<T: Turns, R: Wait>(
     })
 }
 
-// The exchange of a setup at its start, with its leases, as it waits in its pool.
-fn lend_out<T: Turns>(alloc: Global, setup: &Arc<Setup<T>>) -> Result<Lent<T>, NoMemory>
+// The exchange of a setup at its start, with its leases, as it waits in its pool for so many workers.
+fn lend_out<T: Turns>(
+    alloc: Global,
+    setup: &Arc<Setup<T>>,
+    workers: u16,
+) -> Result<Lent<T>, NoMemory>
     ensures { IfOk result (λ lent. lent.depot.value ≡ arc_value setup.now) }
 {
     let (exchange, leases) = start_exchange(alloc, setup)?;
     let components = exchange.setup().plan().components();
     let waiting = Waiting::new(alloc, exchange)?;
     let places = Places::new(alloc, components)?;
-    let away = Places::new(alloc, components)?;
-    let mut depot = Depot::new(waiting, places, away);
+    let away = Away::new(alloc, workers)?;
+    let ready = Ready::new(alloc, components)?;
+    let mut depot = Depot::new(waiting, places, away, ready);
     put_all(alloc, &mut depot, leases)?;
     let depot = Box::new(alloc, depot)?;
     Ok(Lent { depot })
@@ -227,12 +269,13 @@ fn run_begun<T: Turns, W: Write + Drop, G: Gate<T>, R: Threads + Wait + Sync>(
     budget: u32,
     gate: &G,
     lines: Lines,
+    before: u64,
     out: &mut Counted<W>,
 ) -> Result<Stats, RunFault>
     requires crew { All (IsOf begun.shared) begun.crew.items }
     requires caller { IsCallerOf begun.shared own.now begun.caller }
     ensures whole { IfOk result (λ stats. WroteAll T.turn_of W.contents own.now lines out.old out.new stats.turns) }
-    ensures unfinished { IfErr result (WroteSome T.turn_of W.contents own.now lines out.old out.new) }
+    ensures unfinished { IfErr result (WroteSome T.turn_of W.contents own.now lines out.old out.new before) }
 {
     let Begun {
         shared,
@@ -240,7 +283,7 @@ fn run_begun<T: Turns, W: Write + Drop, G: Gate<T>, R: Threads + Wait + Sync>(
         caller,
     } = begun;
     lend(
-        rt, alloc, &shared, own, crew, caller, budget, gate, lines, out,
+        rt, alloc, &shared, own, crew, caller, budget, gate, lines, before, out,
     )
 }
 
@@ -255,12 +298,13 @@ fn lend<'x, T: Turns, W: Write + Drop, G: Gate<T>, R: Threads + Wait + Sync>(
     budget: u32,
     gate: &'x G,
     lines: Lines,
+    before: u64,
     out: &mut Counted<W>,
 ) -> Result<Stats, RunFault>
     requires crew { All (IsOf shared.now) crew.items }
     requires caller { IsCallerOf shared.now own.now caller }
     ensures whole { IfOk result (λ stats. WroteAll T.turn_of W.contents own.now lines out.old out.new stats.turns) }
-    ensures unfinished { IfErr result (WroteSome T.turn_of W.contents own.now lines out.old out.new) }
+    ensures unfinished { IfErr result (WroteSome T.turn_of W.contents own.now lines out.old out.new before) }
 {
     replace_with(
         out,
@@ -271,10 +315,10 @@ fn lend<'x, T: Turns, W: Write + Drop, G: Gate<T>, R: Threads + Wait + Sync>(
         )
             requires { All (IsOf shared.now) hands.0.items × IsCallerOf shared.now own.now hands.1 }
             ensures whole { IfOk result.1 (λ stats. WroteAll T.turn_of W.contents own.entry.now lines lent result.0 stats.turns) }
-            ensures unfinished { IfErr result.1 (WroteSome T.turn_of W.contents own.entry.now lines lent result.0) }
+            ensures unfinished { IfErr result.1 (WroteSome T.turn_of W.contents own.entry.now lines lent result.0 before) }
         {
             in_scope(
-                rt, alloc, shared, own, hands.0, hands.1, budget, gate, lines, lent,
+                rt, alloc, shared, own, hands.0, hands.1, budget, gate, lines, before, lent,
             )
         },
     )
@@ -291,12 +335,13 @@ fn in_scope<'x, T: Turns, W: Write + Drop, G: Gate<T>, R: Threads + Wait + Sync>
     budget: u32,
     gate: &'x G,
     lines: Lines,
+    before: u64,
     out: Counted<W>,
 ) -> (Counted<W>, Result<Stats, RunFault>)
     requires crew { All (IsOf shared.now) crew.items }
     requires caller { IsCallerOf shared.now own.now caller }
     ensures whole { IfOk result.1 (λ stats. WroteAll T.turn_of W.contents own.now lines out result.0 stats.turns) }
-    ensures unfinished { IfErr result.1 (WroteSome T.turn_of W.contents own.now lines out result.0) }
+    ensures unfinished { IfErr result.1 (WroteSome T.turn_of W.contents own.now lines out result.0 before) }
 {
     thread::scope(
         thread::scope_env(),
@@ -304,7 +349,7 @@ fn in_scope<'x, T: Turns, W: Write + Drop, G: Gate<T>, R: Threads + Wait + Sync>
         move |scope| -> (Counted<W>, Result<Stats, RunFault>)
             requires { All (IsOf shared.now) crew.items × IsCallerOf shared.now own.now caller }
             ensures whole { IfOk result.1 (λ stats. WroteAll T.turn_of W.contents own.entry.now lines out result.0 stats.turns) }
-            ensures unfinished { IfErr result.1 (WroteSome T.turn_of W.contents own.entry.now lines out result.0) }
+            ensures unfinished { IfErr result.1 (WroteSome T.turn_of W.contents own.entry.now lines out result.0 before) }
         {
             for worker in crew {
                 if !gate.may_start(worker.number) {
@@ -323,7 +368,7 @@ fn in_scope<'x, T: Turns, W: Write + Drop, G: Gate<T>, R: Threads + Wait + Sync>
             }
             let mut caller = caller;
             let mut out = out;
-            let result = write_all(rt, shared, own, &mut caller, lines, &mut out);
+            let result = write_all(rt, shared, own, &mut caller, lines, before, &mut out);
             if result.is_err() {
                 end(shared);
             }

@@ -10,8 +10,9 @@ use crate::fault::WorkFault;
 use crate::gate::Gate;
 use crate::patience::Patience;
 use crate::shared::{Shared, end, ends, hold, looks, note};
-use event_keys::Bound;
+use event_keys::{Bound, Turned};
 use exchange::{Lease, MeetRefused};
+use raw_events::EventList;
 use std::alloc::Global;
 use std::sync::Wait;
 use task_seed::Turns;
@@ -96,7 +97,7 @@ fn change<T: Turns, R: Wait>(
     lent.depot.note_wait(patience.take_waited());
     lent.depot.take_spare(&mut worker.spare);
     let visit = go_round(shared, &mut *lent.depot, worker, done, rests);
-    patience.see(lent.depot.count());
+    patience.see(lent.depot.ready());
     shared.exchange.give_back(rt, &mut worker.lock, lent);
     visit
 }
@@ -109,7 +110,7 @@ fn is_risky<T: Turns>(done: &Option<Handed<T>>) -> bool {
     }
 }
 
-// The same, where this is what the lock protects. The number of the turns below the bound is published where it has changed.
+// The same, where this is what the lock protects. The number of the turns that a chunk can have given is published where it has changed.
 fn go_round<T: Turns>(
     shared: &Shared<T>,
     depot: &mut Depot<T>,
@@ -125,21 +126,34 @@ fn go_round<T: Turns>(
     ensures lock { worker.new.lock ≡ worker.old.lock }
     ensures visit { IfOk result (IsVisitOf depot.old) }
 {
+    let before = depot.ready();
     if let Some(handed) = done {
         depot.share(handed, &mut worker.spare)?;
     }
-    if rests || ends(shared) {
-        return Ok(None);
-    }
-    let before = depot.count();
-    let visit = depot.take_next(&mut worker.spare)?;
-    if depot.count() != before {
-        shared.published.publish(&mut worker.seat, depot.count());
+    let visit = next_visit(shared, depot, &mut worker.spare, rests)?;
+    if depot.ready() != before {
+        shared.published.publish(&mut worker.seat, depot.ready());
     }
     if depot.finished() {
         end(shared);
     }
     Ok(visit)
+}
+
+// The next lease, unless the worker is to rest, or all are to end.
+fn next_visit<T: Turns>(
+    shared: &Shared<T>,
+    depot: &mut Depot<T>,
+    spare: &mut EventList<Turned>,
+    rests: bool,
+) -> Result<Option<Visit<T>>, MeetRefused>
+    ensures same { depot.new ≡ depot.old }
+    ensures own { IfOk result (IsVisitOf depot.old) }
+{
+    if rests || ends(shared) {
+        return Ok(None);
+    }
+    depot.take_next(spare)
 }
 
 // Without the lock: a lease delivers what came to it, and runs ahead as the gate lets it.

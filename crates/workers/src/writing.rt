@@ -128,22 +128,24 @@ fn rest<T: Turns, R: Wait>(rt: &R, shared: &Shared<T>) {
     }
 }
 
-// Writes portions until the last. What was written is a beginning of the text of all turns, whose actions are a schedule.
+// Writes portions until the last, where so many bytes went out before. What was written is a beginning of the text of all turns, whose actions
+// are a schedule.
 pub(crate) fn write_all<T: Turns, W: Write, R: Wait>(
     rt: &R,
     shared: &Shared<T>,
     own: &Setup<T>,
     caller: &mut Caller<T>,
     lines: Lines,
+    before: u64,
     out: &mut Counted<W>,
 ) -> Result<Stats, RunFault>
     requires { IsCallerOf shared.now own.now caller.old }
     ensures whole { IfOk result (λ stats. WroteAll T.turn_of W.contents own.now lines out.old out.new stats.turns) }
-    ensures unfinished { IfErr result (WroteSome T.turn_of W.contents own.now lines out.old out.new) }
+    ensures unfinished { IfErr result (WroteSome T.turn_of W.contents own.now lines out.old out.new before) }
 {
     turns_are_schedule(own);
     let mut written = 0;
-    let mut bytes = 0;
+    let mut bytes = before;
     let mut spare = EventList::new();
     for _ in rt.forever() {
         let mut portion = match next_portion(rt, shared, own, caller, written, &mut spare) {

@@ -18,12 +18,12 @@ due : {s : System} (p : Portion) (o : Option Portion) → o ≡ Some p → IsDue
 due {s} p o is h = subst (IsDuePortion s) is h
 
 pub loop-init : goal.loop-init
-loop-init g c = record { caller = c.requires; sofar = starts c.args.out.now }
+loop-init g c = record { caller = c.requires; sofar = starts c.args.out.now c.args.before (omega arith) }
 
 pub returns-in-Err-clause-unfinished : goal.returns-in-Err-clause-unfinished
 returns-in-Err-clause-unfinished g c =
     let own = c.args.own.now in
-    subst (λ (f : RunFault). IsUnfinished (plan_of own) (system g.T.Turns.turn_of own) c.args.lines (IsWritten g.W.Write.contents c.args.out.now c.loop.out) (Stops g.W.Write.contents c.args.out.now c.loop.out 0) f) (sym c.run_fault.ensures)
+    subst (λ (f : RunFault). IsUnfinished (plan_of own) (system g.T.Turns.turn_of own) c.args.lines (IsWritten g.W.Write.contents c.args.out.now c.loop.out) (Stops g.W.Write.contents c.args.out.now c.loop.out c.args.before) f) (sym c.run_fault.ensures)
     (unfinished c.turns_are_schedule.ensures.below c.in-Err.fault c.loop.invariant.sofar)
 
 pub returns-then-portion-written-clause-unfinished : goal.returns-then-portion-written-clause-unfinished
