@@ -25,4 +25,5 @@ module _ (plan : Plan) (bytes : List ℕ) (kept : Type 0) (wrote : List ℕ → 
   unjudged_reported (fault.Trace lines.NoMemory) left = inl (refl, left.1)
   unjudged_reported (fault.Trace (lines.BadLine line)) left = (record { error = lines.BadLine line; refused = left.0; judged = λ e. absurd (omega (arith, e)); number_is = refl; place_is = refl }, left.1)
   unjudged_reported (fault.Trace (lines.UnknownAction line)) left = (record { error = lines.UnknownAction line; refused = left.0; judged = λ e. absurd (omega (arith, e)); number_is = refl; place_is = refl }, left.1)
+  unjudged_reported (fault.Trace (lines.NotInOrder line)) left = (record { error = lines.NotInOrder line; refused = left.0; judged = λ e. absurd (omega (arith, e)); number_is = refl; place_is = refl }, left.1)
   unjudged_reported (fault.Write (WriteFailed written)) left = inr (record { number_is = refl; written = written; stopped = record { verdict = left.verdict; one = tt; judged = left.cut } })

@@ -5,7 +5,8 @@ use Rattle.plans.specs.declared.plan.Plan.{Plan}
 use Rattle.task_seed.specs.Turning.{System}
 use Rattle.exchange.specs.declared.judging.MeetRefused.TheVariants.{OtherSetup, Stranger}
 use Rattle.trace.specs.declared.counted.Counted.{Counted}
-use Rattle.trace.specs.declared.lines.Lines.{Lines}
+use Rattle.trace.specs.declared.texts.Form.{Form}
+use Rattle.trace.specs.Headed.{Behind, headed}
 use Rattle.trace.specs.Puts.{Stops}
 use Rattle.trace.specs.Went.{IsStopped, IsWritten}
 use Rattle.workers.specs.declared.fault.RunFault.{RunFault}
@@ -16,17 +17,17 @@ use Rattle.workers.specs.Runs.{IsUnfinished, IsWhole}
 use Rattle.service.specs.Crews.{IsCrewReport, done}
 use Rattle.service.specs.Reports.{report_of}
 
-module _ {W : Type 0} (known : W → Option (List ℕ)) (old new : Counted W) (plan : Plan) (system : System) (lines : Lines) (stats : Bool) (kept : Type 0) where
+module _ {W : Type 0} (known : W → Option (List ℕ)) (old new : Counted W) (plan : Plan) (system : System) (form : Form) (stats : Bool) (kept : Type 0) where
   -- a run that is done
-  pub done_reported : (counts : Stats) → IsWhole plan system lines (IsWritten known old new) counts.turns → IsCrewReport plan system lines stats kept (IsWritten known old new) (IsStopped known old new) (done stats counts)
+  pub done_reported : (counts : Stats) → IsWhole plan system form.lines (Behind form.head (IsWritten known old new)) counts.turns → IsCrewReport plan system form stats kept (IsWritten known old new) (IsStopped known old new) (done stats counts)
   done_reported counts whole = go stats refl
     where
-      go : (b : Bool) → stats ≡ b → IsCrewReport plan system lines stats kept (IsWritten known old new) (IsStopped known old new) (done b counts)
+      go : (b : Bool) → stats ≡ b → IsCrewReport plan system form stats kept (IsWritten known old new) (IsStopped known old new) (done b counts)
       go true is = (is, whole)
       go false is = (is, record { count = counts.turns; whole = whole })
 
   -- a run that ended early
-  pub unfinished_reported : (e : RunFault) → IsUnfinished plan system lines (IsWritten known old new) (Stops known old new 0) e → IsCrewReport plan system lines stats kept (IsWritten known old new) (IsStopped known old new) (report_of (run_number e) None)
+  pub unfinished_reported : (e : RunFault) → IsUnfinished plan system form.lines (Behind form.head (IsWritten known old new)) (λ text. Stops known old new 0 (headed form.head text)) e → IsCrewReport plan system form stats kept (IsWritten known old new) (IsStopped known old new) (report_of (run_number e) None)
   unfinished_reported fault.NoMemory left = inl (inl refl, inr left)
   unfinished_reported (fault.Meeting OtherSetup) left = inl (inr (inl refl), inr left)
   unfinished_reported (fault.Meeting Stranger) left = inl (inr (inr (inl refl)), inr left)

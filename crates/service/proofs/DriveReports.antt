@@ -8,7 +8,8 @@ use Rattle.event_keys.specs.declared.step.Step.{Step}
 use Rattle.trace.specs.declared.counted.Counted.{Counted}
 use Rattle.trace.specs.declared.fault.TraceError.{TraceError}
 use Rattle.trace.specs.declared.fault.TraceError.TheVariants as lines_at
-use Rattle.trace.specs.declared.lines.Lines.{Lines}
+use Rattle.trace.specs.declared.texts.Form.{Form}
+use Rattle.trace.specs.Headed.{Behind, headed}
 use Rattle.trace.specs.Puts.{Stops}
 use Rattle.trace.specs.Refusals.{trace_number, trace_place}
 use Rattle.trace.specs.StepFile.{GivesSteps, IsStepsFault}
@@ -21,9 +22,9 @@ use Rattle.commands.specs.Refusals.{drive_number}
 use Rattle.service.specs.Drives.{IsDrivenBy, IsStepsReport}
 use Rattle.service.specs.Reports.{report_of}
 
-module _ (plan : Plan) (system : System) (lines : Lines) (bytes : List ℕ) (kept : Type 0) (wrote : List ℕ → Type 0) (cut : List ℕ → ℕ → Type 0) where
+module _ (plan : Plan) (system : System) (form : Form) (bytes : List ℕ) (kept : Type 0) (wrote : List ℕ → Type 0) (cut : List ℕ → ℕ → Type 0) where
   -- the steps were done
-  pub steps_driven : (steps : List Step) → GivesSteps plan (lines_of bytes) steps → (refused : List RefusedStep) → IsDriven plan system lines steps wrote refused → IsDrivenBy plan system lines wrote refused bytes
+  pub steps_driven : (steps : List Step) → GivesSteps plan (lines_of bytes) steps → (refused : List RefusedStep) → IsDriven plan system form.lines steps (Behind form.head wrote) refused → IsDrivenBy plan system form.lines (Behind form.head wrote) refused bytes
   steps_driven steps given refused driven = record { steps = steps; given = given; driven = driven }
 
   -- steps of what was read
@@ -31,14 +32,15 @@ module _ (plan : Plan) (system : System) (lines : Lines) (bytes : List ℕ) (kep
   given_here seen same steps given are gives = subst (GivesSteps plan (lines_of bytes)) (sym are) (subst (λ (p : Plan). GivesSteps p (lines_of bytes) steps) same gives)
 
   -- a line is no step
-  pub steps_refused : (e : TraceError) → IsStepsFault plan bytes e → kept → IsStepsReport plan system lines bytes kept wrote cut (report_of (trace_number e) (trace_place e))
+  pub steps_refused : (e : TraceError) → IsStepsFault plan bytes e → kept → IsStepsReport plan system form bytes kept wrote cut (report_of (trace_number e) (trace_place e))
   steps_refused lines_at.NoMemory refused k = inl (refl, k)
   steps_refused (lines_at.BadLine line) refused k = (record { error = lines_at.BadLine line; refused = refused; judged = λ e. absurd (omega (arith, e)); number_is = refl; place_is = refl }, k)
   steps_refused (lines_at.UnknownAction line) refused k = (record { error = lines_at.UnknownAction line; refused = refused; judged = λ e. absurd (omega (arith, e)); number_is = refl; place_is = refl }, k)
+  steps_refused (lines_at.NotInOrder line) refused k = absurd refused
 
   -- a fault of the world, or of the writer
   pub steps_undriven : {W : Type 0} (known : W → Option (List ℕ)) (old new : Counted W) (steps : List Step) → GivesSteps plan (lines_of bytes) steps → (e : DriveFault)
-      → IsUndriven plan system lines steps kept (Stops known old new 0) e → IsStepsReport plan system lines bytes kept wrote (IsStopped known old new) (report_of (drive_number e) None)
+      → IsUndriven plan system form.lines steps kept (λ text. Stops known old new 0 (headed form.head text)) e → IsStepsReport plan system form bytes kept wrote (IsStopped known old new) (report_of (drive_number e) None)
   steps_undriven known old new steps given fault.NoMemory left = inl (refl, left)
   steps_undriven known old new steps given (fault.Write failed) left = inr (record {
     number_is = refl;

@@ -5,8 +5,9 @@ use Rattle.plans.specs.declared.plan.Plan.{Plan}
 use Rattle.reference.specs.declared.checking.Verdict.{Verdict}
 use Rattle.task_seed.specs.Turning.{System}
 use Rattle.trace.specs.declared.counted.Counted.{Counted}
-use Rattle.trace.specs.declared.lines.Lines.{Lines}
+use Rattle.trace.specs.declared.texts.Form.{Form}
 use Rattle.trace.specs.Counts.{writer_of}
+use Rattle.trace.specs.Headed.{Behind}
 use Rattle.trace.specs.Went.{IsStopped, IsWritten}
 use Rattle.command_line.specs.declared.Asked.{Asked}
 use Rattle.command_line.specs.declared.Asked.TheVariants as asked
@@ -17,7 +18,7 @@ use Rattle.service.specs.declared.report.Report.TheVariants.{Done, No, Driven, R
 use Rattle.service.specs.Checks.{IsActionsReport, IsNo, IsVerdictOn, IsYes}
 use Rattle.service.specs.Crews.{IsCrewReport}
 use Rattle.service.specs.Drives.{IsStepsReport}
-use Rattle.service.specs.FileReports.{FilesMean, FilesMeanNone, IsCheckFileReport, IsDriveFileReport, IsRunFileReport, IsSimulateFileReport, IsSmallReport, lines_for}
+use Rattle.service.specs.FileReports.{FilesMean, FilesMeanNone, IsCheckFileReport, IsDriveFileReport, IsRunFileReport, IsSimulateFileReport, IsSmallReport, form_for}
 use Rattle.service.specs.Flushed.{IsFlushed, IsFlushedWhere}
 use Rattle.service.specs.Parts.{IsSimulationReport}
 use Rattle.service.specs.Reports.{is_served, IsFlushedReport, IsInformed, IsPrintReport, IsReport, IsReportOn, IsUnserved}
@@ -37,41 +38,41 @@ module _ (wrote again : List ℕ → Type 0) (stays : (text : List ℕ) → wrot
   print_again has lacks (Fault number) s p = cc
   print_again has lacks Misused s p = cc
 
-  simulation_again : (plan : Plan) (system : System) (lines : Lines) (report : Report) → is_served report ≡ true → IsSimulationReport plan system lines wrote cut report → IsSimulationReport plan system lines again later report
-  simulation_again plan system lines Done s p = record { turns = p.turns; are = p.are; became = stays _ p.became }
-  simulation_again plan system lines No s p = p
-  simulation_again plan system lines (Driven refused) s p = p
-  simulation_again plan system lines (Ran stats) s p = p
-  simulation_again plan system lines (Refused number place) s p = cc
-  simulation_again plan system lines (Fault number) s p = cc
-  simulation_again plan system lines Misused s p = p
+  simulation_again : (plan : Plan) (system : System) (form : Form) (report : Report) → is_served report ≡ true → IsSimulationReport plan system form wrote cut report → IsSimulationReport plan system form again later report
+  simulation_again plan system form Done s p = record { turns = p.turns; are = p.are; became = stays _ p.became }
+  simulation_again plan system form No s p = p
+  simulation_again plan system form (Driven refused) s p = p
+  simulation_again plan system form (Ran stats) s p = p
+  simulation_again plan system form (Refused number place) s p = cc
+  simulation_again plan system form (Fault number) s p = cc
+  simulation_again plan system form Misused s p = p
 
-  whole_again : (plan : Plan) (system : System) (lines : Lines) (count : ℕ) → IsWhole plan system lines wrote count → IsWhole plan system lines again count
-  whole_again plan system lines count w = record { turns = w.turns; are = w.are; count_is = w.count_is; became = stays _ w.became }
+  whole_again : (plan : Plan) (system : System) (form : Form) (count : ℕ) → IsWhole plan system form.lines (Behind form.head wrote) count → IsWhole plan system form.lines (Behind form.head again) count
+  whole_again plan system form count w = record { turns = w.turns; are = w.are; count_is = w.count_is; became = stays _ w.became }
 
-  crew_again : (plan : Plan) (system : System) (lines : Lines) (stats : Bool) (report : Report) → is_served report ≡ true → IsCrewReport plan system lines stats kept wrote cut report → IsCrewReport plan system lines stats still again later report
-  crew_again plan system lines stats Done s p = (p.0, record { count = p.1.count; whole = whole_again plan system lines p.1.count p.1.whole })
-  crew_again plan system lines stats No s p = p
-  crew_again plan system lines stats (Driven refused) s p = p
-  crew_again plan system lines stats (Ran counts) s p = (p.0, whole_again plan system lines counts.turns p.1)
-  crew_again plan system lines stats (Refused number place) s p = cc
-  crew_again plan system lines stats (Fault number) s p = cc
-  crew_again plan system lines stats Misused s p = cc
+  crew_again : (plan : Plan) (system : System) (form : Form) (stats : Bool) (report : Report) → is_served report ≡ true → IsCrewReport plan system form stats kept wrote cut report → IsCrewReport plan system form stats still again later report
+  crew_again plan system form stats Done s p = (p.0, record { count = p.1.count; whole = whole_again plan system form p.1.count p.1.whole })
+  crew_again plan system form stats No s p = p
+  crew_again plan system form stats (Driven refused) s p = p
+  crew_again plan system form stats (Ran counts) s p = (p.0, whole_again plan system form counts.turns p.1)
+  crew_again plan system form stats (Refused number place) s p = cc
+  crew_again plan system form stats (Fault number) s p = cc
+  crew_again plan system form stats Misused s p = cc
 
-  steps_again : (plan : Plan) (system : System) (lines : Lines) (bytes : List ℕ) (report : Report) → is_served report ≡ true → IsStepsReport plan system lines bytes kept wrote cut report → IsStepsReport plan system lines bytes still again later report
-  steps_again plan system lines bytes Done s p = p
-  steps_again plan system lines bytes No s p = p
-  steps_again plan system lines bytes (Driven refused) s p =
+  steps_again : (plan : Plan) (system : System) (form : Form) (bytes : List ℕ) (report : Report) → is_served report ≡ true → IsStepsReport plan system form bytes kept wrote cut report → IsStepsReport plan system form bytes still again later report
+  steps_again plan system form bytes Done s p = p
+  steps_again plan system form bytes No s p = p
+  steps_again plan system form bytes (Driven refused) s p =
       let d = p.driven in
       record {
         steps = p.steps;
         given = p.given;
         driven = record { replies = d.replies; world = d.world; runs = d.runs; refused_are = d.refused_are; turns = d.turns; committed = d.committed; beginning = d.beginning; became = stays _ d.became };
       }
-  steps_again plan system lines bytes (Ran stats) s p = p
-  steps_again plan system lines bytes (Refused number place) s p = cc
-  steps_again plan system lines bytes (Fault number) s p = cc
-  steps_again plan system lines bytes Misused s p = p
+  steps_again plan system form bytes (Ran stats) s p = p
+  steps_again plan system form bytes (Refused number place) s p = cc
+  steps_again plan system form bytes (Fault number) s p = cc
+  steps_again plan system form bytes Misused s p = p
 
   verdict_again : (IsOne : Verdict → Type 0) (plan : Plan) (bytes : List ℕ) → IsVerdictOn IsOne wrote plan bytes → IsVerdictOn IsOne again plan bytes
   verdict_again IsOne plan bytes v =
@@ -98,24 +99,24 @@ module _ (wrote again : List ℕ → Type 0) (stays : (text : List ℕ) → wrot
     meant_again options Ends Later = engine_again (FilesMean has source options) (FilesMeanNone has lacks source options) kept still Ends Later report s (none_refused has lacks options source report)
 
     simulate_again : (options : Options) → IsSimulateFileReport has lacks source options kept wrote cut report → IsSimulateFileReport has lacks source options still again later report
-    simulate_again options = meant_again options (λ plan system. IsSimulationReport plan system (lines_for options.trace) wrote cut) (λ plan system. IsSimulationReport plan system (lines_for options.trace) again later)
-        (λ plan system. simulation_again plan system (lines_for options.trace) report s)
+    simulate_again options = meant_again options (λ plan system. IsSimulationReport plan system (form_for options) wrote cut) (λ plan system. IsSimulationReport plan system (form_for options) again later)
+        (λ plan system. simulation_again plan system (form_for options) report s)
 
     run_again : (options : Options) (stats : Bool) → IsRunFileReport has lacks source options stats kept wrote cut report → IsRunFileReport has lacks source options stats still again later report
-    run_again options stats = meant_again options (λ plan system. IsCrewReport plan system (lines_for options.trace) stats kept wrote cut) (λ plan system. IsCrewReport plan system (lines_for options.trace) stats still again later)
-        (λ plan system. crew_again plan system (lines_for options.trace) stats report s)
+    run_again options stats = meant_again options (λ plan system. IsCrewReport plan system (form_for options) stats kept wrote cut) (λ plan system. IsCrewReport plan system (form_for options) stats still again later)
+        (λ plan system. crew_again plan system (form_for options) stats report s)
 
     module _ (options : Options) (steps : List ℕ) where
       abbrev before : Plan → System → List ℕ → Report → Type 0
-      before plan system bytes = IsStepsReport plan system (lines_for options.trace) bytes kept wrote cut
+      before plan system bytes = IsStepsReport plan system (form_for options) bytes kept wrote cut
 
       abbrev after : Plan → System → List ℕ → Report → Type 0
-      after plan system bytes = IsStepsReport plan system (lines_for options.trace) bytes still again later
+      after plan system bytes = IsStepsReport plan system (form_for options) bytes still again later
 
       drive_again : IsDriveFileReport has lacks source steps options kept wrote cut report → IsDriveFileReport has lacks source steps options still again later report
       drive_again =
           meant_again options (λ plan system. IsSmallReport (has steps) (lacks steps) kept (before plan system)) (λ plan system. IsSmallReport (has steps) (lacks steps) still (after plan system))
-          (λ plan system. small_again (has steps) (lacks steps) (before plan system) (after plan system) report s (λ bytes. steps_again plan system (lines_for options.trace) bytes report s))
+          (λ plan system. small_again (has steps) (lacks steps) (before plan system) (after plan system) report s (λ bytes. steps_again plan system (form_for options) bytes report s))
 
     check_again : (trace : List ℕ) → IsCheckFileReport has lacks source trace kept wrote cut report → IsCheckFileReport has lacks source trace still again later report
     check_again trace (inl n) = absurd (unserved report s (no_plan_refused (has source) (lacks source) report n.0))

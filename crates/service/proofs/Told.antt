@@ -13,7 +13,7 @@ use Rattle.service.specs.Told.{IsTold, IsWarned}
 use Rattle.service.specs.Checks.{IsActionsReport}
 use Rattle.service.specs.Crews.{IsCrewReport}
 use Rattle.service.specs.Drives.{IsStepsReport}
-use Rattle.service.specs.FileReports.{IsSmallReport, lines_for}
+use Rattle.service.specs.FileReports.{IsSmallReport, form_for}
 use Rattle.service.specs.Parts.{IsSimulationReport}
 use Rattle.service.specs.Written.{IsSaid}
 use Rattle.service.proofs.FileReports.{no_plan_refused, not_misused, small_not_misused}
@@ -29,14 +29,14 @@ module _ {E : Type 0} (known : E → Option (List ℕ)) where
   asked_not_warned has lacks kept wrote cut old what (Refused number place) on = refl
   asked_not_warned has lacks kept wrote cut old what (Fault number) on = refl
   asked_not_warned has lacks kept wrote cut old (asked.Print source) Misused on = absurd on
-  asked_not_warned has lacks kept wrote cut old (asked.Reference source options) Misused on = absurd (not_misused has lacks options source.now kept (λ plan system. IsSimulationReport plan system (lines_for options.trace) wrote cut) (λ plan system no. no) on)
-  asked_not_warned has lacks kept wrote cut old (asked.Run source options crew) Misused on = absurd (not_misused has lacks options source.now kept (λ plan system. IsCrewReport plan system (lines_for options.trace) crew.stats kept wrote cut) (λ plan system no. no) on)
+  asked_not_warned has lacks kept wrote cut old (asked.Reference source options) Misused on = absurd (not_misused has lacks options source.now kept (λ plan system. IsSimulationReport plan system (form_for options) wrote cut) (λ plan system no. no) on)
+  asked_not_warned has lacks kept wrote cut old (asked.Run source options crew) Misused on = absurd (not_misused has lacks options source.now kept (λ plan system. IsCrewReport plan system (form_for options) crew.stats kept wrote cut) (λ plan system no. no) on)
   asked_not_warned has lacks kept wrote cut old (asked.Check source trace) Misused (inl none) = absurd (no_plan_refused (has source.now) (lacks source.now) Misused none.0)
   asked_not_warned has lacks kept wrote cut old (asked.Check source trace) Misused (inr s) =
       let plan = s.judged.plan in
       absurd (small_not_misused (has trace.now) (lacks trace.now) kept (λ bytes. IsActionsReport plan bytes kept wrote cut) (λ bytes no. no) s.judged.holds)
   asked_not_warned has lacks kept wrote cut old (asked.Drive source steps options) Misused on =
-      let ends : Plan → System → List ℕ → Report → Type 0 = λ plan system bytes. IsStepsReport plan system (lines_for options.trace) bytes kept wrote cut in
+      let ends : Plan → System → List ℕ → Report → Type 0 = λ plan system bytes. IsStepsReport plan system (form_for options) bytes kept wrote cut in
       absurd (not_misused has lacks options source.now kept (λ plan system. IsSmallReport (has steps.now) (lacks steps.now) kept (ends plan system))
       (λ plan system. small_not_misused (has steps.now) (lacks steps.now) kept (ends plan system) (λ bytes no. no)) on)
 

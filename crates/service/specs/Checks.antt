@@ -5,7 +5,7 @@ use Rattle.reference.specs.declared.checking.Verdict.{Verdict}
 use Rattle.reference.specs.declared.checking.Verdict.TheVariants.{Schedule, NotEnabled, NotAnAction}
 use Rattle.trace.specs.declared.fault.TraceError.{TraceError}
 use Rattle.trace.specs.Refusals.{trace_number, trace_place}
-use Rattle.trace.specs.TraceFile.{IsTraceFault}
+use Rattle.trace.specs.Versions.{HasFault}
 use Rattle.commands.specs.Judged.{IsJudged}
 use Rattle.service.specs.declared.report.Report.{Report}
 use Rattle.service.specs.declared.report.Report.TheVariants.{Done, No, Driven, Ran, Refused, Fault, Misused}
@@ -59,7 +59,7 @@ IsActionsReport plan bytes kept wrote cut No = IsVerdictOn IsNo wrote plan bytes
 IsActionsReport plan bytes kept wrote cut (Driven refused) = ⊥
 IsActionsReport plan bytes kept wrote cut (Ran stats) = ⊥
 IsActionsReport plan bytes kept wrote cut (Refused number place) =
-    HasBadLine IsTraceFault number place plan bytes × kept
+    HasBadLine HasFault number place plan bytes × kept
 IsActionsReport plan bytes kept wrote cut (Fault number) =
     (IsMemory number × kept) ⊎ IsCheckCut plan bytes cut number
 IsActionsReport plan bytes kept wrote cut Misused = ⊥

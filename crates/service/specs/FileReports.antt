@@ -6,6 +6,7 @@ use Rattle.plans.specs.Plans.{composition}
 use Rattle.task_seed.specs.Turning.{System}
 use Rattle.trace.specs.declared.lines.Lines.{Lines}
 use Rattle.trace.specs.declared.lines.Lines.TheVariants.{All, Trace}
+use Rattle.trace.specs.declared.texts.Form.{Form}
 use Rattle.command_line.specs.declared.Options.{Options}
 use Rattle.service.specs.declared.report.Report.{Report}
 use Rattle.service.specs.Checks.{IsActionsReport}
@@ -21,6 +22,10 @@ use Rattle.service.specs.Unread.{HasSmall, IsFileFault, IsSourceWith, IsUnread}
 abbrev pub lines_for : Bool → Lines
 lines_for true = Trace
 lines_for false = All
+
+-- how the turns that are asked for are written
+abbrev pub form_for : Options → Form
+form_for options = record { lines = lines_for options.trace; head = options.head }
 
 -- the table that is asked for
 abbrev pub table_of : Options → Option (List ℕ)
@@ -81,13 +86,13 @@ abbrev pub IsSimulateFileReport : (List ℕ → List ℕ → Type 0) → (List �
     → Type 0 → (List ℕ → Type 0) → (List ℕ → ℕ → Type 0) → Report → Type 0
 IsSimulateFileReport has lacks source options kept wrote cut =
     IsEngineReport (FilesMean has source options) (FilesMeanNone has lacks source options) kept
-    (λ plan system. IsSimulationReport plan system (lines_for options.trace) wrote cut)
+    (λ plan system. IsSimulationReport plan system (form_for options) wrote cut)
 
 abbrev pub IsRunFileReport : (List ℕ → List ℕ → Type 0) → (List ℕ → Type 0) → List ℕ → Options
     → Bool → Type 0 → (List ℕ → Type 0) → (List ℕ → ℕ → Type 0) → Report → Type 0
 IsRunFileReport has lacks source options stats kept wrote cut =
     IsEngineReport (FilesMean has source options) (FilesMeanNone has lacks source options) kept
-    (λ plan system. IsCrewReport plan system (lines_for options.trace) stats kept wrote cut)
+    (λ plan system. IsCrewReport plan system (form_for options) stats kept wrote cut)
 
 -- the steps are read last
 abbrev pub IsDriveFileReport : (List ℕ → List ℕ → Type 0) → (List ℕ → Type 0) → List ℕ → List ℕ
@@ -95,7 +100,7 @@ abbrev pub IsDriveFileReport : (List ℕ → List ℕ → Type 0) → (List ℕ 
 IsDriveFileReport has lacks source steps options kept wrote cut =
     IsEngineReport (FilesMean has source options) (FilesMeanNone has lacks source options) kept
     (λ plan system. IsSmallReport (has steps) (lacks steps) kept
-    (λ bytes. IsStepsReport plan system (lines_for options.trace) bytes kept wrote cut))
+    (λ bytes. IsStepsReport plan system (form_for options) bytes kept wrote cut))
 
 -- the source is judged before the actions are read
 abbrev pub IsCheckFileReport : (List ℕ → List ℕ → Type 0) → (List ℕ → Type 0) → List ℕ → List ℕ

@@ -3,7 +3,7 @@ use Rattle.std.specs.Prelude.{◌⊎◌, ℕ, List}
 use Rattle.plans.specs.declared.plan.Plan.{Plan}
 use Rattle.plans.specs.Plans.{composition}
 use Rattle.task_seed.specs.Turning.{System}
-use Rattle.trace.specs.declared.lines.Lines.{Lines}
+use Rattle.trace.specs.declared.texts.Form.{Form}
 use Rattle.compose.specs.Composed.{IsComposed}
 use Rattle.service.specs.declared.report.Report.{Report}
 use Rattle.service.specs.Compositions.{GivesNoPlan, HasPlan}
@@ -37,8 +37,8 @@ IsEngineReport Meant MeantNone kept Ends report =
 
 -- The report of `reference` on a source and turns, where the output was kept, a text was written
 -- to it, or a write failed after so many bytes of a text.
-abbrev pub IsSimulateReport : List ℕ → Given → ℕ → Lines → Type 0 → (List ℕ → Type 0)
+abbrev pub IsSimulateReport : List ℕ → Given → ℕ → Form → Type 0 → (List ℕ → Type 0)
     → (List ℕ → ℕ → Type 0) → Report → Type 0
-IsSimulateReport source given ticks lines kept wrote cut =
+IsSimulateReport source given ticks form kept wrote cut =
     IsEngineReport (Means source given ticks) (MeansNone source given ticks) kept
-    (λ plan system. IsSimulationReport plan system lines wrote cut)
+    (λ plan system. IsSimulationReport plan system form wrote cut)

@@ -5,7 +5,7 @@ ghost use Rattle.task_seed.specs.Setups.{plan_of, system};
 ghost use Rattle.trace.specs.Went.{IsStopped, IsWritten};
 ghost use Rattle.service.specs.Checks.{IsActionsReport};
 ghost use Rattle.service.specs.Drives.{IsStepsReport};
-ghost use Rattle.service.specs.FileReports.{IsCheckFileReport, IsDriveFileReport, IsRunFileReport, IsSimulateFileReport, IsSmallReport, lines_for};
+ghost use Rattle.service.specs.FileReports.{IsCheckFileReport, IsDriveFileReport, IsRunFileReport, IsSimulateFileReport, IsSmallReport, form_for, lines_for};
 ghost use Rattle.service.specs.Reports.{IsPrintReport, IsReportOn};
 
 use crate::driving::drive_setup;
@@ -22,7 +22,7 @@ use std::io::Write;
 use std::sync::Wait;
 use std::thread::Threads;
 use task_seed::{AnyTurns, Setup};
-use trace::{Counted, Lines};
+use trace::{Counted, Form, Lines};
 use workers::Unheld;
 
 /// Does what is asked for.
@@ -83,7 +83,7 @@ fn simulate_file<F: Files, W: Write>(
         (IsStopped W.contents out.old out.new) result }
 {
     match setup_in(alloc, source, options, files) {
-        Ok(setup) => simulate_setup(alloc, setup, lines_for(options.trace), out),
+        Ok(setup) => simulate_setup(alloc, setup, form_for(options), out),
         Err(report) => report,
     }
 }
@@ -103,15 +103,7 @@ fn run_file<F: Files, W: Write + Drop, R: Threads + Wait + Sync>(
         (IsStopped W.contents out.old out.new) result }
 {
     match setup_in(alloc, source, options, files) {
-        Ok(setup) => run_setup(
-            rt,
-            alloc,
-            setup,
-            crew,
-            &Unheld,
-            lines_for(options.trace),
-            out,
-        ),
+        Ok(setup) => run_setup(rt, alloc, setup, crew, &Unheld, form_for(options), out),
         Err(report) => report,
     }
 }
@@ -130,7 +122,7 @@ fn drive_file<F: Files, W: Write>(
         (IsStopped W.contents out.old out.new) result }
 {
     match setup_in(alloc, source, options, files) {
-        Ok(setup) => drive_by(alloc, setup, steps, lines_for(options.trace), files, out),
+        Ok(setup) => drive_by(alloc, setup, steps, form_for(options), files, out),
         Err(report) => report,
     }
 }
@@ -140,18 +132,18 @@ fn drive_by<F: Files, W: Write>(
     alloc: Global,
     setup: Setup<AnyTurns>,
     name: &str,
-    lines: Lines,
+    form: Form,
     files: &F,
     out: &mut Counted<W>,
 ) -> Report
     ensures { IsSmallReport (F.has files.now name.now) (F.lacks files.now name.now)
         (out.new ≡ out.old)
-        (λ bytes. IsStepsReport (plan_of setup) (system any_turn setup) lines bytes
+        (λ bytes. IsStepsReport (plan_of setup) (system any_turn setup) form bytes
         (out.new ≡ out.old) (IsWritten W.contents out.old out.new)
         (IsStopped W.contents out.old out.new)) result }
 {
     match read_whole(alloc, name, files) {
-        Ok(steps) => drive_setup(alloc, setup, steps.as_slice(), lines, out),
+        Ok(steps) => drive_setup(alloc, setup, steps.as_slice(), form, out),
         Err(number) => Report::Fault(number),
     }
 }
@@ -190,6 +182,15 @@ fn check_by<F: Files, W: Write>(
     match read_whole(alloc, name, files) {
         Ok(actions) => check_plan(alloc, plan, actions.as_slice(), out),
         Err(number) => Report::Fault(number),
+    }
+}
+
+fn form_for(options: Options) -> Form
+    ensures { result ≡ form_for options.entry }
+{
+    Form {
+        lines: lines_for(options.trace),
+        head: options.head,
     }
 }
 

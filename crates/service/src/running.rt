@@ -15,11 +15,11 @@ use std::io::Write;
 use std::sync::{Arc, Wait};
 use std::thread::Threads;
 use task_seed::{AnyTurns, Setup, Turns};
-use trace::{Counted, Lines};
+use trace::{Counted, Form};
 use workers::{Gate, Stats, run_with_stats};
 
 /// Simulates the composition of a source by workers, with the turns that are given up to the last tick, and writes the lines of the turns as
-/// they are committed. The source is judged before the turns.
+/// they are committed, behind the head where it is asked for. The source is judged before the turns.
 ///
 /// It may wait. What went out is a beginning of the text of the simulator by one thread, and all of it where the report is `Done` or `Ran`.
 pub fn run_source<W: Write + Drop, G: Gate<AnyTurns>, R: Threads + Wait + Sync>(
@@ -30,15 +30,15 @@ pub fn run_source<W: Write + Drop, G: Gate<AnyTurns>, R: Threads + Wait + Sync>(
     ticks: u64,
     crew: Crew,
     gate: &G,
-    lines: Lines,
+    form: Form,
     out: &mut Counted<W>,
 ) -> Report
-    ensures { IsRunReport source.now (given_of given.entry) ticks lines crew.stats
+    ensures { IsRunReport source.now (given_of given.entry) ticks form crew.stats
         (out.new ≡ out.old) (IsWritten W.contents out.old out.new)
         (IsStopped W.contents out.old out.new) result }
 {
     match setup_of(alloc, source, given, ticks) {
-        Ok(setup) => run_setup(rt, alloc, setup, crew, gate, lines, out),
+        Ok(setup) => run_setup(rt, alloc, setup, crew, gate, form, out),
         Err(report) => report,
     }
 }
@@ -50,10 +50,10 @@ pub(crate) fn run_setup<T: Turns, W: Write + Drop, G: Gate<T>, R: Threads + Wait
     setup: Setup<T>,
     crew: Crew,
     gate: &G,
-    lines: Lines,
+    form: Form,
     out: &mut Counted<W>,
 ) -> Report
-    ensures { IsCrewReport (plan_of setup) (system T.turn_of setup) lines crew.stats
+    ensures { IsCrewReport (plan_of setup) (system T.turn_of setup) form crew.stats
         (out.new ≡ out.old) (IsWritten W.contents out.old out.new)
         (IsStopped W.contents out.old out.new) result }
 {
@@ -68,7 +68,7 @@ pub(crate) fn run_setup<T: Turns, W: Write + Drop, G: Gate<T>, R: Threads + Wait
         crew.workers,
         crew.budget,
         gate,
-        lines,
+        form,
         out,
     ) {
         Ok(counts) => done(crew.stats, counts),

@@ -16,23 +16,23 @@ use reference::Verdict;
 use std::alloc::Global;
 use std::io::Write;
 use task_seed::{Setup, Turns};
-use trace::{Counted, Lines};
+use trace::{Counted, Form};
 
 /// Simulates the composition of a source by one thread, with the turns that are given up to the last tick, and writes each turn's line as it
-/// is taken. The source is judged before the turns.
+/// is taken, behind the head where it is asked for. The source is judged before the turns.
 pub fn simulate_source<W: Write>(
     alloc: Global,
     source: &[u8],
     given: GivenTurns,
     ticks: u64,
-    lines: Lines,
+    form: Form,
     out: &mut Counted<W>,
 ) -> Report
-    ensures { IsSimulateReport source.now (given_of given.entry) ticks lines (out.new ≡ out.old)
+    ensures { IsSimulateReport source.now (given_of given.entry) ticks form (out.new ≡ out.old)
         (IsWritten W.contents out.old out.new) (IsStopped W.contents out.old out.new) result }
 {
     match setup_of(alloc, source, given, ticks) {
-        Ok(setup) => simulate_setup(alloc, setup, lines, out),
+        Ok(setup) => simulate_setup(alloc, setup, form, out),
         Err(report) => report,
     }
 }
@@ -41,13 +41,13 @@ pub fn simulate_source<W: Write>(
 pub(crate) fn simulate_setup<T: Turns, W: Write>(
     alloc: Global,
     setup: Setup<T>,
-    lines: Lines,
+    form: Form,
     out: &mut Counted<W>,
 ) -> Report
-    ensures { IsSimulationReport (plan_of setup) (system T.turn_of setup) lines
+    ensures { IsSimulationReport (plan_of setup) (system T.turn_of setup) form
         (IsWritten W.contents out.old out.new) (IsStopped W.contents out.old out.new) result }
 {
-    match simulate(alloc, setup, lines, out) {
+    match simulate(alloc, setup, form, out) {
         Ok(()) => Report::Done,
         Err(fault) => report_of(&fault),
     }

@@ -16,6 +16,6 @@ returns g c =
     let kept : Type 0 = new ≡ old in
     let wrote : List ℕ → Type 0 = IsWritten known old new in
     let cut : List ℕ → ℕ → Type 0 = IsStopped known old new in
-    let given = given_here plan turns c.args.lines bytes kept wrote cut c.plan.result.now c.plan.ensures c.in-Ok.steps.items c.as_slice.result.now c.as_slice.ensures.value c.in-Ok.ensures.ok in
-    subst (IsStepsReport plan turns c.args.lines bytes kept wrote cut) (sym c.report_of-in-Err-drive.ensures)
-    (steps_undriven plan turns c.args.lines bytes kept wrote cut known old new c.as_slice.result.now given c.in-Err-drive.fault c.in-Err-drive.ensures.undriven)
+    let given = given_here plan turns c.args.form bytes kept wrote cut c.plan.result.now c.plan.ensures c.in-Ok.steps.items c.as_slice.result.now c.as_slice.ensures.value c.in-Ok.ensures.ok in
+    subst (IsStepsReport plan turns c.args.form bytes kept wrote cut) (sym c.report_of-in-Err-drive.ensures)
+    (steps_undriven plan turns c.args.form bytes kept wrote cut known old new c.as_slice.result.now given c.in-Err-drive.fault c.in-Err-drive.ensures.undriven)
