@@ -194,16 +194,3 @@ all_suit rule.Internal one a b q r = true≢false (sym q)
 all_suit rule.Output one a Input q r = no_both (not one) (same_kind a Output) r
 all_suit rule.Output one a Output q r = true≢false (sym q)
 all_suit rule.Output one a Internal q r = no_both (not one) (same_kind a Output) r
-
--- two inputs break no rule
-pub inputs_agree : (rule : Rule) (one : Bool) (a b : Kind) → same_kind Input a ≡ true → same_kind Input b ≡ true → is_barred rule one a b ≡ true → ⊥
-inputs_agree Own true Input Input p q r = true≢false (sym r)
-inputs_agree Own false Input Input p q r = true≢false (sym r)
-inputs_agree rule.Internal true Input Input p q r = true≢false (sym r)
-inputs_agree rule.Internal false Input Input p q r = true≢false (sym r)
-inputs_agree rule.Output true Input Input p q r = true≢false (sym r)
-inputs_agree rule.Output false Input Input p q r = true≢false (sym r)
-inputs_agree rule one Output b p q r = true≢false (sym p)
-inputs_agree rule one Internal b p q r = true≢false (sym p)
-inputs_agree rule one Input Output p q r = true≢false (sym q)
-inputs_agree rule one Input Internal p q r = true≢false (sym q)

@@ -329,8 +329,7 @@ impl<T: Turns> Component<T> {
         Ok(key)
     }
 
-    // Does the own turn that comes next. What came of it goes to these components. It stays a call, so that the turn isn't moved about.
-    #[inline(never)]
+    // Does the own turn that comes next. What came of it goes to these components.
     pub(crate) fn do_turned(
         &mut self,
         alloc: Global,
