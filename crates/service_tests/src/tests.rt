@@ -16,7 +16,7 @@ use std::process::Abort;
 use std::str;
 use std::sync::Wait;
 use std::thread::Threads;
-use trace::{Counted, Lines};
+use trace::{Counted, Form, Lines};
 use workers::Unheld;
 
 // Three files in memory, `source`, `table` and `more`.
@@ -169,8 +169,10 @@ const TURNS: &str = "1 1 0 idle\n2 0 0 pass(1)\n3 1 1 pass(0)\n4 0 1 pass(1)\n";
 
 const CUT: &str = "1 1 0 idle\n2 0 0 pass(1)\n3 1 1 pass(0)\n4 0 1 pass(1)";
 
+const HEADED: &str = "trace 2\n1 1 0 idle\n2 0 0 pass(1)\n3 1 1 pass(0)\n4 0 1 pass(1)\n";
+
 // Words on the ring and its table: runs, references and prints with little room, help and the version, also where these are cut.
-const SERVED: [Row; 29] = [
+const SERVED: [Row; 39] = [
     (
         "run source --table table --workers 3",
         53,
@@ -239,6 +241,77 @@ const SERVED: [Row; 29] = [
     ),
     (
         "reference source --table table",
+        0,
+        Is(""),
+        Is("fault 60\n"),
+        3,
+    ),
+    (
+        "reference source --table table --head",
+        61,
+        Is(HEADED),
+        Is(""),
+        0,
+    ),
+    (
+        "reference source --table table --head",
+        0,
+        Is(""),
+        Is("fault 60\n"),
+        3,
+    ),
+    (
+        "reference source --table table --head",
+        3,
+        Is("tra"),
+        Is("fault 60\n"),
+        3,
+    ),
+    (
+        "reference source --table table --head",
+        8,
+        Is("trace 2\n"),
+        Is("fault 60\n"),
+        3,
+    ),
+    (
+        "run source --head --table table --workers 3",
+        61,
+        Is(HEADED),
+        Is(""),
+        0,
+    ),
+    (
+        "run source --head --table table",
+        7,
+        Is("trace 2"),
+        Is("fault 60\n"),
+        3,
+    ),
+    (
+        "run source --head --table table",
+        9,
+        Is("trace 2\n1"),
+        Is("fault 60\n"),
+        3,
+    ),
+    // No step, so no turn.
+    (
+        "drive source more --head --table table",
+        8,
+        Is("trace 2\n"),
+        Is(""),
+        0,
+    ),
+    (
+        "drive source more --head --table table",
+        7,
+        Is("trace 2"),
+        Is("fault 60\n"),
+        3,
+    ),
+    (
+        "drive source more --head --table table",
         0,
         Is(""),
         Is("fault 60\n"),
@@ -359,6 +432,12 @@ fn came_to(alloc: Global, report: &Report, out: Counted<Vec<u8>>, text: &str, sa
     is_right
 }
 
+// All turns, and no head.
+const ALL: Form = Form {
+    lines: Lines::All,
+    head: false,
+};
+
 // The bytes of a source and of a table, the last tick, what is written and what is said.
 const SIMULATED: [(&str, &str, u64, &str, &str); 7] = [
     (RING, ROWS, 4, TURNS, ""),
@@ -382,12 +461,11 @@ fn engines_take_bytes(rt: HostRuntime) {
     for (k, (source, table, ticks, text, said)) in SIMULATED.iter().enumerate() {
         let (source, given) = (source.as_bytes(), GivenTurns::Table(table.as_bytes()));
         let mut out = Counted::new(Vec::new(alloc));
-        let report = simulate_source(alloc, source, given, *ticks, Lines::All, &mut out);
+        let report = simulate_source(alloc, source, given, *ticks, ALL, &mut out);
         assert!(rt; came_to(alloc, &report, out, text, said), "reference {k}");
         let mut out = Counted::new(Vec::new(alloc));
-        let (gate, lines) = (&Unheld, Lines::All);
         let report = run_source(
-            &rt, alloc, source, given, *ticks, crew, gate, lines, &mut out,
+            &rt, alloc, source, given, *ticks, crew, &Unheld, ALL, &mut out,
         );
         assert!(rt; came_to(alloc, &report, out, text, said), "run {k}");
     }
@@ -395,7 +473,7 @@ fn engines_take_bytes(rt: HostRuntime) {
     let steps = b"process 1\nprocess 0\ncommit 3 1 1\ncommit 2 0 0\n";
     let given = GivenTurns::Table(ROWS.as_bytes());
     let mut out = Counted::new(Vec::new(alloc));
-    let report = drive_source(alloc, ring, given, 4, steps, Lines::All, &mut out);
+    let report = drive_source(alloc, ring, given, 4, steps, ALL, &mut out);
     assert!(rt; came_to(alloc, &report, out, "1 1 0 idle\n", "step 3 refused 34\n"));
     let given = GivenTurns::Seed {
         seed: 1,
@@ -404,7 +482,7 @@ fn engines_take_bytes(rt: HostRuntime) {
         from_zero: false,
     };
     let mut out = Counted::new(Vec::new(alloc));
-    let report = drive_source(alloc, ring, given, 4, b"step", Lines::All, &mut out);
+    let report = drive_source(alloc, ring, given, 4, b"step", ALL, &mut out);
     assert!(rt;
         came_to(alloc, &report, out, "", "refused 27\n"),
         "a gap of 0"

@@ -10,7 +10,7 @@ use std::alloc::AllocGlobal;
 use std::io::ErrorKind;
 use std::process::Abort;
 use terms::{Action, Refusal, Scalar};
-use trace::{Counted, Lines, WriteFault, write_turns};
+use trace::{Counted, Lines, WriteFault, write_head, write_turns};
 
 const TEXT: &str = "1 1 0 idle\n2 0 0 pass(1)\n3 1 1 pass(0)\n4 0 1 pass(1)\n";
 
@@ -56,6 +56,11 @@ fn writes(
     text: &str,
 ) -> bool {
     let answer = write_turns(plan, turns.iter(), lines, &mut out);
+    went(answer, out, room, text)
+}
+
+// Whether this is what became of a text, and of a writer with so much room.
+fn went(answer: Result<(), WriteFault>, out: Counted<Narrow>, room: usize, text: &str) -> bool {
     let bytes = text.as_bytes();
     let is_short = room < bytes.len();
     let wanted = if is_short {
@@ -87,6 +92,14 @@ fn writes_turns_up_to_where_the_writer_fails(rt: HostRuntime) {
         assert!(rt; writes(external, &plan, &turns, Lines::Trace, 100, TRACE));
         let nothing = counted(&rt, step, 0, None);
         assert!(rt; writes(nothing, &plan, &turns[..0], Lines::All, 0, ""));
+    }
+    for room in 0..10 {
+        let mut narrow = counted(&rt, 3, room, None);
+        let answer = write_head(&mut narrow);
+        assert!(rt;
+            went(answer, narrow, room, "trace 2\n"),
+            "room for {room} of a head"
+        );
     }
     assert!(rt; TEXT.len() == 53);
     for error in [None, Some(ErrorKind::Other), Some(ErrorKind::Interrupted)] {
