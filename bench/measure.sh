@@ -1,6 +1,6 @@
 #!/usr/bin/env bash
 # Measures the program, which it builds first if that in dist/ is none of this checkout: bench/measure.sh WORD, where WORD is
-#   instructions   how many instructions it takes by callgrind: a turn on the loads in bench/loads, a byte of a source, a component, a step
+#   instructions   how many instructions it takes by callgrind: a turn on the loads, a line of check, a byte of a source, a component, a step
 #   times          how many turns a second it takes on the loads, and how fast workers are beside one thread
 #   runs           whether 10,000 random runs by workers write what one thread writes
 set -eu

@@ -75,7 +75,7 @@ def compare(name):
         Path(folder, "F").write_bytes(data)
         if simulator.serve(["print", "F"], folder) != answer(["print", "F"], folder):
             found.append(f"{name}: print differs")
-        plan = simulator.Plan(simulator.read(data)[0], 64)
+        plan = simulator.Plan(simulator.read(data)[0], 1024)
         for setting in [it for _ in range(given.seeds) for it in pick.sample(SETTINGS, given.settings)]:
             words, seed, stream, gap, ticks = drawn(setting, pick)
             is_trace = pick.randrange(4) == 0
