@@ -404,13 +404,13 @@ impl<T: Turns> Depot<T> {
         ensures own { IfOk result (IsVisitOf self.old) }
     {
         let components = self.components();
-        let begins = self.rounds.begin(components);
-        if begins || self.rounds.may_raise() {
-            self.commit();
-        }
+        self.rounds.begin(components);
         let stale = self.take_stale(spare)?;
         if stale.is_some() {
             return Ok(stale);
+        }
+        if self.rounds.ends(components) || self.rounds.may_raise() {
+            self.commit();
         }
         let visit = self.take_least(spare)?;
         if visit.is_none() && self.away.oldest().is_none() {

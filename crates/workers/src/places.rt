@@ -70,10 +70,18 @@ impl Places {
         self.move_to(number, NOWHERE);
     }
 
-    // A lease that is parked, or has nothing to do, comes before all others.
+    // A lease that is parked, or has nothing to do, comes to where the others are.
     pub(crate) fn call(&mut self, number: u16) {
         if self.place(number) >= PARKED {
-            self.move_to(number, u64::from(number));
+            self.move_to(number, place_at(self.front(), number));
+        }
+    }
+
+    // The least tick at which a lease waits that isn't parked.
+    fn front(&self) -> u64 {
+        match self.least() {
+            Some(least) if !least.is_parked => least.tick,
+            _ => 0,
         }
     }
 

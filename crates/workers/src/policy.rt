@@ -3,7 +3,7 @@
 /// How far leases run, how often the exchange is looked at, and how long threads sleep. `docs/PERFORMANCE.md` has their measurements.
 #[derive(Clone, Copy)]
 pub(crate) struct Policy {
-    /// How many visits there are for each component between two passes over all leases, each of which begins by raising the bound.
+    /// How many visits there are for each component between two passes over all leases, each of which ends by raising the bound.
     pub(crate) visits_a_pass: u64,
     /// How many visits there are at least between two times that the bound is raised before a pass is over, as it is where few components move.
     pub(crate) visits_a_raise: u64,

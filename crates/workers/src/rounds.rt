@@ -2,14 +2,15 @@
 use crate::policy::POLICY;
 
 // A pass goes over the leases that wait and takes each that hasn't met the exchange for long. It begins once in some visits for each component,
-// and the bound is raised then, so that a visit costs the same however many components there are. Where few of many components move, the bound is
-// raised more often, so that what they did since their bases doesn't grow with the number of the others.
+// and when it is over the bound is raised, so that a visit costs the same however many components there are. Where few of many components move, the
+// bound is raised more often, so that what they did since their bases doesn't grow with the number of the others.
 #[derive(Drop)]
 pub(crate) struct Rounds {
     // The number of the pass, from 1.
     pass: u64,
-    // The component that it looks at next.
+    // The component that it looks at next, and whether its end was told.
     next: u16,
+    is_over: bool,
     // How many visits there were since it began.
     visits: u64,
     // How many visits there were.
@@ -27,6 +28,7 @@ impl Rounds {
         Rounds {
             pass: 1,
             next: components,
+            is_over: true,
             visits: 0,
             all: 0,
             raises: 1,
@@ -76,14 +78,23 @@ impl Rounds {
         self.all
     }
 
-    // Begins a pass if one is due, and answers whether it did.
-    pub(crate) fn begin(&mut self, components: u16) -> bool {
+    // Begins a pass if one is due.
+    pub(crate) fn begin(&mut self, components: u16) {
         if self.visits < POLICY.visits_a_pass * u64::from(components) {
-            return false;
+            return;
         }
         self.pass = self.pass.saturating_add(1);
         self.next = 0;
         self.visits = 0;
+        self.is_over = false;
+    }
+
+    // Whether the pass has come to its end since this was asked last.
+    pub(crate) fn ends(&mut self, components: u16) -> bool {
+        if self.is_over || self.next < components {
+            return false;
+        }
+        self.is_over = true;
         true
     }
 
