@@ -104,6 +104,15 @@ module _ {T : Type 0} (turn_of : T → ℕ → ℕ → Option Turn) (e : Exchang
   pub one_there : (n : ℕ) (waiters : List (Option (Waiter T))) (at : Option (Waiter T)) (w : Waiter T) → n < length waiters → at ≡ slice_index_or waiters n at → at ≡ Some w → AreWaiting turn_of e waiters → IsWaiting turn_of e n w
   one_there n waiters at w short value is all = all n w (slice_get_read waiters (length waiters) n at refl short value ∙ ap Some is)
 
+  -- one stays as it is
+  pub one_stays : (n : ℕ) (waiters : List (Option (Waiter T))) (at : Option (Waiter T)) (w new : Waiter T) → n < length waiters → at ≡ slice_index_or waiters n at → at ≡ Some w → new ≡ w → AreWaiting turn_of e waiters → AreWaiting turn_of e (slice_set waiters n (Some new))
+  one_stays n waiters at w new short value is stays all = one_set n waiters (Some new) short own all
+    where
+      own : (v : Waiter T) → Some new ≡ Some v → IsWaiting turn_of e n v
+      own v found =
+          let same : w ≡ v = cc in
+          subst (IsWaiting turn_of e n) same (one_there n waiters at w short value is all)
+
   none_there : (waiters : List (Option (Waiter T))) (i : ℕ) (v : Waiter T) → All IsNone waiters → slice_get waiters i ≡ Some (Some v) → ⊥
   none_there [] i v none there = none-some (Some v) there
   none_there (w ∷ ws) zero v none there =

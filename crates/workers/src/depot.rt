@@ -12,11 +12,11 @@ use crate::places::{Least, Places};
 use crate::policy::POLICY;
 use crate::ready::Ready;
 use crate::rounds::Rounds;
-use crate::stats::{Activity, Visits};
+use crate::stats::{Activity, Visits, sum};
 use crate::waiting::Waiting;
 use crate::writing::Cut;
 use event_keys::{Bound, Turned};
-use exchange::{Lease, MeetRefused, Parcel};
+use exchange::{Effort, MeetRefused, Parcel};
 use raw_events::EventList;
 use std::marker::Model;
 use task_seed::Turns;
@@ -45,6 +45,7 @@ pub(crate) struct Visit<T: Turns> {
 #[derive(Drop)]
 pub(crate) struct Depot<T: Turns> {
     waiting: Waiting<T>,
+    components: u16,
     places: Places,
     away: Away,
     rounds: Rounds,
@@ -55,7 +56,7 @@ pub(crate) struct Depot<T: Turns> {
     ready: Ready,
     // Cells of turns that were written; they serve again.
     spare: EventList<Turned>,
-    // What workers told of their visits.
+    // How many visits there were, and how long workers slept.
     visits: Visits,
 }
 
@@ -83,6 +84,7 @@ impl<T: Turns> Depot<T> {
         let settled = waiting.exchange().bound();
         Depot {
             waiting,
+            components,
             places,
             away,
             rounds: Rounds::new(components),
@@ -92,10 +94,6 @@ impl<T: Turns> Depot<T> {
             spare: EventList::new(),
             visits: Visits::default(),
         }
-    }
-
-    fn components(&self) -> u16 {
-        self.waiting.exchange().setup().plan().components()
     }
 
     // How many turns a chunk can have given.
@@ -108,10 +106,17 @@ impl<T: Turns> Depot<T> {
         self.waiting.exchange().finished()
     }
 
-    // What workers told, and what the exchange counted.
-    pub(crate) fn activity(&self) -> Activity {
+    // What was done since this was last asked, as far as the leases wait, and what the exchange counted.
+    pub(crate) fn take_activity(&mut self) -> Activity
+        ensures { self.new ≡ self.old }
+    {
+        let mut effort = Effort::default();
+        for number in 0..self.components {
+            effort = sum(effort, self.waiting.take_effort(number));
+        }
         Activity {
             visits: self.visits,
+            effort,
             tally: self.waiting.exchange().tally(),
         }
     }
@@ -134,7 +139,9 @@ impl<T: Turns> Depot<T> {
     pub(crate) fn take_spare(&mut self, spare: &mut EventList<Turned>)
         ensures { self.new ≡ self.old }
     {
-        spare.append_all(&mut self.spare);
+        if self.spare.peek_next().is_some() {
+            spare.append_all(&mut self.spare);
+        }
     }
 
     // The next turns that no parcel has had.
@@ -184,7 +191,7 @@ impl<T: Turns> Depot<T> {
         Ok(())
     }
 
-    // A lease tells what was done of it, if anybody wants to know, and waits.
+    // A lease tells what was done of it, if anybody wants to know, and waits. The cells that it had for its visit serve others.
     pub(crate) fn share(
         &mut self,
         mut handed: Handed<T>,
@@ -193,8 +200,9 @@ impl<T: Turns> Depot<T> {
         requires { handed_setup handed ≡ self.old }
         ensures { self.new ≡ self.old }
     {
-        self.visits.end_one(handed.paced.lease.take_effort());
-        take_spare(&mut handed.paced.lease, spare);
+        self.visits.end_one();
+        handed.paced.lease.swap_spare(spare);
+        self.take_spare(spare);
         let is_first = handed.paced.pace.visit(self.rounds.raises());
         self.rounds.note(is_first);
         let is_due = self.is_due_to_meet(&*handed.paced, is_first);
@@ -224,7 +232,7 @@ impl<T: Turns> Depot<T> {
     fn call_receivers(&mut self)
         ensures { self.new ≡ self.old }
     {
-        for _ in 0..self.components() {
+        for _ in 0..self.components {
             let Some(number) = self.waiting.take_receiver() else {
                 return;
             };
@@ -310,9 +318,8 @@ impl<T: Turns> Depot<T> {
         ensures same { self.new ≡ self.old }
         ensures own { IfOk result (IsVisitOf self.old) }
     {
-        let components = self.components();
-        for _ in 0..components {
-            let Some(number) = self.rounds.next(components) else {
+        for _ in 0..self.components {
+            let Some(number) = self.rounds.next(self.components) else {
                 return Ok(None);
             };
             if !self.is_stale(number) {
@@ -373,7 +380,7 @@ impl<T: Turns> Depot<T> {
     fn settle(&mut self, spare: &mut EventList<Turned>) -> Result<(), MeetRefused>
         ensures { self.new ≡ self.old }
     {
-        for number in 0..self.components() {
+        for number in 0..self.components {
             self.meet(number, spare)?;
             self.place(number);
         }
@@ -403,13 +410,12 @@ impl<T: Turns> Depot<T> {
         ensures same { self.new ≡ self.old }
         ensures own { IfOk result (IsVisitOf self.old) }
     {
-        let components = self.components();
-        self.rounds.begin(components);
+        self.rounds.begin(self.components);
         let stale = self.take_stale(spare)?;
         if stale.is_some() {
             return Ok(stale);
         }
-        if self.rounds.ends(components) || self.rounds.may_raise() {
+        if self.rounds.ends(self.components) || self.rounds.may_raise() {
             self.commit();
         }
         let visit = self.take_least(spare)?;
@@ -433,13 +439,4 @@ fn place<T: Turns>(places: &mut Places, paced: &Paced<T>) {
     } else {
         places.wait(number, next);
     }
-}
-
-// Takes the spare cells that a lease had for its visit.
-fn take_spare<T: Turns>(lease: &mut Lease<T>, spare: &mut EventList<Turned>)
-    ensures { lease.new ≡ lease.old }
-{
-    let mut own = EventList::new();
-    lease.swap_spare(&mut own);
-    spare.append_all(&mut own);
 }

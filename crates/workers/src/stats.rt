@@ -36,29 +36,24 @@ pub struct Stats {
     pub waited: u64,
 }
 
-// What workers told of their visits.
+// How many visits there were, and how long workers slept.
 #[derive(Clone, Copy, Default)]
 pub(crate) struct Visits {
-    effort: Effort,
     count: u64,
     waited: u64,
 }
 
-// What workers told, and what the exchange counted.
+// The same, what was done of the components, and what the exchange counted.
 #[derive(Clone, Copy, Default)]
 pub(crate) struct Activity {
     pub(crate) visits: Visits,
+    pub(crate) effort: Effort,
     pub(crate) tally: Tally,
 }
 
 impl Visits {
-    // A visit is over, in which so much was done.
-    pub(crate) fn end_one(&mut self, effort: Effort) {
-        let all = &mut self.effort;
-        all.processed = all.processed.saturating_add(effort.processed);
-        all.taken_back = all.taken_back.saturating_add(effort.taken_back);
-        all.roll_backs = all.roll_backs.saturating_add(effort.roll_backs);
-        all.stragglers = all.stragglers.saturating_add(effort.stragglers);
+    // A visit is over.
+    pub(crate) fn end_one(&mut self) {
         self.count = self.count.saturating_add(1);
     }
 
@@ -68,16 +63,23 @@ impl Visits {
     }
 }
 
+// Both together.
+pub(crate) fn sum(first: Effort, second: Effort) -> Effort {
+    Effort {
+        processed: first.processed.saturating_add(second.processed),
+        taken_back: first.taken_back.saturating_add(second.taken_back),
+        roll_backs: first.roll_backs.saturating_add(second.roll_backs),
+        stragglers: first.stragglers.saturating_add(second.stragglers),
+    }
+}
+
 impl Activity {
     // The same with the number of the turns.
     pub(crate) fn stats(&self, turns: u64) -> Stats
         ensures { result.turns ≡ turns }
     {
-        let Visits {
-            effort,
-            count,
-            waited,
-        } = self.visits;
+        let Visits { count, waited } = self.visits;
+        let effort = self.effort;
         Stats {
             turns,
             processed: effort.processed,

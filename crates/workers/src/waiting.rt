@@ -9,7 +9,7 @@ ghost use Rattle.workers.specs.Portions.{IsCutOf};
 use crate::crew::{Handed, Paced};
 use crate::writing::{Cut, take_cut};
 use event_keys::Turned;
-use exchange::{Exchange, MeetRefused, Parcel};
+use exchange::{Effort, Exchange, MeetRefused, Parcel};
 use raw_events::EventList;
 use std::alloc::Global;
 use std::marker::Model;
@@ -72,6 +72,13 @@ impl<T: Turns> Waiter<T> {
         paced.lease.swap_spare(spare);
         paced.pace.meet(pass);
         Ok(())
+    }
+
+    // What was done of its component since this was last asked.
+    fn take_effort(&mut self) -> Effort
+        ensures { self.new ≡ self.old }
+    {
+        self.paced.lease.take_effort()
     }
 }
 
@@ -153,6 +160,20 @@ impl<T: Turns> Waiting<T> {
         Some(Handed {
             paced: waiter.paced,
         })
+    }
+
+    // What was done of a component since this was last asked, if its lease waits.
+    pub(crate) fn take_effort(&mut self, number: u16) -> Effort
+        ensures { self.new ≡ self.old }
+    {
+        let at = usize::from(number);
+        if at >= self.waiters.len() {
+            return Effort::default();
+        }
+        if let Some(waiter) = &mut self.waiters[at] {
+            return waiter.take_effort();
+        }
+        Effort::default()
     }
 
     // A lease meets the exchange in a pass, if it waits, with these cells for its turns.

@@ -95,7 +95,6 @@ fn change<T: Turns, R: Wait>(
     let mut lent = hold(rt, shared, &mut worker.lock, &mut looks);
     let rests = patience.note(looks, is_risky(&done));
     lent.depot.note_wait(patience.take_waited());
-    lent.depot.take_spare(&mut worker.spare);
     let visit = go_round(shared, &mut *lent.depot, worker, done, rests);
     patience.see(lent.depot.ready());
     shared.exchange.give_back(rt, &mut worker.lock, lent);
@@ -127,8 +126,9 @@ fn go_round<T: Turns>(
     ensures visit { IfOk result (IsVisitOf depot.old) }
 {
     let before = depot.ready();
-    if let Some(handed) = done {
-        depot.share(handed, &mut worker.spare)?;
+    match done {
+        Some(handed) => depot.share(handed, &mut worker.spare)?,
+        None => depot.take_spare(&mut worker.spare),
     }
     let visit = next_visit(shared, depot, &mut worker.spare, rests)?;
     if depot.ready() != before {

@@ -100,7 +100,9 @@ fn next_portion<T: Turns, R: Wait>(
     let mut looks = 0;
     let mut lent = hold(rt, shared, &mut caller.lock, &mut looks);
     let cut = lent.depot.take_cut(&mut caller.parcel);
-    caller.activity = lent.depot.activity();
+    if cut.is_last {
+        caller.activity = lent.depot.take_activity();
+    }
     lent.depot.add_spare(spare);
     shared.exchange.give_back(rt, &mut caller.lock, lent);
     Ok(Some(put_together(own, cut, &mut caller.parcel)))
