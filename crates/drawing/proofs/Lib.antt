@@ -1,0 +1,3 @@
+mod Inner
+mod Joined
+mod Windows

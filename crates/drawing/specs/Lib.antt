@@ -1,0 +1,3 @@
+pub mod Drawn
+pub mod Elements
+pub mod Turns

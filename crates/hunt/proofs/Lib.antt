@@ -1,0 +1,4 @@
+mod Names
+mod Parts
+mod Sowing
+mod Turning

@@ -1,0 +1,12 @@
+use Rattle.std.proofs.Common.{◌≤◌, ◌-◌}
+use Rattle.hunt.specs.Hunts.{IsCount}
+use Rattle.hunt.specs.Seeds.{hunted}
+use Rattle.hunt.proofs.counting.count_alone.Given as goal
+
+abbrev pub invariant-loop-seed : goal.invariant-loop-seed
+invariant-loop-seed l = record {
+  above : l.from ≤ l.seed;
+  below : l.seed ≤ l.end;
+  are : IsCount (hunted l.source l.action l.course) l.from l.seed l.count;
+  few : l.count ≤ l.seed - l.from;
+}

@@ -1,0 +1,159 @@
+//! One seed: what a source means with its turns, and whether the action comes.
+ghost use Rattle.std.specs.Prelude.{◌≡◌, ◌++◌, ℕ, List, IfErr, IfNone, IfOk, IfSome, codes, decimal};
+ghost use Rattle.compose.specs.Composed.{IsComposed};
+ghost use Rattle.task_seed.specs.Drawn.{drawn_turn, seed_turn};
+ghost use Rattle.task_seed.specs.Setups.{plan_of, system};
+ghost use Rattle.hunt.specs.Faults.{IsBadGap, IsUnseen};
+ghost use Rattle.hunt.specs.Seeds.{HasText, IsSown, Lacks, hunted, least_gap};
+ghost use Rattle.hunt.specs.Sightings.{IsShown, NeverOccurs, seed_text};
+ghost use Rattle.hunt.specs.Wanted.{IsWanted};
+
+use crate::course::Course;
+use crate::fault::HuntFault;
+use crate::seeking::{known_law, seek};
+use crate::wanted::{Wanted, read_wanted};
+use compose::compose_source;
+use event_keys::Turned;
+use itoa::Buffer;
+use plans::Plan;
+use reference::Reference;
+use std::alloc::{AllocError, Global};
+use std::sync::Arc;
+use task_seed::{SeedTurns, SeedTurnsError, Setup};
+use trace::{Counted, Lines, append_turns};
+
+// The turns of a seed.
+fn draw(course: Course, seed: u64) -> Result<SeedTurns, SeedTurnsError>
+    ensures ok { IfOk result (λ turns. seed_turn turns
+        ≡ drawn_turn seed course.stream (least_gap course.from_zero) course.gap) }
+    ensures err { IfErr result (λ refused. IsBadGap course) }
+{
+    if course.from_zero {
+        SeedTurns::from_zero(seed, course.stream, course.gap)
+    } else {
+        SeedTurns::new(seed, course.stream, course.gap)
+    }
+}
+
+// A plan with the turns of a seed.
+fn sow(plan: Plan, course: Course, seed: u64) -> Result<Setup<SeedTurns>, HuntFault>
+    ensures plan { IfOk result (λ setup. plan_of setup ≡ plan) }
+    ensures sown { IfOk result (λ setup. IsSown course seed plan (system seed_turn setup)) }
+    ensures err { (source action : List ℕ) → IfErr result
+        (IsUnseen (hunted source action course)) }
+{
+    let turns = match draw(course, seed) {
+        Ok(turns) => turns,
+        Err(refused) => {
+            drop(plan);
+            return Err(HuntFault::Turns(refused));
+        }
+    };
+    match Setup::new(plan, turns, course.ticks) {
+        Ok(setup) => Ok(setup),
+        Err(refused) => Err(HuntFault::Ticks(refused)),
+    }
+}
+
+// The composition of a source.
+fn composed(alloc: Global, source: &[u8]) -> Result<Plan, HuntFault>
+    ensures ok { IfOk result (IsComposed source.now) }
+    ensures err { (action : List ℕ) (course : Course) → IfErr result
+        (IsUnseen (hunted source.now action course)) }
+{
+    match compose_source(alloc, source) {
+        Ok(plan) => Ok(plan),
+        Err(refused) => Err(HuntFault::Source(refused)),
+    }
+}
+
+// The actions that a text names.
+fn named(alloc: Global, plan: &Plan, action: &str) -> Result<Wanted, HuntFault>
+    ensures ok { IfOk result (IsWanted plan.now action.now) }
+    ensures err { (source : List ℕ) (course : Course) → IsComposed source plan.now
+        → IfErr result (IsUnseen (hunted source action.now course)) }
+{
+    match read_wanted(alloc, plan, action) {
+        Ok(wanted) => Ok(wanted),
+        Err(refused) => Err(HuntFault::Action(refused)),
+    }
+}
+
+// The line of a seed.
+fn seed_line(alloc: Global, seed: u64) -> Result<Vec<u8>, AllocError>
+    ensures { IfOk result (λ text. text.items ≡ codes "seed " ++ decimal seed ++ codes "\n") }
+{
+    let mut text = Vec::new(alloc);
+    text.extend_from_slice(b"seed ")?;
+    text.extend_from_slice(Buffer::new().format(seed).as_bytes())?;
+    text.push(b'\n')?;
+    Ok(text)
+}
+
+// The line of a seed, and those of turns.
+fn text_of(alloc: Global, plan: &Plan, seed: u64, turns: &[Turned]) -> Result<Vec<u8>, AllocError>
+    ensures { IfOk result (λ text. text.items ≡ seed_text seed plan.now turns.now) }
+{
+    let text = seed_line(alloc, seed)?;
+    let mut out = Counted::new(text);
+    match append_turns(plan, turns.iter(), Lines::All, 0, &mut out) {
+        Ok(_) => Ok(out.into_inner()),
+        Err(_) => Err(AllocError),
+    }
+}
+
+// The text of a simulator's turns up to the first that does what is wanted, if one does.
+fn watch(
+    alloc: Global,
+    setup: Setup<SeedTurns>,
+    wanted: &Wanted,
+    seed: u64,
+) -> Result<Option<Vec<u8>>, HuntFault>
+    ensures shown { IfOk result (λ found. IfSome found (λ text. IsShown
+        (plan_of setup) (system seed_turn setup) wanted.now seed text.items)) }
+    ensures never { IfOk result (λ found. IfNone found (NeverOccurs
+        (plan_of setup) (system seed_turn setup) wanted.now)) }
+    ensures err { IfErr result (λ fault. fault ≡ HuntFault.NoMemory) }
+{
+    known_law(&setup);
+    let shared = Arc::new(alloc, setup)?;
+    let mut reference = Reference::new(alloc, shared)?;
+    let found = seek(alloc, &mut reference, wanted)?;
+    match found {
+        Some(turns) => {
+            let plan = reference.setup().plan();
+            let text = text_of(alloc, plan, seed, turns.as_slice())?;
+            Ok(Some(text))
+        }
+        None => Ok(None),
+    }
+}
+
+/// The text of a seed's turns up to the first that did the action, if its schedule has it.
+pub(crate) fn look(
+    alloc: Global,
+    source: &[u8],
+    action: &str,
+    course: Course,
+    seed: u64,
+) -> Result<Option<Vec<u8>>, HuntFault>
+    ensures has { IfOk result (λ found. IfSome found (λ text.
+        HasText (hunted source.now action.now course) seed text.items)) }
+    ensures lacks { IfOk result (λ found. IfNone found
+        (Lacks (hunted source.now action.now course) seed)) }
+    ensures err { IfErr result (IsUnseen (hunted source.now action.now course)) }
+{
+    let plan = match composed(alloc, source) {
+        Ok(plan) => plan,
+        Err(fault) => return Err(fault),
+    };
+    let wanted = match named(alloc, &plan, action) {
+        Ok(wanted) => wanted,
+        Err(fault) => return Err(fault),
+    };
+    let setup = match sow(plan, course, seed) {
+        Ok(setup) => setup,
+        Err(fault) => return Err(fault),
+    };
+    watch(alloc, setup, &wanted, seed)
+}
