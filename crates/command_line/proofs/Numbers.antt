@@ -4,7 +4,7 @@ use Rattle.std.specs.Prelude.{Result}
 use Rattle.std.specs.Str.Parse.{ParsesUnsigned}
 use Rattle.clap.specs.Matches.{ReadsOne}
 use Rattle.clap.specs.Words.{Row, Text, one_of}
-use Rattle.command_line.specs.Words.{IsNumber}
+use Rattle.command_line.specs.Rules.{IsNumber}
 
 module _ (E : Type 0) (gives : List ℕ → Result ℕ E → Type 0) (parses : (t : List ℕ) (r : Result ℕ E) → gives t r → ParsesUnsigned 64 10 t r)
     (rows : List Row) (option : Text) (least most : ℕ) (read : Option ℕ)

@@ -1,1 +1,4 @@
+pub mod Drawing
+pub mod Hunting
+pub mod Rules
 pub mod Words

@@ -1,26 +1,19 @@
 -- What the words of the command line ask for, as `clap` reads them.
-use Rattle.std.specs.Prelude.{◌≡◌, ◌≢◌, ◌⊎◌, ◌≤◌, ◌↔◌, ℕ, Bool, Option, Some, true, List, [], ◌∷◌, codes, option_map}
-use Rattle.std.specs.Str.Parse.{IsNumeral, digits_value, without_leading_plus}
-use Rattle.clap.specs.Words.{App, IsAmong, Row, Rule, Text, fault_of, first_of, new_app, new_rule, one_of, subcommand_of, with_rule, with_subcommand}
-use Rattle.clap.specs.declared.builder.action.ArgAction.TheVariants.{SetTrue}
-use Rattle.clap.specs.declared.builder.value_parser.ValueParser.{ValueParser}
+use Rattle.std.specs.Prelude.{◌≡◌, ◌≢◌, ◌⊎◌, ℕ, Option, Some, true, List, [], codes, option_map}
+use Rattle.clap.specs.Words.{App, IsAmong, Row, Text, fault_of, first_of, new_app, subcommand_of, with_rule, with_subcommand}
 use Rattle.clap.specs.declared.builder.value_parser.ValueParser.TheVariants.{Unsigned}
 use Rattle.clap.specs.declared.error.ErrorKind.{ErrorKind}
 use Rattle.clap.specs.declared.error.ErrorKind.TheVariants as error
+use Rattle.command_line.specs.Drawing.{HasTicks, ticked}
+use Rattle.command_line.specs.Hunting.{Hunts, hunt_app}
+use Rattle.command_line.specs.Rules.{IsFlag, IsNumber, file_rule, flag_rule, number_rule, of_file, option_rule, whole}
 use Rattle.command_line.specs.declared.Asked.{Asked}
 use Rattle.command_line.specs.declared.Asked.TheVariants as asked
 use Rattle.command_line.specs.declared.crew.Crew.{Crew}
+use Rattle.command_line.specs.declared.ticks.Ticks.{Ticks}
 use Rattle.command_line.specs.declared.Options.{Options}
 use Rattle.command_line.specs.declared.Refused.{Refused}
 use Rattle.command_line.specs.declared.Refused.TheVariants as refused
-
--- a file that has to be named
-abbrev pub file_rule : Text → Rule
-file_rule name = record (new_rule name) { required = true }
-
--- a subcommand of one file
-abbrev pub of_file : Text → Text → App
-of_file name file = with_rule (new_app name) (file_rule file)
 
 -- the program: one of its subcommands has to be named, or its version asked for, and the words begin after the program's name
 abbrev pub bare : App
@@ -33,32 +26,19 @@ version_text = codes "warp 0.1.0\nproved with rattle-kit-13f logic dac8208d650f1
 abbrev pub print_app : App
 print_app = of_file (codes "print") (codes "F")
 
--- a number with a default
-abbrev pub number_rule : Text → Text → ValueParser → Rule
-number_rule name default parser = record (new_rule name) { long = Some name; defaults = default ∷ []; parser = Some parser }
-
-abbrev pub table_rule : Rule
-table_rule = record (new_rule (codes "table")) { long = Some (codes "table"); value_names = 1 }
-
--- what is asked for by its name alone
-abbrev pub flag_rule : Text → Rule
-flag_rule name = record (new_rule name) { long = Some name; action = Some SetTrue }
-
-abbrev pub whole : ValueParser
-whole = Unsigned 0 18446744073709551615
-
 -- a subcommand that simulates or drives
 abbrev pub simulating : App → App
 simulating app =
-    with_rule (with_rule (with_rule (with_rule (with_rule (with_rule (with_rule (with_rule app
+    with_rule (with_rule (with_rule (with_rule (with_rule (with_rule (with_rule (with_rule (with_rule app
     (number_rule (codes "seed") (codes "1") whole))
     (number_rule (codes "stream") (codes "0") whole))
     (number_rule (codes "gap") (codes "8") (Unsigned 1 65535)))
     (flag_rule (codes "from-zero")))
     (number_rule (codes "ticks") (codes "1000") (Unsigned 0 4294967296)))
-    table_rule)
+    (option_rule (codes "table")))
     (flag_rule (codes "trace")))
-    (flag_rule (codes "head"))
+    (flag_rule (codes "head")))
+    (flag_rule (codes "progress"))
 
 abbrev pub reference_app : App
 reference_app = simulating (of_file (codes "reference") (codes "F"))
@@ -78,23 +58,25 @@ check_app = with_rule (of_file (codes "check") (codes "F")) (file_rule (codes "T
 abbrev pub drive_app : App
 drive_app = simulating (with_rule (of_file (codes "drive") (codes "F")) (file_rule (codes "STEPS")))
 
+-- a subcommand that judges further files
+abbrev pub judging : App → App
+judging app =
+    with_rule (with_rule (with_rule app (option_rule (codes "table"))) (option_rule (codes "steps")))
+    (option_rule (codes "actions"))
+
+abbrev pub explain_app : App
+explain_app = judging (of_file (codes "explain") (codes "F"))
+
+abbrev pub draw_app : App
+draw_app = ticked (simulating (of_file (codes "draw") (codes "F")))
+
 abbrev pub warp : App
 warp =
-    with_subcommand (with_subcommand (with_subcommand (with_subcommand (with_subcommand bare print_app.top) reference_app.top) run_app.top) check_app.top)
-    drive_app.top
-
--- the number that stands for an option, within a range
-pub record IsNumber (rows : List Row) (option : Text) (least most n : ℕ) : Type 0 where
-  pub text : Text
-  pub given : one_of option rows ≡ Some text
-  pub numeral : IsNumeral 10 (without_leading_plus text)
-  pub value : n ≡ digits_value 10 (without_leading_plus text)
-  pub above : least ≤ n
-  pub below : n ≤ most
-
--- whether a flag was set
-abbrev pub IsFlag : Option Text → Bool → Type 0
-IsFlag text set = (text ≡ Some (codes "true")) ↔ (set ≡ true)
+    with_subcommand (with_subcommand (with_subcommand (with_subcommand (with_subcommand (with_subcommand (with_subcommand (with_subcommand bare print_app.top) reference_app.top) run_app.top) check_app.top)
+    drive_app.top)
+    explain_app.top)
+    hunt_app.top)
+    draw_app.top
 
 -- the options as they were entered, or else as they are where they aren't
 pub record HasOptions (rows : List Row) (options : Options) : Type 0 where
@@ -106,6 +88,7 @@ pub record HasOptions (rows : List Row) (options : Options) : Type 0 where
   pub table : option_map (λ s. s.now) options.table ≡ first_of (codes "table") rows
   pub trace : IsFlag (first_of (codes "trace") rows) options.trace
   pub head : IsFlag (first_of (codes "head") rows) options.head
+  pub progress : IsFlag (first_of (codes "progress") rows) options.progress
 
 -- the workers, how far each runs ahead, and whether they tell what they did, as they were entered
 pub record HasCrew (rows : List Row) (crew : Crew) : Type 0 where
@@ -143,11 +126,28 @@ pub record NamesBoth (entered : Option (Text × List Row)) (subcommand first sec
   pub first_given : first_of first rows ≡ Some first_file
   pub second_given : first_of second rows ≡ Some second_file
 
+-- what was entered is this subcommand, with this file, these options and these ticks
+pub record Draws (entered : Option (Text × List Row)) (source : Text) (options : Options) (between : Ticks) : Type 0 where
+  pub rows : List Row
+  pub is : entered ≡ Some (codes "draw", rows)
+  pub given : first_of (codes "F") rows ≡ Some source
+  pub chosen : HasOptions rows options
+  pub ticks : HasTicks rows between
+
 -- what was entered is this subcommand, and this is its file
 pub record Names (entered : Option (Text × List Row)) (subcommand argument file : Text) : Type 0 where
   pub rows : List Row
   pub is : entered ≡ Some (subcommand, rows)
   pub given : first_of argument rows ≡ Some file
+
+-- what was entered is `explain`, with this file, and these further files where they are named
+pub record Explains (entered : Option (Text × List Row)) (source : Text) (table steps actions : Option Text) : Type 0 where
+  pub rows : List Row
+  pub is : entered ≡ Some (codes "explain", rows)
+  pub given : first_of (codes "F") rows ≡ Some source
+  pub table_is : table ≡ first_of (codes "table") rows
+  pub steps_is : steps ≡ first_of (codes "steps") rows
+  pub actions_is : actions ≡ first_of (codes "actions") rows
 
 abbrev pub IsNamed : Option (Text × List Row) → Asked → Type 0
 IsNamed entered (asked.Print source) = Names entered (codes "print") (codes "F") source.now
@@ -155,6 +155,10 @@ IsNamed entered (asked.Reference source options) = Simulates entered (codes "ref
 IsNamed entered (asked.Run source options crew) = SimulatesByWorkers entered (codes "run") source.now options crew
 IsNamed entered (asked.Check source trace) = NamesBoth entered (codes "check") (codes "F") (codes "TRACE") source.now trace.now
 IsNamed entered (asked.Drive source steps options) = Drives entered (codes "drive") source.now steps.now options
+IsNamed entered (asked.Explain source table steps actions) =
+    Explains entered source.now (option_map (λ s. s.now) table) (option_map (λ s. s.now) steps) (option_map (λ s. s.now) actions)
+IsNamed entered (asked.Hunt source action hunting) = Hunts entered source.now action.now hunting
+IsNamed entered (asked.Draw source options ticks) = Draws entered source.now options ticks
 
 -- `clap` finds this fault in the words
 abbrev pub HasFault : List Text → ErrorKind → Type 0

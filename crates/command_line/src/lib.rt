@@ -6,16 +6,26 @@ ghost use Rattle.clap.specs.Words.{app_of, first_of, found_of, kind_of, rows_of,
 ghost use Rattle.command_line.specs.declared.Asked.{Asked as AskedValue};
 ghost use Rattle.command_line.specs.declared.crew.Crew.{Crew as CrewValue};
 ghost use Rattle.command_line.specs.declared.Options.{Options as OptionsValue};
-ghost use Rattle.command_line.specs.Words.{version_text, warp, file_rule, flag_rule, number_rule, table_rule, simulating, manned, print_app, reference_app, run_app, check_app, drive_app, HasCrew, HasOptions, IsAsked, IsFlag, IsNamed, IsNumber, IsRefused, IsTold};
+ghost use Rattle.command_line.specs.Rules.{file_rule, flag_rule, number_rule, option_rule, IsFlag, IsNumber};
+ghost use Rattle.command_line.specs.Words.{bare, version_text, warp, simulating, manned, print_app, reference_app, run_app, check_app, drive_app, explain_app, judging, HasCrew, HasOptions, IsAsked, IsNamed, IsRefused, IsTold};
 ghost use Rattle.command_line.specs.declared.Refused.TheVariants.{NoMemory};
 
 mod crew;
+mod drawing;
+mod hunting;
+mod seeds;
+mod ticks;
 
 use clap::builder::ValueParser;
 use clap::error::{Error, ErrorKind};
 use clap::{Arg, ArgAction, ArgMatches, Command, value_parser};
 pub use crew::Crew;
+use drawing::ticks_of;
+pub use hunting::Hunting;
+use hunting::hunting_of;
+pub use seeds::Seeds;
 use std::alloc::{AllocError, Global};
+pub use ticks::Ticks;
 
 /// What the words ask for.
 #[derive(Clone, Copy, Debug, PartialEq, Eq)]
@@ -46,6 +56,25 @@ pub enum Asked<'a> {
         steps: &'a str,
         options: Options<'a>,
     },
+    /// People are told of the first fault of the source in this file, or of the other files by it; or of a number at length.
+    Explain {
+        source: &'a str,
+        table: Option<&'a str>,
+        steps: Option<&'a str>,
+        actions: Option<&'a str>,
+    },
+    /// An action is hunted for in the schedules of the composition of the source in this file.
+    Hunt {
+        source: &'a str,
+        action: &'a str,
+        hunting: Hunting,
+    },
+    /// The schedule of the composition of the source in this file is drawn.
+    Draw {
+        source: &'a str,
+        options: Options<'a>,
+        ticks: Ticks,
+    },
 }
 
 /// The turns with which a composition is simulated or driven, and what is written of them.
@@ -67,6 +96,8 @@ pub struct Options<'a> {
     pub trace: bool,
     /// A head is written in front of the turns.
     pub head: bool,
+    /// How far it is is told once a second.
+    pub progress: bool,
 }
 
 /// Why the words ask for nothing.
@@ -119,7 +150,7 @@ pub fn read_words<'a>(alloc: Global, words: &'a [String]) -> Result<Asked<'a>, R
         None => {
             let error = command.error(
                 ErrorKind::MissingSubcommand,
-                "a subcommand and its file are wanted",
+                "a subcommand and its file are wanted, and `--seeds` as FIRST..LAST, the first not above the last",
             );
             drop(command);
             Err(Refused::Words(error?))
@@ -127,19 +158,29 @@ pub fn read_words<'a>(alloc: Global, words: &'a [String]) -> Result<Asked<'a>, R
     }
 }
 
-fn described<'a>(alloc: Global) -> Result<Command<'a>, AllocError>
-    ensures app { IfOk result (λ c. app_of c ≡ warp) }
+// The program without its subcommands.
+fn bare<'a>(alloc: Global) -> Command<'a>
+    ensures { app_of result ≡ bare }
 {
     Command::new(alloc, "warp")
         .about("A parallel simulator of composed I/O automata")
         .version(version())
         .no_binary_name(true)
         .subcommand_required(true)
+}
+
+fn described<'a>(alloc: Global) -> Result<Command<'a>, AllocError>
+    ensures app { IfOk result (λ c. app_of c ≡ warp) }
+{
+    bare(alloc)
         .subcommand(print(alloc)?)?
         .subcommand(reference(alloc)?)?
         .subcommand(run(alloc)?)?
         .subcommand(check(alloc)?)?
-        .subcommand(drive(alloc)?)
+        .subcommand(drive(alloc)?)?
+        .subcommand(explain(alloc)?)?
+        .subcommand(hunting::hunt(alloc)?)?
+        .subcommand(drawing::draw(alloc)?)
 }
 
 fn print<'a>(alloc: Global) -> Result<Command<'a>, AllocError>
@@ -147,6 +188,7 @@ fn print<'a>(alloc: Global) -> Result<Command<'a>, AllocError>
 {
     Command::new(alloc, "print")
         .about("Print a source in its layout; it is read and not checked")
+        .after_help("Example: warp print examples/ring.ioa")
         .arg(file(alloc, "F", "The file of the source"))
 }
 
@@ -157,6 +199,7 @@ fn reference<'a>(alloc: Global) -> Result<Command<'a>, AllocError>
         .about(
             "Simulate a composition by one thread, which always takes the turn with the least key",
         )
+        .after_help("Example: warp reference examples/ring.ioa --table examples/ring-a.table")
         .arg(file(alloc, "F", "The file of the source"))?;
     with_options(alloc, command)
 }
@@ -166,6 +209,7 @@ fn run<'a>(alloc: Global) -> Result<Command<'a>, AllocError>
 {
     let command = Command::new(alloc, "run")
         .about("Simulate a composition by several workers, and write the turns that are committed")
+        .after_help("Example: warp run examples/lcr.ioa --seed 7 --ticks 100 --workers 4")
         .arg(file(alloc, "F", "The file of the source"))?;
     let command = with_options(alloc, command)?;
     with_crew(alloc, command)
@@ -176,6 +220,7 @@ fn check<'a>(alloc: Global) -> Result<Command<'a>, AllocError>
 {
     Command::new(alloc, "check")
         .about("Say whether actions are a schedule of a composition")
+        .after_help("Example: warp check examples/ring.ioa ACTIONS")
         .arg(file(alloc, "F", "The file of the source"))?
         .arg(file(alloc, "TRACE", "The file of the actions, one a line"))
 }
@@ -185,9 +230,36 @@ fn drive<'a>(alloc: Global) -> Result<Command<'a>, AllocError>
 {
     let command = Command::new(alloc, "drive")
         .about("Drive a composition by steps, and write the turns that are committed after all")
+        .after_help(
+            "Example: warp drive examples/ring.ioa examples/ring.steps --table examples/ring-a.table",
+        )
         .arg(file(alloc, "F", "The file of the source"))?
         .arg(file(alloc, "STEPS", "The file of the steps, one a line"))?;
     with_options(alloc, command)
+}
+
+fn explain<'a>(alloc: Global) -> Result<Command<'a>, AllocError>
+    ensures { IfOk result (λ c. app_of c ≡ explain_app) }
+{
+    let command = Command::new(alloc, "explain")
+        .about("Tell where a source or a file for it is refused, and what may help; or of a number")
+        .after_help("Examples: warp explain examples/ring.ioa; warp explain 12")
+        .arg(file(
+            alloc,
+            "F",
+            "The file of the source, or the number of a refusal or fault",
+        ))?;
+    with_files(alloc, command)
+}
+
+// The options of what judges further files.
+fn with_files<'a>(alloc: Global, command: Command<'a>) -> Result<Command<'a>, AllocError>
+    ensures { IfOk result (λ c. app_of c ≡ judging (app_of command.entry)) }
+{
+    command
+        .arg(other(alloc, "table", "The file of a table of turns"))?
+        .arg(other(alloc, "steps", "The file of steps, one a line"))?
+        .arg(other(alloc, "actions", "The file of actions, one a line"))
 }
 
 // The options of what simulates or drives.
@@ -219,12 +291,21 @@ fn with_options<'a>(alloc: Global, command: Command<'a>) -> Result<Command<'a>, 
             "Draw gaps from 0 to one less than --gap, and not from 1 to --gap",
         ))?
         .arg(number(alloc, "ticks", "1000", ticks, "The last tick"))?
-        .arg(table(alloc))?
+        .arg(other(
+            alloc,
+            "table",
+            "The file of a table of turns; seed, stream and gap are then not used",
+        ))?
         .arg(flag(alloc, "trace", "Write only turns with an external action"))?
         .arg(flag(
             alloc,
             "head",
             "Begin with the line `trace 2`, after which `check` wants rising keys",
+        ))?
+        .arg(flag(
+            alloc,
+            "progress",
+            "Tell on standard error once a second how far it is",
         ))
 }
 
@@ -273,14 +354,15 @@ fn number<'a>(
         .help(help)
 }
 
-fn table<'a>(alloc: Global) -> Arg<'a>
-    ensures rule { rule_of result ≡ table_rule }
+// The option of another file.
+fn other<'a>(alloc: Global, name: &'a str, help: &'a str) -> Arg<'a>
+    ensures rule { rule_of result ≡ option_rule name.now }
     ensures local { result.global ≡ false }
 {
-    Arg::new(alloc, "table")
-        .long("table")
+    Arg::new(alloc, name)
+        .long(name)
         .value_name("FILE")
-        .help("The file of a table of turns; seed, stream and gap are then not used")
+        .help(help)
 }
 
 fn flag<'a>(alloc: Global, name: &'a str, help: &'a str) -> Arg<'a>
@@ -339,6 +421,35 @@ fn asked_by<'a>(matches: &ArgMatches<'a>) -> Option<Asked<'a>>
             options,
         });
     }
+    if name == "explain" {
+        let source = file_of(found, "F")?;
+        return Some(Asked::Explain {
+            source,
+            table: file_of(found, "table"),
+            steps: file_of(found, "steps"),
+            actions: file_of(found, "actions"),
+        });
+    }
+    if name == "hunt" {
+        let source = file_of(found, "F")?;
+        let action = file_of(found, "ACTION")?;
+        let hunting = hunting_of(found)?;
+        return Some(Asked::Hunt {
+            source,
+            action,
+            hunting,
+        });
+    }
+    if name == "draw" {
+        let source = file_of(found, "F")?;
+        let options = options_of(found)?;
+        let ticks = ticks_of(found)?;
+        return Some(Asked::Draw {
+            source,
+            options,
+            ticks,
+        });
+    }
     None
 }
 
@@ -359,6 +470,7 @@ fn options_of<'a>(found: &ArgMatches<'a>) -> Option<Options<'a>>
         table: file_of(found, "table"),
         trace: is_set(found, "trace"),
         head: is_set(found, "head"),
+        progress: is_set(found, "progress"),
     })
 }
 

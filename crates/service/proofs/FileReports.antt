@@ -6,7 +6,7 @@ use Rattle.plans.specs.Automata.{Instance}
 use Rattle.task_seed.specs.Turning.{System}
 use Rattle.command_line.specs.declared.Options.{Options}
 use Rattle.service.specs.declared.report.Report.{Report}
-use Rattle.service.specs.declared.report.Report.TheVariants.{Done, No, Driven, Ran, Refused, Fault, Misused}
+use Rattle.service.specs.declared.report.Report.TheVariants.{Done, No, Driven, Ran, Explained, Refused, Fault, Misused}
 use Rattle.service.specs.FileReports.{FilesMean, FilesMeanNone, HasNoPlan, HasNoSystem, HasTurns, IsSmallReport, table_of}
 use Rattle.service.specs.Parts.{IsRefusal}
 use Rattle.service.specs.Reports.{is_served}
@@ -27,6 +27,7 @@ unserved Done s r = r
 unserved No s r = r
 unserved (Driven refused) s r = r
 unserved (Ran stats) s r = r
+unserved Explained s r = r
 unserved (Refused number place) s r = cc
 unserved (Fault number) s r = cc
 unserved Misused s r = r
@@ -36,7 +37,7 @@ no_plan_refused has lacks report (inl unread) = some_refusal _ _ report unread
 no_plan_refused has lacks report (inr s) = some_refusal _ _ report s.judged
 
 module _ (has : List ℕ → List ℕ → Type 0) (lacks : List ℕ → Type 0) (options : Options) where
-  no_system_refused : (composition : List Instance) (table : Option (List ℕ)) (report : Report) → HasNoSystem has lacks composition options table report → IsSomeRefusal report
+  pub no_system_refused : (composition : List Instance) (table : Option (List ℕ)) (report : Report) → HasNoSystem has lacks composition options table report → IsSomeRefusal report
   no_system_refused composition None report (inl unread) = some_refusal _ _ report unread
   no_system_refused composition (Some name) report (inl unread) = some_refusal _ _ report unread
   no_system_refused composition None report (inr none) = some_refusal _ _ report none

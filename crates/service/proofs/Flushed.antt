@@ -14,16 +14,19 @@ use Rattle.command_line.specs.declared.Asked.TheVariants as asked
 use Rattle.command_line.specs.declared.Options.{Options}
 use Rattle.workers.specs.Runs.{IsWhole}
 use Rattle.service.specs.declared.report.Report.{Report}
-use Rattle.service.specs.declared.report.Report.TheVariants.{Done, No, Driven, Ran, Refused, Fault, Misused}
+use Rattle.service.specs.declared.report.Report.TheVariants.{Done, No, Driven, Ran, Explained, Refused, Fault, Misused}
 use Rattle.service.specs.Checks.{IsActionsReport, IsNo, IsVerdictOn, IsYes}
 use Rattle.service.specs.Crews.{IsCrewReport}
 use Rattle.service.specs.Drives.{IsStepsReport}
+use Rattle.service.specs.Explained.{AllTold, IsExplainReport, IsStoryReport, IsTellingReport, LacksAny, named}
 use Rattle.service.specs.FileReports.{FilesMean, FilesMeanNone, IsCheckFileReport, IsDriveFileReport, IsRunFileReport, IsSimulateFileReport, IsSmallReport, form_for}
 use Rattle.service.specs.Flushed.{IsFlushed, IsFlushedWhere}
 use Rattle.service.specs.Parts.{IsSimulationReport}
 use Rattle.service.specs.Reports.{is_served, IsFlushedReport, IsInformed, IsPrintReport, IsReport, IsReportOn, IsUnserved}
 use Rattle.service.specs.Simulations.{IsEngineReport}
 use Rattle.service.specs.Told.{IsWarned}
+use Rattle.service.proofs.DrawReports.{draw_again}
+use Rattle.service.proofs.HuntReports.{hunt_again}
 use Rattle.service.proofs.FileReports.{engine_again, no_plan_refused, none_refused, some_refusal, unserved}
 
 module _ (wrote again : List ℕ → Type 0) (stays : (text : List ℕ) → wrote text → again text) (kept still : Type 0) (cut later : List ℕ → ℕ → Type 0) where
@@ -34,6 +37,7 @@ module _ (wrote again : List ℕ → Type 0) (stays : (text : List ℕ) → wrot
   print_again has lacks No s p = p
   print_again has lacks (Driven refused) s p = p
   print_again has lacks (Ran stats) s p = p
+  print_again has lacks Explained s p = p
   print_again has lacks (Refused number place) s p = cc
   print_again has lacks (Fault number) s p = cc
   print_again has lacks Misused s p = cc
@@ -43,6 +47,7 @@ module _ (wrote again : List ℕ → Type 0) (stays : (text : List ℕ) → wrot
   simulation_again plan system form No s p = p
   simulation_again plan system form (Driven refused) s p = p
   simulation_again plan system form (Ran stats) s p = p
+  simulation_again plan system form Explained s p = p
   simulation_again plan system form (Refused number place) s p = cc
   simulation_again plan system form (Fault number) s p = cc
   simulation_again plan system form Misused s p = p
@@ -55,6 +60,7 @@ module _ (wrote again : List ℕ → Type 0) (stays : (text : List ℕ) → wrot
   crew_again plan system form stats No s p = p
   crew_again plan system form stats (Driven refused) s p = p
   crew_again plan system form stats (Ran counts) s p = (p.0, whole_again plan system form counts.turns p.1)
+  crew_again plan system form stats Explained s p = p
   crew_again plan system form stats (Refused number place) s p = cc
   crew_again plan system form stats (Fault number) s p = cc
   crew_again plan system form stats Misused s p = cc
@@ -70,6 +76,7 @@ module _ (wrote again : List ℕ → Type 0) (stays : (text : List ℕ) → wrot
         driven = record { replies = d.replies; world = d.world; runs = d.runs; refused_are = d.refused_are; turns = d.turns; committed = d.committed; beginning = d.beginning; became = stays _ d.became };
       }
   steps_again plan system form bytes (Ran stats) s p = p
+  steps_again plan system form bytes Explained s p = p
   steps_again plan system form bytes (Refused number place) s p = cc
   steps_again plan system form bytes (Fault number) s p = cc
   steps_again plan system form bytes Misused s p = p
@@ -84,6 +91,7 @@ module _ (wrote again : List ℕ → Type 0) (stays : (text : List ℕ) → wrot
   actions_again plan bytes No s p = verdict_again IsNo plan bytes p
   actions_again plan bytes (Driven refused) s p = p
   actions_again plan bytes (Ran stats) s p = p
+  actions_again plan bytes Explained s p = p
   actions_again plan bytes (Refused number place) s p = cc
   actions_again plan bytes (Fault number) s p = cc
   actions_again plan bytes Misused s p = p
@@ -128,6 +136,31 @@ module _ (wrote again : List ℕ → Type 0) (stays : (text : List ℕ) → wrot
           judged = record { plan = j.plan; composed = j.composed; holds = small_again (has trace) (lacks trace) (λ bytes. IsActionsReport j.plan bytes kept wrote cut) (λ bytes. IsActionsReport j.plan bytes still again later) report s (λ bytes. actions_again j.plan bytes report s) j.holds };
         })
 
+  story_again : (report : Report) → is_served report ≡ true → IsStoryReport wrote cut report → IsStoryReport again later report
+  story_again Done s p = record { text = p.text; some = p.some; became = stays p.text p.became }
+  story_again No s p = p
+  story_again (Driven refused) s p = p
+  story_again (Ran stats) s p = p
+  story_again Explained s p = p
+  story_again (Refused number place) s p = cc
+  story_again (Fault number) s p = cc
+  story_again Misused s p = p
+
+  telling_again : (Told : Option (List ℕ) → Type 0) (Lacks : ℕ → Type 0) (report : Report) → is_served report ≡ true → IsTellingReport Told Lacks kept wrote cut report → IsTellingReport Told Lacks still again later report
+  telling_again Told Lacks Done s p = record { is = p.is; became = stays _ p.became }
+  telling_again Told Lacks No s p = p
+  telling_again Told Lacks (Driven refused) s p = p
+  telling_again Told Lacks (Ran stats) s p = p
+  telling_again Told Lacks Explained s p = record { text = p.text; told = record { is = p.told.is; became = stays _ p.told.became } }
+  telling_again Told Lacks (Refused number place) s p = cc
+  telling_again Told Lacks (Fault number) s p = cc
+  telling_again Told Lacks Misused s p = p
+
+  explain_again : (has : List ℕ → List ℕ → Type 0) (lacks : List ℕ → Type 0) (source : List ℕ) (table steps actions : Option (List ℕ)) (report : Report) → is_served report ≡ true
+      → IsExplainReport has lacks source table steps actions kept wrote cut report → IsExplainReport has lacks source table steps actions still again later report
+  explain_again has lacks source table steps actions report s (inl p) = inl (p.0, story_again report s p.1)
+  explain_again has lacks source table steps actions report s (inr p) = inr (p.0, telling_again (AllTold has source table steps actions) (LacksAny has lacks source table steps actions) report s p.1)
+
   informed_again : (words : List (List ℕ)) → IsInformed words wrote → IsInformed words again
   informed_again words (inl h) = inl (record { asked = h.asked; went = record { text = h.went.text; some = h.went.some; became = stays h.went.text h.went.became } })
   informed_again words (inr v) = inr (record { asked = v.asked; went = stays _ v.went })
@@ -137,6 +170,7 @@ module _ (wrote again : List ℕ → Type 0) (stays : (text : List ℕ) → wrot
   unserved_again words No s p = p
   unserved_again words (Driven refused) s p = p
   unserved_again words (Ran stats) s p = p
+  unserved_again words Explained s p = p
   unserved_again words (Refused number place) s p = cc
   unserved_again words (Fault number) s p = cc
   unserved_again words Misused s p = cc
@@ -147,6 +181,9 @@ module _ (wrote again : List ℕ → Type 0) (stays : (text : List ℕ) → wrot
   on_again (asked.Run source options crew) has lacks report s = run_again has lacks source.now report s options crew.stats
   on_again (asked.Check source trace) has lacks report s = check_again has lacks source.now report s trace.now
   on_again (asked.Drive source steps options) has lacks report s = drive_again has lacks source.now report s options steps.now
+  on_again (asked.Explain source table steps actions) has lacks report s = explain_again has lacks source.now (named table) (named steps) (named actions) report s
+  on_again (asked.Hunt source action hunting) has lacks report s = hunt_again wrote again stays kept still cut later (has source.now) (lacks source.now) action.now hunting report s
+  on_again (asked.Draw source options ticks) has lacks report s = draw_again has lacks options wrote again stays ticks kept still cut later report s source.now
 
   report_again : (words : List (List ℕ)) (has : List ℕ → List ℕ → Type 0) (lacks : List ℕ → Type 0) (report : Report) → is_served report ≡ true → IsReport words has lacks kept wrote cut report → IsReport words has lacks still again later report
   report_again words has lacks report s (inl p) = inl (record { what = p.what; is = p.is; on = on_again p.what has lacks report s p.on })
@@ -192,6 +229,7 @@ flushed_warned known old new report result (inr failed) warned = subst (IsWarned
     quiet No s w = w
     quiet (Driven refused) s w = w
     quiet (Ran stats) s w = w
+    quiet Explained s w = w
     quiet (Refused number place) s w = cc
     quiet (Fault number) s w = cc
     quiet Misused s w = cc

@@ -29,7 +29,7 @@ use Rattle.task_seed.specs.declared.table_turns.TableTurnsError.TheVariants as t
 use Rattle.task_seed.specs.declared.turns.Turn.{Turn}
 use Rattle.compose.specs.Composed.{IsComposed}
 use Rattle.service.specs.declared.report.Report.{Report}
-use Rattle.service.specs.declared.report.Report.TheVariants.{Done, No, Driven, Ran, Refused, Fault, Misused}
+use Rattle.service.specs.declared.report.Report.TheVariants.{Done, No, Driven, Ran, Explained, Refused, Fault, Misused}
 use Rattle.service.specs.Parts.{IsMemory, IsRefusal}
 use Rattle.service.specs.Reports.{report_of}
 use Rattle.service.specs.Setups.{Given, AreRefused, AreTurns, GivesNoSystem, IsBadGap, IsSetup, IsSystem, IsTabled, IsWithin}
@@ -61,6 +61,7 @@ refusal_otherwise Bad Other Lacks Wants f g Done r = absurd r
 refusal_otherwise Bad Other Lacks Wants f g No r = absurd r
 refusal_otherwise Bad Other Lacks Wants f g (Driven refused) r = absurd r
 refusal_otherwise Bad Other Lacks Wants f g (Ran stats) r = absurd r
+refusal_otherwise Bad Other Lacks Wants f g Explained r = absurd r
 refusal_otherwise Bad Other Lacks Wants f g (Refused n p) r = f n p r
 refusal_otherwise Bad Other Lacks Wants f g (Fault n) r = g n r
 refusal_otherwise Bad Other Lacks Wants f g Misused r = absurd r

@@ -8,7 +8,7 @@ use Rattle.trace.specs.Refusals.{trace_number, trace_place}
 use Rattle.trace.specs.Versions.{HasFault}
 use Rattle.commands.specs.Judged.{IsJudged}
 use Rattle.service.specs.declared.report.Report.{Report}
-use Rattle.service.specs.declared.report.Report.TheVariants.{Done, No, Driven, Ran, Refused, Fault, Misused}
+use Rattle.service.specs.declared.report.Report.TheVariants.{Done, No, Driven, Ran, Explained, Refused, Fault, Misused}
 use Rattle.service.specs.Compositions.{GivesNoPlan, HasPlan}
 use Rattle.service.specs.Parts.{IsMemory}
 
@@ -58,6 +58,7 @@ IsActionsReport plan bytes kept wrote cut Done = IsVerdictOn IsYes wrote plan by
 IsActionsReport plan bytes kept wrote cut No = IsVerdictOn IsNo wrote plan bytes
 IsActionsReport plan bytes kept wrote cut (Driven refused) = ⊥
 IsActionsReport plan bytes kept wrote cut (Ran stats) = ⊥
+IsActionsReport plan bytes kept wrote cut Explained = ⊥
 IsActionsReport plan bytes kept wrote cut (Refused number place) =
     HasBadLine HasFault number place plan bytes × kept
 IsActionsReport plan bytes kept wrote cut (Fault number) =

@@ -8,7 +8,7 @@ use Rattle.trace.specs.Headed.{Behind, headed}
 use Rattle.workers.specs.declared.stats.Stats.{Stats}
 use Rattle.workers.specs.Runs.{IsBegun, IsCut, IsWhole}
 use Rattle.service.specs.declared.report.Report.{Report}
-use Rattle.service.specs.declared.report.Report.TheVariants.{Done, No, Driven, Ran, Refused, Fault, Misused}
+use Rattle.service.specs.declared.report.Report.TheVariants.{Done, No, Driven, Ran, Explained, Refused, Fault, Misused}
 use Rattle.service.specs.Setups.{Given}
 use Rattle.service.specs.Simulations.{IsEngineReport, Means, MeansNone}
 
@@ -39,6 +39,7 @@ IsCrewReport plan system form stats kept wrote cut No = ⊥
 IsCrewReport plan system form stats kept wrote cut (Driven refused) = ⊥
 IsCrewReport plan system form stats kept wrote cut (Ran counts) =
     (stats ≡ true) × IsWhole plan system form.lines (Behind form.head wrote) counts.turns
+IsCrewReport plan system form stats kept wrote cut Explained = ⊥
 IsCrewReport plan system form stats kept wrote cut (Refused number place) = ⊥
 IsCrewReport plan system form stats kept wrote cut (Fault number) =
     (IsRunFault number × (kept ⊎ IsBegun plan system form.lines (Behind form.head wrote)))

@@ -11,7 +11,7 @@ use Rattle.trace.specs.StepFile.{GivesSteps, IsStepsFault}
 use Rattle.commands.specs.declared.driving.RefusedStep.{RefusedStep}
 use Rattle.commands.specs.Driven.{IsDriven}
 use Rattle.service.specs.declared.report.Report.{Report}
-use Rattle.service.specs.declared.report.Report.TheVariants.{Done, No, Driven, Ran, Refused, Fault, Misused}
+use Rattle.service.specs.declared.report.Report.TheVariants.{Done, No, Driven, Ran, Explained, Refused, Fault, Misused}
 use Rattle.service.specs.Checks.{HasBadLine}
 use Rattle.service.specs.Parts.{IsMemory}
 use Rattle.service.specs.Setups.{Given}
@@ -45,6 +45,7 @@ IsStepsReport plan system form bytes kept wrote cut No = ⊥
 IsStepsReport plan system form bytes kept wrote cut (Driven refused) =
     IsDrivenBy plan system form.lines (Behind form.head wrote) refused.items bytes
 IsStepsReport plan system form bytes kept wrote cut (Ran stats) = ⊥
+IsStepsReport plan system form bytes kept wrote cut Explained = ⊥
 IsStepsReport plan system form bytes kept wrote cut (Refused number place) =
     HasBadLine IsStepsFault number place plan bytes × kept
 IsStepsReport plan system form bytes kept wrote cut (Fault number) =

@@ -2,9 +2,12 @@ pub mod Checks
 pub mod Compositions
 pub mod Counts
 pub mod Crews
+pub mod Drawing
 pub mod Drives
+pub mod Explained
 pub mod FileReports
 pub mod Flushed
+pub mod Hunting
 pub mod Parts
 pub mod PrintRefusals
 pub mod Printing

@@ -6,7 +6,7 @@ use Rattle.trace.specs.declared.texts.Form.{Form}
 use Rattle.trace.specs.Headed.{Behind, headed}
 use Rattle.commands.specs.Simulated.{IsSimulated, IsSimulatedInPart}
 use Rattle.service.specs.declared.report.Report.{Report}
-use Rattle.service.specs.declared.report.Report.TheVariants.{Done, No, Driven, Ran, Refused, Fault, Misused}
+use Rattle.service.specs.declared.report.Report.TheVariants.{Done, No, Driven, Ran, Explained, Refused, Fault, Misused}
 
 -- want of memory alone
 abbrev pub IsMemory : ℕ → Type 0
@@ -18,6 +18,7 @@ IsRefusal Bad Lacks Done = ⊥
 IsRefusal Bad Lacks No = ⊥
 IsRefusal Bad Lacks (Driven refused) = ⊥
 IsRefusal Bad Lacks (Ran stats) = ⊥
+IsRefusal Bad Lacks Explained = ⊥
 IsRefusal Bad Lacks (Refused number place) = Bad number place
 IsRefusal Bad Lacks (Fault number) = Lacks number
 IsRefusal Bad Lacks Misused = ⊥
@@ -42,6 +43,7 @@ IsSimulationReport plan system form wrote cut Done =
 IsSimulationReport plan system form wrote cut No = ⊥
 IsSimulationReport plan system form wrote cut (Driven refused) = ⊥
 IsSimulationReport plan system form wrote cut (Ran stats) = ⊥
+IsSimulationReport plan system form wrote cut Explained = ⊥
 IsSimulationReport plan system form wrote cut (Refused number place) = ⊥
 IsSimulationReport plan system form wrote cut (Fault number) =
     (IsMemory number × IsSimulatedInPart plan system form.lines (Behind form.head wrote))

@@ -5,10 +5,13 @@ use Rattle.command_line.specs.declared.Asked.{Asked}
 use Rattle.command_line.specs.declared.Asked.TheVariants as asked
 use Rattle.command_line.specs.Words.{AskNothing, HasFault, IsAsked, IsWrong, version_text}
 use Rattle.service.specs.declared.report.Report.{Report}
-use Rattle.service.specs.declared.report.Report.TheVariants.{Done, No, Driven, Ran, Refused, Fault, Misused}
+use Rattle.service.specs.declared.report.Report.TheVariants.{Done, No, Driven, Ran, Explained, Refused, Fault, Misused}
 use Rattle.commands.specs.declared.driving.RefusedStep.{RefusedStep}
 use Rattle.service.specs.Counts.{stats_text}
+use Rattle.service.specs.Explained.{IsExplainReport, named}
 use Rattle.service.specs.FileReports.{IsCheckFileReport, IsDriveFileReport, IsRunFileReport, IsSimulateFileReport}
+use Rattle.service.specs.Drawing.{IsDrawFileReport}
+use Rattle.service.specs.Hunting.{IsHuntFileReport}
 use Rattle.service.specs.Unread.{IsSourceWith, IsUnread}
 use Rattle.service.specs.Printing.{IsPrinted, IsRefusedSource}
 use Rattle.service.specs.Written.{SomeText}
@@ -18,6 +21,7 @@ status_of Done = 0
 status_of No = 4
 status_of (Driven refused) = 0
 status_of (Ran stats) = 0
+status_of Explained = 1
 status_of (Refused number place) = 1
 status_of (Fault number) = 3
 status_of Misused = 2
@@ -32,6 +36,7 @@ line_of Done = []
 line_of No = []
 line_of (Driven refused) = flat_map refused_line refused.items
 line_of (Ran stats) = stats_text stats
+line_of Explained = []
 line_of (Refused number None) = codes "refused " ++ decimal number ++ codes "\n"
 line_of (Refused number (Some place)) = codes "refused " ++ decimal number ++ codes " at " ++ decimal place ++ codes "\n"
 line_of (Fault number) = codes "fault " ++ decimal number ++ codes "\n"
@@ -57,6 +62,7 @@ IsPrintReport has lacks kept wrote cut Done = IsSourceWith has (λ source. IsPri
 IsPrintReport has lacks kept wrote cut No = ⊥
 IsPrintReport has lacks kept wrote cut (Driven refused) = ⊥
 IsPrintReport has lacks kept wrote cut (Ran stats) = ⊥
+IsPrintReport has lacks kept wrote cut Explained = ⊥
 IsPrintReport has lacks kept wrote cut (Refused number place) = IsSourceWith has (λ source. IsRefusedSource source number place) × kept
 IsPrintReport has lacks kept wrote cut (Fault number) = (IsUnread lacks number × kept) ⊎ IsPrintCut has cut number
 IsPrintReport has lacks kept wrote cut Misused = ⊥
@@ -68,6 +74,10 @@ IsReportOn (asked.Reference source options) has lacks = IsSimulateFileReport has
 IsReportOn (asked.Run source options crew) has lacks = IsRunFileReport has lacks source.now options crew.stats
 IsReportOn (asked.Check source trace) has lacks = IsCheckFileReport has lacks source.now trace.now
 IsReportOn (asked.Drive source steps options) has lacks = IsDriveFileReport has lacks source.now steps.now options
+IsReportOn (asked.Explain source table steps actions) has lacks =
+    IsExplainReport has lacks source.now (named table) (named steps) (named actions)
+IsReportOn (asked.Hunt source action hunting) has lacks = IsHuntFileReport (has source.now) (lacks source.now) action.now hunting
+IsReportOn (asked.Draw source options ticks) has lacks = IsDrawFileReport has lacks source.now options ticks
 
 -- the words ask for something, and this is the report on it
 pub record IsReportOnAsked (words : List (List ℕ)) (has : List ℕ → List ℕ → Type 0) (lacks : List ℕ → Type 0) (kept : Type 0) (wrote : List ℕ → Type 0) (cut : List ℕ → ℕ → Type 0) (report : Report) : Type 0 where
@@ -102,6 +112,7 @@ IsUnserved words kept wrote cut Done = IsInformed words wrote
 IsUnserved words kept wrote cut No = ⊥
 IsUnserved words kept wrote cut (Driven refused) = ⊥
 IsUnserved words kept wrote cut (Ran stats) = ⊥
+IsUnserved words kept wrote cut Explained = ⊥
 IsUnserved words kept wrote cut (Refused number place) = ⊥
 IsUnserved words kept wrote cut (Fault number) = ((number ≡ 1) × kept) ⊎ IsInformedCut words cut number
 IsUnserved words kept wrote cut Misused = (IsWrong words ⊎ AskNothing words) × kept
@@ -110,12 +121,13 @@ IsUnserved words kept wrote cut Misused = (IsWrong words ⊎ AskNothing words) �
 abbrev pub IsReport : List (List ℕ) → (List ℕ → List ℕ → Type 0) → (List ℕ → Type 0) → Type 0 → (List ℕ → Type 0) → (List ℕ → ℕ → Type 0) → Report → Type 0
 IsReport words has lacks kept wrote cut report = IsReportOnAsked words has lacks kept wrote cut report ⊎ IsUnserved words kept wrote cut report
 
--- all that was asked for is done; `check` may have said no
+-- all that was asked for is done; `check` may have said no, and `explain` told of a refusal
 abbrev pub is_served : Report → Bool
 is_served Done = true
 is_served No = true
 is_served (Driven refused) = true
 is_served (Ran stats) = true
+is_served Explained = true
 is_served (Refused number place) = false
 is_served (Fault number) = false
 is_served Misused = false

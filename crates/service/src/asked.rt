@@ -8,8 +8,11 @@ ghost use Rattle.service.specs.Drives.{IsStepsReport};
 ghost use Rattle.service.specs.FileReports.{IsCheckFileReport, IsDriveFileReport, IsRunFileReport, IsSimulateFileReport, IsSmallReport, form_for, lines_for};
 ghost use Rattle.service.specs.Reports.{IsPrintReport, IsReportOn};
 
+use crate::diagrams::draw_file;
 use crate::driving::drive_setup;
+use crate::explaining::{Subject, explain_files};
 use crate::files::Files;
+use crate::hunting::hunt_file;
 use crate::printing::print_source;
 use crate::reading::{SOURCE_BYTES, plan_in, read_front, read_whole, setup_in};
 use crate::report::{Report, report_of};
@@ -49,6 +52,32 @@ pub(crate) fn do_asked<F: Files, W: Write + Drop, R: Threads + Wait + Sync>(
             steps,
             options,
         } => drive_file(alloc, source, steps, options, files, out),
+        Asked::Explain {
+            source,
+            table,
+            steps,
+            actions,
+        } => explain_files(
+            alloc,
+            Subject {
+                source,
+                table,
+                steps,
+                actions,
+            },
+            files,
+            out,
+        ),
+        Asked::Hunt {
+            source,
+            action,
+            hunting,
+        } => hunt_file(rt, alloc, source, action, hunting, files, out),
+        Asked::Draw {
+            source,
+            options,
+            ticks,
+        } => draw_file(alloc, source, options, ticks, files, out),
     }
 }
 

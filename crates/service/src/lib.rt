@@ -3,10 +3,13 @@
 
 mod asked;
 mod counts;
+mod diagrams;
 pub mod driving;
+mod explaining;
 pub mod fault;
 pub mod files;
 mod given;
+pub mod hunting;
 pub mod printing;
 mod reading;
 pub mod report;

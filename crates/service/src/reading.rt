@@ -57,8 +57,8 @@ pub(crate) fn plan_in<F: Files>(alloc: Global, name: &str, files: &F) -> Result<
     plan_of(alloc, source.as_slice())
 }
 
-// The setup of a plan with the turns that are asked for.
-fn setup_asked<F: Files>(
+/// The setup of a plan with the turns that are asked for.
+pub(crate) fn setup_asked<F: Files>(
     alloc: Global,
     plan: Plan,
     options: Options,

@@ -23,6 +23,8 @@ pub enum Report {
     Driven(Vec<RefusedStep>),
     /// `run` is done, and what the workers did is told.
     Ran(Stats),
+    /// `explain` told on standard output of what is refused.
+    Explained,
     /// A source, turns, steps or actions were refused, with the refusal's number and its place, where it has one.
     Refused(u8, Option<usize>),
     /// A run fault, or a file that couldn't be read: 1 for want of memory, 40 and 41 for a refused lease, 60 for a failed write, 61 for a
@@ -39,7 +41,7 @@ impl Report {
     {
         match self {
             Report::Done | Report::Driven(_) | Report::Ran(_) => 0,
-            Report::Refused(_, _) => 1,
+            Report::Refused(_, _) | Report::Explained => 1,
             Report::Misused => 2,
             Report::Fault(_) => 3,
             Report::No => 4,
@@ -49,10 +51,10 @@ impl Report {
     /// Writes the line of a report, if it has one, or one for each refused step or each count, up to the first write that fails.
     pub fn tell<E: Write>(&self, err: &mut Counted<E>)
         ensures said { IsSaid E.contents err.old err.new (line_of self.now) }
-        ensures quiet { (self.now ≡ Report.Done) ⊎ ((self.now ≡ Report.No) ⊎ (self.now ≡ Report.Misused)) → err.new ≡ err.old }
+        ensures quiet { (self.now ≡ Report.Done) ⊎ ((self.now ≡ Report.No) ⊎ ((self.now ≡ Report.Misused) ⊎ (self.now ≡ Report.Explained))) → err.new ≡ err.old }
     {
         match self {
-            Report::Done | Report::No | Report::Misused => {}
+            Report::Done | Report::No | Report::Misused | Report::Explained => {}
             Report::Driven(refused) => {
                 let _ = write_steps(refused.as_slice(), err);
             }

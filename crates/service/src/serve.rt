@@ -63,7 +63,7 @@ fn is_served(report: &Report) -> bool
     ensures { result ≡ is_served report.now }
 {
     match report {
-        Report::Done | Report::No | Report::Driven(_) | Report::Ran(_) => true,
+        Report::Done | Report::No | Report::Driven(_) | Report::Ran(_) | Report::Explained => true,
         Report::Refused(_, _) | Report::Fault(_) | Report::Misused => false,
     }
 }

@@ -120,8 +120,8 @@ fn gap_of(gap: u64) -> u32
     u32::try_from(gap).unwrap_or(u32::MAX)
 }
 
-// The turns of a table.
-fn tabled(alloc: Global, plan: &Plan, table: &[u8]) -> Result<AnyTurns, Report>
+/// The turns of a table.
+pub(crate) fn tabled(alloc: Global, plan: &Plan, table: &[u8]) -> Result<AnyTurns, Report>
     ensures ok { IfOk result (λ turns. IsTabled (composition plan.now) table.now (any_turn turns)) }
     ensures err { IfErr result (IsRefusal (IsRefused (composition plan.now) table.now) IsMemory) }
 {

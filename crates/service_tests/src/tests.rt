@@ -136,6 +136,11 @@ fn is_served<R: Abort + AllocGlobal + Threads + Wait + Sync>(
     is_answered(rt, files, row, false)
 }
 
+// Whether all is done by this status: of what is refused only `explain` writes anything.
+fn is_done(status: u8, held: &[u8]) -> bool {
+    status == 0 || status == 4 || (status == 1 && !held.is_empty())
+}
+
 // The same, where the output may fail to flush.
 fn is_answered<R: Abort + AllocGlobal + Threads + Wait + Sync>(
     rt: &R,
@@ -151,7 +156,7 @@ fn is_answered<R: Abort + AllocGlobal + Threads + Wait + Sync>(
     drop(words);
     let (out, err) = (out.into_inner(), err.into_inner());
     let is_right = ended == status
-        && out.is_flushed == (status == 0 || status == 4)
+        && out.is_flushed == is_done(status, out.held.as_slice())
         && is_wanted(out.held.as_slice(), printed)
         && is_wanted(err.as_slice(), said);
     drop(out);
@@ -172,7 +177,7 @@ const CUT: &str = "1 1 0 idle\n2 0 0 pass(1)\n3 1 1 pass(0)\n4 0 1 pass(1)";
 const HEADED: &str = "trace 2\n1 1 0 idle\n2 0 0 pass(1)\n3 1 1 pass(0)\n4 0 1 pass(1)\n";
 
 // Words on the ring and its table: runs, references and prints with little room, help and the version, also where these are cut.
-const SERVED: [Row; 39] = [
+const SERVED: [Row; 51] = [
     (
         "run source --table table --workers 3",
         53,
@@ -321,6 +326,50 @@ const SERVED: [Row; 39] = [
     ("print source", 5, Is("type "), Is("fault 60\n"), 3),
     ("print source", 0, Is(""), Is("fault 60\n"), 3),
     ("run missing", 100, Is(""), Is("fault 63\n"), 3),
+    (
+        "explain source --table table",
+        9,
+        Is("no fault\n"),
+        Is(""),
+        0,
+    ),
+    ("explain source", 8, Is("no fault"), Is("fault 60\n"), 3),
+    ("explain source", 0, Is(""), Is("fault 60\n"), 3),
+    // A row of a table is no step.
+    (
+        "explain source --steps table",
+        9999,
+        Has("table:1:1: refused 50: "),
+        Is(""),
+        1,
+    ),
+    (
+        "explain source --steps table",
+        5,
+        Is("table"),
+        Is("fault 60\n"),
+        3,
+    ),
+    ("explain 15", 5, Is("15 In"), Is("fault 60\n"), 3),
+    // No turn comes at tick 0.
+    ("hunt source pass --ticks 0", 5, Is("none\n"), Is(""), 4),
+    (
+        "hunt source pass --ticks 0",
+        4,
+        Is("none"),
+        Is("fault 60\n"),
+        3,
+    ),
+    (
+        "hunt source pass --ticks 0 --count",
+        1,
+        Is("0"),
+        Is("fault 60\n"),
+        3,
+    ),
+    ("hunt source pas", 9999, Is(""), Is("refused 51 at 1\n"), 1),
+    ("help", 9999, Has("hunt"), Is(""), 0),
+    ("help", 9999, Has("explain"), Is(""), 0),
     ("help", 9999, Has("Usage: warp <COMMAND>"), Is(""), 0),
     ("help", 9999, Has("run"), Is(""), 0),
     ("--help", 9999, Has("Usage: warp <COMMAND>"), Is(""), 0),
@@ -343,7 +392,7 @@ const SERVED: [Row; 39] = [
 ];
 
 // Words that are wrong, and a part of what is said then.
-const REFUSED: [(&str, &str); 23] = [
+const REFUSED: [(&str, &str); 27] = [
     ("", "Usage: warp <COMMAND>"),
     ("run", "<F>"),
     ("print", "<F>"),
@@ -367,6 +416,10 @@ const REFUSED: [(&str, &str); 23] = [
     ("-- print a", ""),
     ("drive a", "drive"),
     ("drive a b --gap 0", "--gap"),
+    ("explain a --seed 1", "--seed"),
+    ("hunt a", "<ACTION>"),
+    ("hunt a b --seeds 2..1", "FIRST..LAST"),
+    ("hunt a b --table t", "--table"),
 ];
 
 #[test]
@@ -386,7 +439,7 @@ fn words_are_served_or_refused(rt: HostRuntime) {
 }
 
 // Words with a third file, and what is printed before the output fails to flush.
-const STUCK: [(&str, &str, &str); 7] = [
+const STUCK: [(&str, &str, &str); 11] = [
     ("run source --table table --workers 2", "", TURNS),
     ("run source --table table --stats", "", TURNS),
     ("reference source --table table", "", TURNS),
@@ -399,6 +452,14 @@ const STUCK: [(&str, &str, &str); 7] = [
         "process 1\nprocess 0\ncommit 3 1 1\ncommit 2 0 0\n",
         "1 1 0 idle\n",
     ),
+    ("explain source", "", "no fault\n"),
+    (
+        "explain source --table more",
+        "x\n",
+        "more:1:1: refused 29: this line is no row of a table\nx\n^\na row is `component gap task choice`: four numbers without zeros in front, and one space between two\n",
+    ),
+    ("hunt source pass --ticks 0", "", "none\n"),
+    ("hunt source pass --ticks 0 --count", "", "0\n"),
 ];
 
 #[test]

@@ -2,23 +2,35 @@
 #![tactic(auto)]
 
 mod machine;
+mod pace;
 
-use crate::machine::MachineFiles;
+use crate::machine::{MachineFiles, STANDARD_INPUT};
+use crate::pace::{Pace, Paced};
+use command_line::{Asked, read_words};
 use service::report::Report;
 use service::serve::serve;
+use std::alloc::Global;
 use std::env;
 use std::io::{self, BufWriter, ErrorKind, Write};
 use std::process::ExitCode;
+use std::rt::Clock;
 use trace::{Counted, write_text};
 
 fn main(rt: HostRuntime) -> ExitCode {
     let alloc = rt.alloc();
     let mut err = Counted::new(rt.stderr());
-    let words = match read_words(&rt) {
+    let words = match words_of(&rt) {
         Ok(words) => words,
         Err(error) => return refuse(&error, &mut err),
     };
-    let mut out = match BufWriter::new(alloc, rt.stdout()) {
+    if names_input_twice(words.as_slice()) {
+        let _ = write_text(b"standard input, `-`, can be named once\n", &mut err);
+        return ExitCode::from(Report::Misused.status());
+    }
+    let pace = pace_of(&rt, alloc, words.as_slice());
+    let capacity = if pace.is_some() { 1_024 } else { 8_192 };
+    let paced = Paced::new(&rt, rt.stdout(), pace);
+    let mut out = match BufWriter::with_capacity(alloc, capacity, paced) {
         Ok(out) => Counted::new(out),
         Err(error) => return refuse(&error, &mut err),
     };
@@ -27,7 +39,7 @@ fn main(rt: HostRuntime) -> ExitCode {
 }
 
 // The words after the program's name.
-fn read_words(rt: &HostRuntime) -> io::Result<Vec<String>> {
+fn words_of(rt: &HostRuntime) -> io::Result<Vec<String>> {
     let mut words = Vec::new(rt.alloc());
     for word in env::args(rt)?.skip(1) {
         words.push(word)?;
@@ -45,4 +57,30 @@ fn refuse<E: Write>(error: &io::Error, err: &mut Counted<E>) -> ExitCode {
     };
     report.tell(err);
     ExitCode::from(report.status())
+}
+
+// Whether more than one file is to be standard input.
+fn names_input_twice(words: &[String]) -> bool {
+    let mut count: usize = 0;
+    for word in words {
+        if word.as_str() == STANDARD_INPUT {
+            count = count.saturating_add(1);
+        }
+    }
+    count > 1
+}
+
+// How fast it goes, where that is to be told.
+fn pace_of<R: Clock>(rt: &R, alloc: Global, words: &[String]) -> Option<Pace> {
+    let options = match read_words(alloc, words).ok()? {
+        Asked::Reference { options, .. } => options,
+        Asked::Run { options, .. } => options,
+        Asked::Drive { options, .. } => options,
+        _ => return None,
+    };
+    if options.progress {
+        Pace::new(rt, options.ticks)
+    } else {
+        None
+    }
 }

@@ -2,7 +2,7 @@ use Rattle.std.proofs.Common.{ap, ◌≡◌, ◌∙◌, codes}
 use Rattle.std.proofs.lemmas.Result.{IfOk-weaker}
 use Rattle.clap.specs.Words.{App, app_of, with_rule}
 use Rattle.clap.specs.declared.builder.value_parser.ValueParser.TheVariants.{Unsigned}
-use Rattle.command_line.specs.Words.{number_rule}
+use Rattle.command_line.specs.Rules.{number_rule}
 use Rattle.command_line.proofs.with_options.Goals as goal
 
 pub returns : goal.returns
@@ -19,6 +19,7 @@ returns c =
     let three = c.in_ok-arg-3.ensures.shape c.number-3.ensures.local ∙ (λ i. with_rule (two i) (gap i)) in
     let four = c.in_ok-arg-4.ensures.shape c.flag.ensures.local ∙ (λ i. with_rule (three i) (c.flag.ensures.rule i)) in
     let five = c.in_ok-arg-5.ensures.shape c.number-4.ensures.local ∙ (λ i. with_rule (four i) (last i)) in
-    let six = c.in_ok-arg-6.ensures.shape c.table.ensures.local ∙ (λ i. with_rule (five i) (c.table.ensures.rule i)) in
+    let six = c.in_ok-arg-6.ensures.shape c.other.ensures.local ∙ (λ i. with_rule (five i) (c.other.ensures.rule i)) in
     let seven = c.in_ok-arg-7.ensures.shape c.flag-2.ensures.local ∙ (λ i. with_rule (six i) (c.flag-2.ensures.rule i)) in
-    IfOk-weaker c.arg-8.result _ _ (λ made h. h.shape c.flag-3.ensures.local ∙ (λ i. with_rule (seven i) (c.flag-3.ensures.rule i))) c.arg-8.ensures
+    let eight = c.in_ok-arg-8.ensures.shape c.flag-3.ensures.local ∙ (λ i. with_rule (seven i) (c.flag-3.ensures.rule i)) in
+    IfOk-weaker c.arg-9.result _ _ (λ made h. h.shape c.flag-4.ensures.local ∙ (λ i. with_rule (eight i) (c.flag-4.ensures.rule i))) c.arg-9.ensures
