@@ -1,0 +1,1 @@
+autocmd BufRead,BufNewFile *.ioa setfiletype ioa
