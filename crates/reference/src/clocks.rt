@@ -31,7 +31,7 @@ impl Clocks {
     }
 
     /// The turn of a key.
-    #[inline]
+    #[inline(always)]
     pub(crate) fn turn<T: Turns>(&self, setup: &Setup<T>, key: Key, numbers: &[u64]) -> Turn
         requires there { Some key ≡ key_of (system T.turn_of setup.now) key.component key.number }
         requires within { key.component < length (composition (plan_of setup.now)) }
@@ -42,7 +42,7 @@ impl Clocks {
     }
 
     /// The clock of this key's component reaches the turn after it, and gives that turn's key, if there is one. A refusal leaves the clocks.
-    #[inline]
+    #[inline(always)]
     pub(crate) fn reach_after<T: Turns>(
         &mut self,
         setup: &Setup<T>,

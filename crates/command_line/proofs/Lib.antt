@@ -1,5 +1,0 @@
-mod Telling
-mod Numbers
-mod Locals
-mod Ranges
-mod Runs

@@ -1,4 +1,0 @@
-pub mod Drawing
-pub mod Hunting
-pub mod Rules
-pub mod Words

@@ -1,6 +1,0 @@
-pub mod Crews
-pub mod Gates
-pub mod Portions
-pub mod Refusals
-pub mod Runs
-pub mod Leases
