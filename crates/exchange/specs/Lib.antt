@@ -1,0 +1,13 @@
+pub mod LeaseView
+pub mod ExchangeView
+pub mod Start
+pub mod Chunks
+pub mod Held
+pub mod Known
+pub mod Moving
+pub mod Refusals
+pub mod Windows
+pub mod Same
+pub mod SameLaws
+pub mod Core
+pub mod Seen

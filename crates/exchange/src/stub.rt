@@ -1,0 +1,98 @@
+//! What is kept of a component that a worker may hold.
+ghost use Rattle.std.specs.Prelude.{◌≡◌, ◌≤◌, ◌<◌, ◌+◌, ℕ, Some, IfSome, length};
+ghost use Rattle.event_keys.specs.Ranks.{rank_of_bound};
+ghost use Rattle.plans.specs.Plans.{composition};
+ghost use Rattle.task_seed.specs.Setups.{system, plan_of};
+ghost use Rattle.task_seed.specs.Turning.{key_of};
+ghost use Rattle.task_seed.specs.Machines.{turn_rank, end_rank};
+ghost use Rattle.exchange.specs.ExchangeView.{earlier, clear_until, is_ahead_below};
+
+use antimessage::Bag;
+use event_keys::laws::bound_rank_law;
+use event_keys::{Bound, Key};
+use task_seed::{Setup, Turns, Walk};
+
+/// What the exchange keeps of a component, whoever holds it: base and floor of its last meeting, the messages that it has taken, the
+/// messages that it has sent and not taken back, and the messages that are on their way to it.
+#[derive(Drop)]
+pub struct Stub {
+    pub(crate) base: Bound,
+    pub(crate) floor: Bound,
+    pub(crate) taken: Bag,
+    pub(crate) standing: Bag,
+    pub(crate) inbox: Bag,
+    // A copy of each message of the inbox.
+    pub(crate) copies: Bag,
+    // The number of its turns below the exchange's bound, and the key of the one after them.
+    pub(crate) passed: u64,
+    pub(crate) ahead: Option<Key>,
+}
+
+pub(crate) fn earlier(first: Bound, second: Bound) -> Bound
+    ensures { result ≡ earlier first second }
+{
+    bound_rank_law(first, second);
+    if first < second { first } else { second }
+}
+
+impl Stub {
+    /// Up to where nothing of the component can come any more: the earlier of its floor and its inbox's least key.
+    pub fn clear_until(&self) -> Bound
+        ensures { result ≡ clear_until self.now }
+    {
+        earlier(self.floor, self.inbox.least())
+    }
+
+    // Whether the turn after those that are counted is below a bound.
+    fn is_ahead_below(&self, bound: Bound) -> bool
+        ensures { result ≡ is_ahead_below (rank_of_bound bound) self.now.ahead }
+    {
+        match self.ahead {
+            None => false,
+            Some(key) => {
+                bound_rank_law(Bound::At(key), bound);
+                Bound::At(key) < bound
+            }
+        }
+    }
+
+    // Counts the turns of the component `i` below a bound, which are read by its walk.
+    pub(crate) fn pass_turns<T: Turns>(
+        &mut self,
+        setup: &Setup<T>,
+        i: u16,
+        walk: &mut Walk,
+        bound: Bound,
+    )
+        requires there { i < length (composition (plan_of setup.now)) }
+        requires ahead { self.old.ahead ≡ key_of (system T.turn_of setup.now) i self.old.passed }
+        requires small { IfSome self.old.ahead (λ key. key.number < 4294967296) }
+        requires few { self.old.passed ≤ 4294967296 }
+        requires before { (n : ℕ) → n < self.old.passed → turn_rank (system T.turn_of setup.now) i n < rank_of_bound bound }
+        ensures rest { self.new ≡ record self.old { passed = self.new.passed; ahead = self.new.ahead } }
+        ensures ahead { self.new.ahead ≡ key_of (system T.turn_of setup.now) i self.new.passed }
+        ensures small { IfSome self.new.ahead (λ key. key.number < 4294967296) }
+        ensures few { self.new.passed ≤ 4294967296 }
+        ensures before { (n : ℕ) → n < self.new.passed → turn_rank (system T.turn_of setup.now) i n < rank_of_bound bound }
+        ensures from { rank_of_bound bound ≤ end_rank → rank_of_bound bound ≤ turn_rank (system T.turn_of setup.now) i self.new.passed }
+    {
+        while self.is_ahead_below(bound) {
+            let Some(key) = self.ahead else {
+                unreachable!();
+            };
+            self.passed += 1;
+            self.ahead = key_after(setup, i, key, walk);
+        }
+    }
+}
+
+// The key of the turn of component `i` after the one of this key, if there is one.
+fn key_after<T: Turns>(setup: &Setup<T>, i: u16, key: Key, walk: &mut Walk) -> Option<Key>
+    requires there { Some key ≡ key_of (system T.turn_of setup.now) i key.number }
+    requires small { key.number < 4294967296 }
+    ensures key { result ≡ key_of (system T.turn_of setup.now) i (key.number + 1) }
+    ensures small { IfSome result (λ next. next.number < 4294967296) }
+{
+    let next = setup.turn_after(i, key, walk)?;
+    Some(next.key)
+}
