@@ -1,0 +1,9 @@
+mod Crossing
+mod Ended
+mod Fronted
+mod Growing
+mod Known
+mod Portioned
+mod Settled
+mod Started
+mod Written

@@ -1,0 +1,6 @@
+pub mod Crews
+pub mod Gates
+pub mod Portions
+pub mod Refusals
+pub mod Runs
+pub mod Leases

@@ -1,0 +1,32 @@
+-- The turns that the calling thread takes from the exchange.
+use Rattle.std.specs.Prelude.{◌≡◌, ℕ, ◌+◌, ◌≤◌, true, Option, None, Some, List, [], length}
+use Rattle.terms.specs.Named.{Named}
+use Rattle.virtual_time.specs.Reference.{Turn}
+use Rattle.task_seed.specs.Machines.{machine, end_rank}
+use Rattle.task_seed.specs.Turning.{System}
+use Rattle.task_seed.specs.Taken.{turns_of}
+use Rattle.exchange.specs.Chunks.{IsGiven}
+use Rattle.workers.specs.declared.writing.Cut.{Cut}
+use Rattle.workers.specs.declared.writing.Portion.{Portion}
+
+-- after the turns that were given these are the next ones of the reference, up to a bound, which is the end where they are the last
+pub record IsCutOf (s : System) (cut : Cut) (turns : List (Turn Named)) : Type 0 where
+  pub bound : ℕ
+  pub within : bound ≤ end_rank
+  pub next : IsGiven (machine s) cut.first bound turns
+  pub count : cut.given ≡ cut.first + length turns
+  pub last : cut.is_last ≡ true → bound ≡ end_rank
+
+-- the same of turns that are put together: after the turns that were given these are the next ones of the reference, up to a bound, which is the end where they are the last
+pub record IsPortion (s : System) (p : Portion) : Type 0 where
+  pub front : p.turns.before ≡ []
+  pub bound : ℕ
+  pub within : bound ≤ end_rank
+  pub next : IsGiven (machine s) p.first bound (turns_of p.turns.after)
+  pub count : p.given ≡ p.first + length p.turns.after
+  pub last : p.is_last ≡ true → bound ≡ end_rank
+
+-- there are none yet, or these
+abbrev pub IsDuePortion : System → Option Portion → Type 0
+IsDuePortion s None = Unit {0}
+IsDuePortion s (Some portion) = IsPortion s portion

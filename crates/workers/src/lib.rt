@@ -1,0 +1,27 @@
+//! Workers: threads that hold leases in turn, run them ahead and share what they did, while the calling thread writes what is committed.
+#![tactic(auto)]
+
+mod away;
+mod crew;
+mod depot;
+pub mod fault;
+pub mod gate;
+mod pace;
+mod patience;
+mod places;
+mod policy;
+mod ready;
+mod rounds;
+pub mod running;
+mod shared;
+pub mod stats;
+mod waiting;
+mod working;
+mod writing;
+
+pub use exchange::Window;
+pub use fault::RunFault;
+pub use gate::{Gate, Unheld};
+pub use pools::{Hand, Numbered, Pass, Pool};
+pub use running::{Summary, run, run_with_stats, run_within};
+pub use stats::Stats;
