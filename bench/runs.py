@@ -1,6 +1,6 @@
 #!/usr/bin/env python3
 """Compares `run` with `reference` byte by byte, so often: the examples, token rings of 2 to 16 and PHOLD, with random seeds, streams, gaps, last
-ticks, 1 to 64 workers and budgets of 1 to 65,535. Prints how many differ, and the command of each that does; its status is 1 if any does.
+ticks, 1 to 64 workers, budgets of 1 to 65,535, and no window or one of 1, 2, 7 or 65,535 turns. Prints how many differ, and the command of each that does; its status is 1 if any does.
 
 usage: runs.py PROGRAM [TIMES [SEED]]"""
 import os, random, subprocess, sys, tempfile
@@ -23,7 +23,8 @@ def up_to(most):
 def draw(sources):
     source = CHANCE.choice(sources)
     turns = ["--seed", CHANCE.randrange(2**64), "--stream", CHANCE.randrange(4), "--gap", CHANCE.choice([1, 2, 8, 50]), "--ticks", up_to(1500)]
-    return source, [str(it) for it in turns], ["--workers", str(up_to(64)), "--budget", str(up_to(65535))]
+    window = CHANCE.choice([[], ["--window", "1"], ["--window", "2"], ["--window", "7"], ["--window", "65535"]])
+    return source, [str(it) for it in turns], ["--workers", str(up_to(64)), "--budget", str(up_to(65535)), *window]
 
 
 def differs(drawn):

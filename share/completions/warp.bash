@@ -8,7 +8,7 @@ _warp() {
         return
     fi
     case $before in
-    --seed | --seeds | --stream | --gap | --ticks | --workers | --budget | --from | --to) return ;;
+    --seed | --seeds | --stream | --gap | --ticks | --workers | --budget | --window | --from | --to) return ;;
     --table | --steps | --actions)
         COMPREPLY=($(compgen -f -- "$word"))
         return
@@ -16,7 +16,7 @@ _warp() {
     esac
     case $command in
     reference | drive) options=$turns ;;
-    run) options="$turns --workers --budget --stats" ;;
+    run) options="$turns --workers --budget --window --stats" ;;
     hunt) options="--seeds --stream --gap --from-zero --ticks --workers --count" ;;
     draw) options="$turns --from --to" ;;
     explain) options="--table --steps --actions" ;;

@@ -15,6 +15,7 @@ complete -c warp -n "__fish_seen_subcommand_from $turns" -l head -d "Begin with 
 complete -c warp -n "__fish_seen_subcommand_from $turns" -l progress -d "Tell once a second how far it is"
 complete -c warp -n "__fish_seen_subcommand_from run hunt" -x -l workers -d "How many threads there are"
 complete -c warp -n "__fish_seen_subcommand_from run" -x -l budget -d "How far a worker runs ahead"
+complete -c warp -n "__fish_seen_subcommand_from run" -x -l window -d "How many turns of a component may wait to be committed"
 complete -c warp -n "__fish_seen_subcommand_from run" -l stats -d "Tell what the workers did"
 complete -c warp -n "__fish_seen_subcommand_from hunt" -x -l seeds -d "The first and the last seed"
 complete -c warp -n "__fish_seen_subcommand_from hunt" -l count -d "How many seeds have the action"

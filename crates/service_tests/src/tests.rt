@@ -177,7 +177,14 @@ const CUT: &str = "1 1 0 idle\n2 0 0 pass(1)\n3 1 1 pass(0)\n4 0 1 pass(1)";
 const HEADED: &str = "trace 2\n1 1 0 idle\n2 0 0 pass(1)\n3 1 1 pass(0)\n4 0 1 pass(1)\n";
 
 // Words on the ring and its table: runs, references and prints with little room, help and the version, also where these are cut.
-const SERVED: [Row; 51] = [
+const SERVED: [Row; 52] = [
+    (
+        "run source --table table --window 1",
+        53,
+        Is(TURNS),
+        Is(""),
+        0,
+    ),
     (
         "run source --table table --workers 3",
         53,
@@ -392,7 +399,7 @@ const SERVED: [Row; 51] = [
 ];
 
 // Words that are wrong, and a part of what is said then.
-const REFUSED: [(&str, &str); 27] = [
+const REFUSED: [(&str, &str); 30] = [
     ("", "Usage: warp <COMMAND>"),
     ("run", "<F>"),
     ("print", "<F>"),
@@ -402,6 +409,9 @@ const REFUSED: [(&str, &str); 27] = [
     ("run source table", "table"),
     ("run source --workers 65", "65"),
     ("run source --budget 0", "--budget"),
+    ("run source --window 0", "--window"),
+    ("run source --window 65536", "65536"),
+    ("reference source --window 1", "--window"),
     ("print source --loud", "--loud"),
     ("run --version", "--version"),
     ("print --version", "--version"),
@@ -517,6 +527,7 @@ fn engines_take_bytes(rt: HostRuntime) {
     let crew = Crew {
         workers: 3,
         budget: 2,
+        window: Some(2),
         stats: false,
     };
     for (k, (source, table, ticks, text, said)) in SIMULATED.iter().enumerate() {

@@ -14,6 +14,9 @@ const WORKERS: [&str; 8] = ["1", "2", "3", "4", "5", "6", "7", "8"];
 
 const BUDGETS: [&str; 5] = ["1", "2", "7", "64", "1000"];
 
+// Each for some runs of each source; the first stands for none.
+const WINDOWS: [&str; 5] = ["", "1", "2", "7", "65535"];
+
 // One file in memory, under the name F.
 #[derive(Clone, Copy)]
 struct Source<'a> {
@@ -74,7 +77,8 @@ fn is_same<R: Threads + Wait + Sync>(
     let seed = format!(in alloc; "{k}")?;
     let workers = WORKERS[(k % 8) as usize];
     let budget = BUDGETS[(k % 5) as usize];
-    is_same_by(rt, alloc, seed.as_str(), workers, budget, source)
+    let window = WINDOWS[(k / 7 % 5) as usize];
+    is_same_by(rt, alloc, seed.as_str(), workers, budget, window, source)
 }
 
 fn is_same_by<R: Threads + Wait + Sync>(
@@ -83,6 +87,7 @@ fn is_same_by<R: Threads + Wait + Sync>(
     seed: &str,
     workers: &str,
     budget: &str,
+    window: &str,
     source: Source,
 ) -> anyhow::Result<bool> {
     let alone = ["reference", "F", "--seed", seed, "--ticks", "500"];
@@ -97,9 +102,12 @@ fn is_same_by<R: Threads + Wait + Sync>(
         workers,
         "--budget",
         budget,
+        "--window",
+        window,
     ];
+    let many = if window.is_empty() { 10 } else { 12 };
     let wanted = written(rt, alloc, &alone, source)?;
-    let given = written(rt, alloc, &shared, source)?;
+    let given = written(rt, alloc, &shared[..many], source)?;
     Ok(given.as_slice() == wanted.as_slice() && !wanted.is_empty())
 }
 

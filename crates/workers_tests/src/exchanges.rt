@@ -47,6 +47,25 @@ const FIRST_TURN: [Step; 31] = [
     Meets(0, 0, Ok(AT_2)),
 ];
 
+// A window of one turn: a lease stops before its second one until the first is committed; inputs are always taken.
+const IN_A_WINDOW: [Step; 14] = [
+    SameLeases(4, 10, false),
+    SameExchanges(2, 5, false),
+    Of(11, Runs(2, 1)),
+    Of(11, Runs(2, 0)),
+    Of(10, Runs(1, 1)),
+    Meets(5, 10, Ok(START)),
+    Meets(5, 11, Ok(START)),
+    On(5, Commits(1, AT_2)),
+    Of(11, Settles(1)),
+    Meets(5, 11, Ok(AT_2)),
+    Of(11, Runs(2, 2)),
+    // a lease without a window isn't one of this exchange, nor one with a window of another
+    Judges(5, 0, Err(OtherSetup)),
+    Meets(5, 0, Err(OtherSetup)),
+    Meets(0, 10, Err(OtherSetup)),
+];
+
 // Each lease delivers its tray, runs ahead and meets, and the exchange commits and gives, in each of six rounds.
 const ROUNDS: [Step; 50] = [
     Of(0, Settles(0)),
@@ -107,6 +126,11 @@ const ROUNDS: [Step; 50] = [
 fn all_turns_come_once_and_in_order(rt: HostRuntime) {
     assert_steps(&rt, &FIRST_TURN, &[]);
     assert_steps(&rt, &ROUNDS, &[]);
+}
+
+#[test]
+fn a_window_stops_own_turns(rt: HostRuntime) {
+    assert_steps(&rt, &IN_A_WINDOW, &[]);
 }
 
 // Both leases run ahead, and all else is done without memory: the first turn is given, and what was told of the next is delivered.

@@ -10,7 +10,7 @@ use std::alloc::Global;
 use std::sync::Arc;
 use task_seed::{AnyTurns, Setup};
 
-// Enough for all turns of a subject, a few entries a round.
+// Enough for all turns of a subject, of which the first that isn't committed is done and committed in two rounds.
 const ROUNDS: u32 = 10_000;
 
 /// The turns that chunks have to give, and how many of them they gave; `None` where they gave others.
@@ -31,9 +31,9 @@ impl<'a> Chunks<'a> {
 }
 
 /// Whether the chunks that an exchange gives are the simulator's turns, after a random list of calls and then round after round until all is
-/// given.
+/// given; and no lease has more done at any time than the window allows, of 1 to 4 turns or none.
 pub fn gives_all(alloc: Global, subject: Subject, random: &mut Lcg64Xsh32) -> Result<bool> {
-    let (mut exchange, mut leases) = Exchange::new(alloc, Arc::try_clone(subject.setup)?)?;
+    let (mut exchange, mut leases) = start(alloc, subject, random.next_u32() % 5)?;
     let are_given = are_given(
         alloc,
         subject.turns,
@@ -44,6 +44,28 @@ pub fn gives_all(alloc: Global, subject: Subject, random: &mut Lcg64Xsh32) -> Re
     drop(exchange);
     drop(leases);
     are_given
+}
+
+// An exchange and its leases at the start, with a window of so many turns, or with none.
+fn start(
+    alloc: Global,
+    subject: Subject,
+    window: u32,
+) -> Result<(Exchange<AnyTurns>, Vec<Lease<AnyTurns>>)> {
+    let setup = Arc::try_clone(subject.setup)?;
+    if window == 0 {
+        return Ok(Exchange::new(alloc, setup)?);
+    }
+    Ok(Exchange::with_window(alloc, setup, window.min(65_535))?)
+}
+
+// Whether no lease has more entries done than its window allows: own turns, and as many inputs of each other component.
+fn are_within(exchange: &Exchange<AnyTurns>, leases: &[Lease<AnyTurns>]) -> bool {
+    let Some(window) = exchange.window() else {
+        return true;
+    };
+    let most = (window.turns() as usize).saturating_mul(leases.len());
+    leases.iter().all(|lease| lease.depth() <= most)
 }
 
 fn are_given(
@@ -59,6 +81,9 @@ fn are_given(
     };
     for _ in 0..random.next_u32() % 200 {
         call(alloc, exchange, leases, &mut chunks, random)?;
+        if !are_within(exchange, leases) {
+            return Ok(false);
+        }
     }
     finish(alloc, exchange, leases, &mut chunks)?;
     Ok(exchange.finished() && chunks.given == Some(turns.len()))

@@ -9,6 +9,7 @@ use std::alloc::{AllocGlobal, Global};
 use std::process::Abort;
 use std::sync::Arc;
 use task_seed::{Setup, TableTurns};
+use terms::NoMemory;
 
 type Shared = Exchange<TableTurns>;
 
@@ -215,19 +216,37 @@ fn count_refused(
     steps.len()
 }
 
+// Adds an exchange and its leases.
+fn add(
+    rt: &impl Abort,
+    started: Result<(Shared, Vec<Held>), NoMemory>,
+    exchanges: &mut Vec<Shared>,
+    leases: &mut Vec<Held>,
+) {
+    let (exchange, mut own) = started.expect(rt, "memory for an exchange");
+    exchanges.push(exchange).expect(rt, "memory for exchanges");
+    leases.append(&mut own).expect(rt, "memory for leases");
+    drop(own);
+}
+
 /// All steps come out as they say, the second ones without memory; else the first number is the place of one that doesn't, counted from 0. There are four exchanges of
-/// equal setups, and one with another horizon. The leases of the first are the leases 0 and 1, those of the next 2 and 3, and so on.
+/// equal setups, one with another horizon, and one of an equal setup with a window of one turn. The leases of the first are the leases 0 and 1,
+/// those of the next 2 and 3, and so on.
 pub(crate) fn assert_steps(rt: &(impl Abort + AllocGlobal), steps: &[Step], refused: &[Step]) {
     let mut exchanges = Vec::new(rt.alloc());
     let mut leases = Vec::new(rt.alloc());
     for horizon in [1000, 1000, 1000, 1000, 999] {
         let setup = Arc::new(rt.alloc(), setup(rt, horizon)).expect(rt, "memory for a setup");
-        let started = Exchange::new(rt.alloc(), setup);
-        let (exchange, mut own) = started.expect(rt, "memory for an exchange");
-        exchanges.push(exchange).expect(rt, "memory for exchanges");
-        leases.append(&mut own).expect(rt, "memory for leases");
-        drop(own);
+        add(
+            rt,
+            Exchange::new(rt.alloc(), setup),
+            &mut exchanges,
+            &mut leases,
+        );
     }
+    let setup = Arc::new(rt.alloc(), setup(rt, 1000)).expect(rt, "memory for a setup");
+    let started = Exchange::with_window(rt.alloc(), setup, 1);
+    add(rt, started, &mut exchanges, &mut leases);
     let right = count(
         rt.alloc(),
         exchanges.as_mut_slice(),

@@ -1,0 +1,5 @@
+mod Telling
+mod Numbers
+mod Locals
+mod Ranges
+mod Runs

@@ -1,0 +1,569 @@
+//! The command line of `warp`: its subcommands and their options, read by `clap`.
+#![tactic(auto)]
+
+ghost use Rattle.std.specs.Prelude.{◌≡◌, ◌≤◌, ℕ, codes, false, Option, IfOk, IfSome, MatchOption, MatchResult, map, option_map, string_bytes};
+ghost use Rattle.clap.specs.Words.{app_of, first_of, found_of, kind_of, rows_of, rule_of, subcommand_rows_of};
+ghost use Rattle.command_line.specs.Chosen.{or_one};
+ghost use Rattle.command_line.specs.declared.Asked.{Asked as AskedValue};
+ghost use Rattle.command_line.specs.declared.crew.Crew.{Crew as CrewValue};
+ghost use Rattle.command_line.specs.declared.Options.{Options as OptionsValue};
+ghost use Rattle.command_line.specs.Rules.{file_rule, flag_rule, number_rule, option_rule, optional_rule, IsChosen, IsFlag, IsNumber};
+ghost use Rattle.command_line.specs.Words.{bare, version_text, warp, simulating, manned, print_app, reference_app, run_app, check_app, drive_app, explain_app, judging, HasCrew, HasOptions, IsAsked, IsNamed, IsRefused, IsTold};
+ghost use Rattle.command_line.specs.declared.Refused.TheVariants.{NoMemory};
+
+mod crew;
+mod drawing;
+mod hunting;
+mod seeds;
+mod ticks;
+
+use clap::builder::ValueParser;
+use clap::error::{Error, ErrorKind};
+use clap::{Arg, ArgAction, ArgMatches, Command, value_parser};
+pub use crew::Crew;
+use drawing::ticks_of;
+pub use hunting::Hunting;
+use hunting::hunting_of;
+pub use seeds::Seeds;
+use std::alloc::{AllocError, Global};
+pub use ticks::Ticks;
+
+/// What the words ask for.
+#[derive(Clone, Copy, Debug, PartialEq, Eq)]
+pub enum Asked<'a> {
+    /// The source in this file is printed in its layout.
+    Print {
+        source: &'a str,
+    },
+    /// The composition of the source in this file is simulated by one thread.
+    Reference {
+        source: &'a str,
+        options: Options<'a>,
+    },
+    /// The composition of the source in this file is simulated by workers.
+    Run {
+        source: &'a str,
+        options: Options<'a>,
+        crew: Crew,
+    },
+    /// Whether the actions in the second file are a schedule of the composition of the source in the first.
+    Check {
+        source: &'a str,
+        trace: &'a str,
+    },
+    /// The composition of the source in the first file is driven by the steps in the second.
+    Drive {
+        source: &'a str,
+        steps: &'a str,
+        options: Options<'a>,
+    },
+    /// People are told of the first fault of the source in this file, or of the other files by it; or of a number at length.
+    Explain {
+        source: &'a str,
+        table: Option<&'a str>,
+        steps: Option<&'a str>,
+        actions: Option<&'a str>,
+    },
+    /// An action is hunted for in the schedules of the composition of the source in this file.
+    Hunt {
+        source: &'a str,
+        action: &'a str,
+        hunting: Hunting,
+    },
+    /// The schedule of the composition of the source in this file is drawn.
+    Draw {
+        source: &'a str,
+        options: Options<'a>,
+        ticks: Ticks,
+    },
+}
+
+/// The turns with which a composition is simulated or driven, and what is written of them.
+#[derive(Clone, Copy, Debug, PartialEq, Eq)]
+pub struct Options<'a> {
+    /// The seed of the turns; with a table, seed, stream and gap aren't used.
+    pub seed: u64,
+    /// The stream of component 0; component i has this one plus i, modulo 2^64.
+    pub stream: u64,
+    /// How many gaps there may be between two turns of a component, 1 to 65,535: of 1 tick and more, or of 0 and more.
+    pub gap: u64,
+    /// Gaps are drawn from 0 ticks on; with a table this has no effect.
+    pub from_zero: bool,
+    /// The last tick, 0 to 4,294,967,296.
+    pub ticks: u64,
+    /// The file of a table of turns.
+    pub table: Option<&'a str>,
+    /// Only turns with an external action are written.
+    pub trace: bool,
+    /// A head is written in front of the turns.
+    pub head: bool,
+    /// How far it is is told once a second.
+    pub progress: bool,
+}
+
+/// Why the words ask for nothing.
+#[derive(Debug, Drop)]
+pub enum Refused {
+    /// Want of memory.
+    NoMemory,
+    /// The words ask for help, which is the text of the error.
+    Help(Error),
+    /// The words ask for the program's version.
+    Version,
+    /// The words aren't those of the program; the text of the error says why.
+    Words(Error),
+}
+
+impl From<AllocError> for Refused {
+    ghost from_gives = { λ _ e. e ≡ NoMemory };
+
+    fn from(_refused: AllocError) -> Refused {
+        Refused::NoMemory
+    }
+}
+
+/// What `--version` writes: the program's name and version, and the toolchain by which it was proved and built, as that names itself.
+pub fn version() -> &'static str
+    ensures { result.now ≡ version_text }
+{
+    "warp 0.1.0\nproved with rattle-kit-13f logic dac8208d650f15bf\n"
+}
+
+/// Reads the words after the program's name.
+pub fn read_words<'a>(alloc: Global, words: &'a [String]) -> Result<Asked<'a>, Refused>
+    ensures { MatchResult result (IsAsked (map string_bytes words.now)) (IsRefused (map string_bytes words.now)) }
+{
+    let mut command = described(alloc)?;
+    let matches = match command.try_get_matches_from_mut(words) {
+        Ok(matches) => matches,
+        Err(error) => {
+            drop(command);
+            return Err(refusal_of(error));
+        }
+    };
+    let asked = asked_by(&matches);
+    drop(matches);
+    match asked {
+        Some(asked) => {
+            drop(command);
+            Ok(asked)
+        }
+        None => {
+            let error = command.error(
+                ErrorKind::MissingSubcommand,
+                "a subcommand and its file are wanted, and `--seeds` as FIRST..LAST, the first not above the last",
+            );
+            drop(command);
+            Err(Refused::Words(error?))
+        }
+    }
+}
+
+// The program without its subcommands.
+fn bare<'a>(alloc: Global) -> Command<'a>
+    ensures { app_of result ≡ bare }
+{
+    Command::new(alloc, "warp")
+        .about("A parallel simulator of composed I/O automata")
+        .version(version())
+        .no_binary_name(true)
+        .subcommand_required(true)
+}
+
+fn described<'a>(alloc: Global) -> Result<Command<'a>, AllocError>
+    ensures app { IfOk result (λ c. app_of c ≡ warp) }
+{
+    bare(alloc)
+        .subcommand(print(alloc)?)?
+        .subcommand(reference(alloc)?)?
+        .subcommand(run(alloc)?)?
+        .subcommand(check(alloc)?)?
+        .subcommand(drive(alloc)?)?
+        .subcommand(explain(alloc)?)?
+        .subcommand(hunting::hunt(alloc)?)?
+        .subcommand(drawing::draw(alloc)?)
+}
+
+fn print<'a>(alloc: Global) -> Result<Command<'a>, AllocError>
+    ensures { IfOk result (λ c. app_of c ≡ print_app) }
+{
+    Command::new(alloc, "print")
+        .about("Print a source in its layout; it is read and not checked")
+        .after_help("Example: warp print examples/ring.ioa")
+        .arg(file(alloc, "F", "The file of the source"))
+}
+
+fn reference<'a>(alloc: Global) -> Result<Command<'a>, AllocError>
+    ensures { IfOk result (λ c. app_of c ≡ reference_app) }
+{
+    let command = Command::new(alloc, "reference")
+        .about(
+            "Simulate a composition by one thread, which always takes the turn with the least key",
+        )
+        .after_help("Example: warp reference examples/ring.ioa --table examples/ring-a.table")
+        .arg(file(alloc, "F", "The file of the source"))?;
+    with_options(alloc, command)
+}
+
+fn run<'a>(alloc: Global) -> Result<Command<'a>, AllocError>
+    ensures { IfOk result (λ c. app_of c ≡ run_app) }
+{
+    let command = Command::new(alloc, "run")
+        .about("Simulate a composition by several workers, and write the turns that are committed")
+        .after_help("Example: warp run examples/lcr.ioa --seed 7 --ticks 100 --workers 4")
+        .arg(file(alloc, "F", "The file of the source"))?;
+    let command = with_options(alloc, command)?;
+    with_crew(alloc, command)
+}
+
+fn check<'a>(alloc: Global) -> Result<Command<'a>, AllocError>
+    ensures { IfOk result (λ c. app_of c ≡ check_app) }
+{
+    Command::new(alloc, "check")
+        .about("Say whether actions are a schedule of a composition")
+        .after_help("Example: warp check examples/ring.ioa ACTIONS")
+        .arg(file(alloc, "F", "The file of the source"))?
+        .arg(file(alloc, "TRACE", "The file of the actions, one a line"))
+}
+
+fn drive<'a>(alloc: Global) -> Result<Command<'a>, AllocError>
+    ensures { IfOk result (λ c. app_of c ≡ drive_app) }
+{
+    let command = Command::new(alloc, "drive")
+        .about("Drive a composition by steps, and write the turns that are committed after all")
+        .after_help(
+            "Example: warp drive examples/ring.ioa examples/ring.steps --table examples/ring-a.table",
+        )
+        .arg(file(alloc, "F", "The file of the source"))?
+        .arg(file(alloc, "STEPS", "The file of the steps, one a line"))?;
+    with_options(alloc, command)
+}
+
+fn explain<'a>(alloc: Global) -> Result<Command<'a>, AllocError>
+    ensures { IfOk result (λ c. app_of c ≡ explain_app) }
+{
+    let command = Command::new(alloc, "explain")
+        .about("Tell where a source or a file for it is refused, and what may help; or of a number")
+        .after_help("Examples: warp explain examples/ring.ioa; warp explain 12")
+        .arg(file(
+            alloc,
+            "F",
+            "The file of the source, or the number of a refusal or fault",
+        ))?;
+    with_files(alloc, command)
+}
+
+// The options of what judges further files.
+fn with_files<'a>(alloc: Global, command: Command<'a>) -> Result<Command<'a>, AllocError>
+    ensures { IfOk result (λ c. app_of c ≡ judging (app_of command.entry)) }
+{
+    command
+        .arg(other(alloc, "table", "The file of a table of turns"))?
+        .arg(other(alloc, "steps", "The file of steps, one a line"))?
+        .arg(other(alloc, "actions", "The file of actions, one a line"))
+}
+
+// The options of what simulates or drives.
+fn with_options<'a>(alloc: Global, command: Command<'a>) -> Result<Command<'a>, AllocError>
+    ensures { IfOk result (λ c. app_of c ≡ simulating (app_of command.entry)) }
+{
+    let whole = value_parser!(u64);
+    let gaps = value_parser!(u64).range(1..65_536);
+    let ticks = value_parser!(u64).range(0..4_294_967_297);
+    command
+        .arg(number(alloc, "seed", "1", whole, "The seed of the turns"))?
+        .arg(number(
+            alloc,
+            "stream",
+            "0",
+            whole,
+            "The stream of the first component's turns",
+        ))?
+        .arg(number(
+            alloc,
+            "gap",
+            "8",
+            gaps,
+            "The greatest gap between two turns, in ticks",
+        ))?
+        .arg(flag(
+            alloc,
+            "from-zero",
+            "Draw gaps from 0 to one less than --gap, and not from 1 to --gap",
+        ))?
+        .arg(number(alloc, "ticks", "1000", ticks, "The last tick"))?
+        .arg(other(
+            alloc,
+            "table",
+            "The file of a table of turns; seed, stream and gap are then not used",
+        ))?
+        .arg(flag(alloc, "trace", "Write only turns with an external action"))?
+        .arg(flag(
+            alloc,
+            "head",
+            "Begin with the line `trace 2`, after which `check` wants rising keys",
+        ))?
+        .arg(flag(
+            alloc,
+            "progress",
+            "Tell on standard error once a second how far it is",
+        ))
+}
+
+// The options of what workers simulate.
+fn with_crew<'a>(alloc: Global, command: Command<'a>) -> Result<Command<'a>, AllocError>
+    ensures { IfOk result (λ c. app_of c ≡ manned (app_of command.entry)) }
+{
+    let workers = value_parser!(u64).range(1..65);
+    let budgets = value_parser!(u64).range(1..65_536);
+    let windows = value_parser!(u64).range(1..65_536);
+    command
+        .arg(number(
+            alloc,
+            "workers",
+            "2",
+            workers,
+            "How many workers run the components",
+        ))?
+        .arg(number(
+            alloc,
+            "budget",
+            "64",
+            budgets,
+            "How many entries a worker processes of a component at a time",
+        ))?
+        .arg(optional(
+            alloc,
+            "window",
+            windows,
+            "How many turns of its own a component may have done that aren't committed",
+        ))?
+        .arg(flag(
+            alloc,
+            "stats",
+            "Tell on standard error what the workers did",
+        ))
+}
+
+fn number<'a>(
+    alloc: Global,
+    name: &'a str,
+    default: &'a str,
+    parser: ValueParser<'a>,
+    help: &'a str,
+) -> Arg<'a>
+    ensures rule { rule_of result ≡ number_rule name.now default.now parser.entry }
+    ensures local { result.global ≡ false }
+{
+    Arg::new(alloc, name)
+        .long(name)
+        .default_value(default)
+        .value_parser(parser)
+        .help(help)
+}
+
+// The option of a number that may be left out.
+fn optional<'a>(alloc: Global, name: &'a str, parser: ValueParser<'a>, help: &'a str) -> Arg<'a>
+    ensures rule { rule_of result ≡ optional_rule name.now parser.entry }
+    ensures local { result.global ≡ false }
+{
+    Arg::new(alloc, name)
+        .long(name)
+        .value_parser(parser)
+        .help(help)
+}
+
+// The option of another file.
+fn other<'a>(alloc: Global, name: &'a str, help: &'a str) -> Arg<'a>
+    ensures rule { rule_of result ≡ option_rule name.now }
+    ensures local { result.global ≡ false }
+{
+    Arg::new(alloc, name)
+        .long(name)
+        .value_name("FILE")
+        .help(help)
+}
+
+fn flag<'a>(alloc: Global, name: &'a str, help: &'a str) -> Arg<'a>
+    ensures rule { rule_of result ≡ flag_rule name.now }
+    ensures local { result.global ≡ false }
+{
+    Arg::new(alloc, name)
+        .long(name)
+        .action(ArgAction::SetTrue)
+        .help(help)
+}
+
+fn file<'a>(alloc: Global, name: &'a str, help: &'a str) -> Arg<'a>
+    ensures rule { rule_of result ≡ file_rule name.now }
+    ensures local { result.global ≡ false }
+{
+    Arg::new(alloc, name).required(true).help(help)
+}
+
+// What the subcommand that was entered asks for.
+fn asked_by<'a>(matches: &ArgMatches<'a>) -> Option<Asked<'a>>
+    ensures { MatchOption result ((a : AskedValue) → IsNamed (subcommand_rows_of matches.now) a → ⊥) (IsNamed (subcommand_rows_of matches.now)) }
+{
+    let (name, found) = matches.subcommand()?;
+    if name == "print" {
+        let source = file_of(found, "F")?;
+        return Some(Asked::Print { source });
+    }
+    if name == "reference" {
+        let source = file_of(found, "F")?;
+        let options = options_of(found)?;
+        return Some(Asked::Reference { source, options });
+    }
+    if name == "run" {
+        let source = file_of(found, "F")?;
+        let options = options_of(found)?;
+        let crew = crew_of(found)?;
+        return Some(Asked::Run {
+            source,
+            options,
+            crew,
+        });
+    }
+    if name == "check" {
+        let source = file_of(found, "F")?;
+        let trace = file_of(found, "TRACE")?;
+        return Some(Asked::Check { source, trace });
+    }
+    if name == "drive" {
+        let source = file_of(found, "F")?;
+        let steps = file_of(found, "STEPS")?;
+        let options = options_of(found)?;
+        return Some(Asked::Drive {
+            source,
+            steps,
+            options,
+        });
+    }
+    if name == "explain" {
+        let source = file_of(found, "F")?;
+        return Some(Asked::Explain {
+            source,
+            table: file_of(found, "table"),
+            steps: file_of(found, "steps"),
+            actions: file_of(found, "actions"),
+        });
+    }
+    if name == "hunt" {
+        let source = file_of(found, "F")?;
+        let action = file_of(found, "ACTION")?;
+        let hunting = hunting_of(found)?;
+        return Some(Asked::Hunt {
+            source,
+            action,
+            hunting,
+        });
+    }
+    if name == "draw" {
+        let source = file_of(found, "F")?;
+        let options = options_of(found)?;
+        let ticks = ticks_of(found)?;
+        return Some(Asked::Draw {
+            source,
+            options,
+            ticks,
+        });
+    }
+    None
+}
+
+// The options, each number in its range.
+fn options_of<'a>(found: &ArgMatches<'a>) -> Option<Options<'a>>
+    ensures { MatchOption result ((o : OptionsValue) → HasOptions (rows_of (found_of found.now)) o → ⊥) (HasOptions (rows_of (found_of found.now))) }
+{
+    let seed = number_of(found, "seed", 0, u64::MAX)?;
+    let stream = number_of(found, "stream", 0, u64::MAX)?;
+    let gap = number_of(found, "gap", 1, 65_535)?;
+    let ticks = number_of(found, "ticks", 0, 4_294_967_296)?;
+    Some(Options {
+        seed,
+        stream,
+        gap,
+        from_zero: is_set(found, "from-zero"),
+        ticks,
+        table: file_of(found, "table"),
+        trace: is_set(found, "trace"),
+        head: is_set(found, "head"),
+        progress: is_set(found, "progress"),
+    })
+}
+
+// The workers, each number in its range.
+fn crew_of(found: &ArgMatches) -> Option<Crew>
+    ensures { MatchOption result ((c : CrewValue) → HasCrew (rows_of (found_of found.now)) c → ⊥) (HasCrew (rows_of (found_of found.now))) }
+{
+    let workers = number_of(found, "workers", 1, 64)?;
+    let budget = number_of(found, "budget", 1, 65_535)?;
+    let window = window_of(found)?;
+    Some(Crew {
+        workers: workers as u16,
+        budget: budget as u32,
+        window,
+        stats: is_set(found, "stats"),
+    })
+}
+
+// The window, if one was entered, in its range.
+fn window_of(found: &ArgMatches) -> Option<Option<u32>>
+    ensures chosen { MatchOption result
+        ((w : Option ℕ) → IsChosen (rows_of (found_of found.now)) (codes "window") 1 65535 w → ⊥)
+        (IsChosen (rows_of (found_of found.now)) (codes "window") 1 65535) }
+    ensures some { IfSome result (λ window. 1 ≤ or_one window) }
+    ensures small { IfSome result (λ window. or_one window ≤ 65535) }
+{
+    let Some(_entered) = file_of(found, "window") else {
+        return Some(None);
+    };
+    let window = number_of(found, "window", 1, 65_535)?;
+    Some(Some(window as u32))
+}
+
+// The number that stands for an option, if it is in a range.
+fn number_of(found: &ArgMatches, option: &str, least: u64, most: u64) -> Option<u64>
+    ensures { MatchOption result ((n : ℕ) → IsNumber (rows_of (found_of found.now)) option.now least most n → ⊥) (IsNumber (rows_of (found_of found.now)) option.now least most) }
+{
+    match found.get_one::<u64>(option) {
+        Some(number) => {
+            if number < least {
+                return None;
+            }
+            if most < number {
+                return None;
+            }
+            Some(number)
+        }
+        None => None,
+    }
+}
+
+// Whether a flag was entered: clap then has the text `true` for it.
+fn is_set(found: &ArgMatches, flag: &str) -> bool
+    ensures { IsFlag (first_of flag.now (rows_of (found_of found.now))) result }
+{
+    match file_of(found, flag) {
+        Some(text) => text == "true",
+        None => false,
+    }
+}
+
+fn file_of<'a>(found: &ArgMatches<'a>, argument: &str) -> Option<&'a str>
+    ensures { option_map (λ s. s.now) result ≡ first_of argument.now (rows_of (found_of found.now)) }
+{
+    found.get_str(argument)
+}
+
+fn refusal_of(error: Error) -> Refused
+    ensures { IsTold (kind_of error) result }
+{
+    match error.kind() {
+        ErrorKind::OutOfMemory => Refused::NoMemory,
+        ErrorKind::DisplayHelp => Refused::Help(error),
+        ErrorKind::DisplayVersion => Refused::Version,
+        _ => Refused::Words(error),
+    }
+}

@@ -1,0 +1,97 @@
+//! The engine of `run`, over bytes.
+ghost use Rattle.std.specs.Prelude.{◌≡◌};
+ghost use Rattle.std.specs.Arc.{arc_value};
+ghost use Rattle.task_seed.specs.Setups.{plan_of, system};
+ghost use Rattle.trace.specs.Went.{IsStopped, IsWritten};
+ghost use Rattle.service.specs.Crews.{IsCrewReport, IsRunReport, done};
+ghost use Rattle.service.specs.Setups.{given_of};
+
+use crate::given::GivenTurns;
+use crate::report::{Report, report_of};
+use crate::setups::setup_of;
+use command_line::Crew;
+use std::alloc::Global;
+use std::io::Write;
+use std::sync::{Arc, Wait};
+use std::thread::Threads;
+use task_seed::{AnyTurns, Setup, Turns};
+use trace::{Counted, Form};
+use workers::{Gate, Stats, Window, run_with_stats};
+
+/// Simulates the composition of a source by workers, with the turns that are given up to the last tick, and writes the lines of the turns as
+/// they are committed, behind the head where it is asked for. The source is judged before the turns.
+///
+/// It may wait. What went out is a beginning of the text of the simulator by one thread, and all of it where the report is `Done` or `Ran`.
+pub fn run_source<W: Write + Drop, G: Gate<AnyTurns>, R: Threads + Wait + Sync>(
+    rt: &R,
+    alloc: Global,
+    source: &[u8],
+    given: GivenTurns,
+    ticks: u64,
+    crew: Crew,
+    gate: &G,
+    form: Form,
+    out: &mut Counted<W>,
+) -> Report
+    ensures { IsRunReport source.now (given_of given.entry) ticks form crew.stats
+        (out.new ≡ out.old) (IsWritten W.contents out.old out.new)
+        (IsStopped W.contents out.old out.new) result }
+{
+    match setup_of(alloc, source, given, ticks) {
+        Ok(setup) => run_setup(rt, alloc, setup, crew, gate, form, out),
+        Err(report) => report,
+    }
+}
+
+/// Runs a setup.
+pub(crate) fn run_setup<T: Turns, W: Write + Drop, G: Gate<T>, R: Threads + Wait + Sync>(
+    rt: &R,
+    alloc: Global,
+    setup: Setup<T>,
+    crew: Crew,
+    gate: &G,
+    form: Form,
+    out: &mut Counted<W>,
+) -> Report
+    ensures { IsCrewReport (plan_of setup) (system T.turn_of setup) form crew.stats
+        (out.new ≡ out.old) (IsWritten W.contents out.old out.new)
+        (IsStopped W.contents out.old out.new) result }
+{
+    let shared = match Arc::new(alloc, setup) {
+        Ok(shared) => shared,
+        Err(_refused) => return Report::Fault(1),
+    };
+    match run_with_stats(
+        rt,
+        alloc,
+        window_of(crew),
+        shared,
+        crew.workers,
+        crew.budget,
+        gate,
+        form,
+        out,
+    ) {
+        Ok(counts) => done(crew.stats, counts),
+        Err(fault) => report_of(&fault),
+    }
+}
+
+// The window that is asked for, if one is.
+fn window_of(crew: Crew) -> Option<Window> {
+    match crew.window {
+        None => None,
+        Some(turns) => Some(Window::new(turns)),
+    }
+}
+
+// The report on workers that are done.
+fn done(stats: bool, counts: Stats) -> Report
+    ensures { result ≡ done stats counts }
+{
+    if stats {
+        Report::Ran(counts)
+    } else {
+        Report::Done
+    }
+}
