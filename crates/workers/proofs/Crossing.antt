@@ -22,11 +22,11 @@ use Rattle.exchange.proofs.judging.MeetRefused.TheSendSync as meet_refused
 use Rattle.gvt.proofs.word.Published.TheSendSync as published
 use Rattle.gvt.proofs.word.Seat.TheSendSync as seat
 use Rattle.pools.proofs.places.Pass.TheSendSync as pass
-use Rattle.workers.proofs.away.Away.TheSendSync as away
-use Rattle.workers.proofs.pace.Pace.TheSendSync as pace
-use Rattle.workers.proofs.places.Places.TheSendSync as places
-use Rattle.workers.proofs.ready.Ready.TheSendSync as ready
-use Rattle.workers.proofs.rounds.Rounds.TheSendSync as rounds
+use Rattle.steering.proofs.away.Away.TheSendSync as away
+use Rattle.steering.proofs.pace.Pace.TheSendSync as pace
+use Rattle.steering.proofs.places.Places.TheSendSync as places
+use Rattle.steering.proofs.ready.Ready.TheSendSync as ready
+use Rattle.steering.proofs.rounds.Rounds.TheSendSync as rounds
 use Rattle.workers.proofs.stats.Visits.TheSendSync as visits
 use Rattle.exchange.proofs.notes.Notes.TheSendSync as notes
 use Rattle.exchange.proofs.queue.Queue.TheSendSync as queue

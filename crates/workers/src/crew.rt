@@ -2,13 +2,13 @@
 ghost use Rattle.std.specs.Prelude.{◌≡◌};
 
 use crate::depot::Depot;
-use crate::pace::Pace;
 use crate::stats::Activity;
 use event_keys::Turned;
 use exchange::{Lease, Parcel};
 use gvt::Seat;
 use pools::{Numbered, Pass};
 use raw_events::EventList;
+use steering::Pace;
 use task_seed::{Setup, Turns};
 
 // A lease, and how far its component is let run ahead.

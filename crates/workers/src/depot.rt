@@ -6,19 +6,16 @@ ghost use Rattle.task_seed.specs.Setups.{plan_of, system};
 ghost use Rattle.workers.specs.Leases.{IsVisitOf, handed_setup};
 ghost use Rattle.workers.specs.Portions.{IsCutOf};
 
-use crate::away::Away;
 use crate::crew::{Handed, Paced};
-use crate::places::{Least, Places};
-use crate::policy::POLICY;
-use crate::ready::Ready;
-use crate::rounds::Rounds;
 use crate::stats::{Activity, Visits, sum};
-use crate::waiting::Waiting;
+use crate::waiting::{Cells, Waiting, swap_if};
 use crate::writing::Cut;
 use event_keys::{Bound, Turned};
 use exchange::{Effort, MeetRefused, Parcel};
 use raw_events::EventList;
 use std::marker::Model;
+use steering::pace::are_many;
+use steering::{Away, Least, Places, Ready, Rounds};
 use task_seed::Turns;
 
 // How far a lease is to run.
@@ -168,9 +165,17 @@ impl<T: Turns> Depot<T> {
         ensures { self.new ≡ self.old }
     {
         let number = handed.paced.lease.number();
-        self.away.give_back(number);
         self.waiting.put(handed);
         self.place(number);
+    }
+
+    // The same of the lease that a worker had.
+    pub(crate) fn give_back(&mut self, worker: u16, handed: Handed<T>)
+        requires { handed_setup handed ≡ self.old }
+        ensures { self.new ≡ self.old }
+    {
+        self.away.give_back(worker);
+        self.put_back(handed);
     }
 
     // A lease that waits gets the place of what it has to do next.
@@ -182,18 +187,36 @@ impl<T: Turns> Depot<T> {
         }
     }
 
-    // A lease meets the exchange, if it waits.
-    fn meet(&mut self, number: u16, spare: &mut EventList<Turned>) -> Result<(), MeetRefused>
+    // A lease meets the exchange, if it waits, with these cells.
+    fn meet(
+        &mut self,
+        number: u16,
+        cells: Cells,
+        spare: &mut EventList<Turned>,
+    ) -> Result<(), MeetRefused>
         ensures { self.new ≡ self.old }
     {
-        self.waiting.meet(number, self.rounds.pass(), spare)?;
+        self.waiting.meet(number, self.rounds.pass(), cells, spare)?;
         self.ready.meet(number, self.count);
         Ok(())
     }
 
-    // A lease tells what was done of it, if anybody wants to know, and waits. The cells that it had for its visit serve others.
+    // The same of one that waited. It is lent cells only where turns came below the bound since it met the exchange last.
+    fn meet_with(&mut self, number: u16, spare: &mut EventList<Turned>) -> Result<(), MeetRefused>
+        ensures { self.new ≡ self.old }
+    {
+        let cells = if self.ready.is_behind(number, self.count) {
+            Cells::Lent
+        } else {
+            Cells::Missing
+        };
+        self.meet(number, cells, spare)
+    }
+
+    // The lease that a worker had tells what was done of it, if anybody wants to know, and waits. The cells that it had for its visit serve others.
     pub(crate) fn share(
         &mut self,
+        worker: u16,
         mut handed: Handed<T>,
         spare: &mut EventList<Turned>,
     ) -> Result<(), MeetRefused>
@@ -201,17 +224,17 @@ impl<T: Turns> Depot<T> {
         ensures { self.new ≡ self.old }
     {
         self.visits.end_one();
-        handed.paced.lease.swap_spare(spare);
-        self.take_spare(spare);
+        self.away.give_back(worker);
         let is_first = handed.paced.pace.visit(self.rounds.raises());
         self.rounds.note(is_first);
         let is_due = self.is_due_to_meet(&*handed.paced, is_first);
         let number = handed.paced.lease.number();
-        self.away.give_back(number);
+        swap_if(&mut handed.paced.lease, !is_due, spare);
         self.waiting.put(handed);
         if is_due {
-            self.meet(number, spare)?;
+            self.meet(number, Cells::Own, spare)?;
         }
+        self.take_spare(spare);
         self.place(number);
         self.call_receivers();
         Ok(())
@@ -226,7 +249,7 @@ impl<T: Turns> Depot<T> {
             || lease.next() == Bound::End
             || !lease.may_go_on()
             || self.waiting.exchange().has_mail(lease.number())
-            || (is_first && lease.depth() as u64 >= POLICY.most_held / 2)
+            || (is_first && are_many(lease.depth()))
     }
 
     // Those to whom something came go on at once, if they wait for it.
@@ -278,7 +301,7 @@ impl<T: Turns> Depot<T> {
         ensures same { self.new ≡ self.old }
         ensures own { IfOk result (IsVisitOf self.old) }
     {
-        self.meet(number, spare)?;
+        self.meet_with(number, spare)?;
         self.places.leave(number);
         let reach = self.reach(0, false);
         if self.has_work(number, reach.horizon) {
@@ -310,7 +333,6 @@ impl<T: Turns> Depot<T> {
         ensures own { IsVisitOf self.old result }
     {
         let mut handed = self.waiting.take(number)?;
-        self.away.take(number, self.rounds.visits());
         handed.paced.lease.swap_spare(spare);
         Some(Visit { handed, reach })
     }
@@ -344,8 +366,7 @@ impl<T: Turns> Depot<T> {
         if least.is_parked {
             return false;
         }
-        let since = self.rounds.visits().saturating_sub(oldest);
-        since < POLICY.visits_ahead || !self.is_careful(least.number)
+        !self.rounds.is_long_ago(oldest) || !self.is_careful(least.number)
     }
 
     // Whether a lease waits whose component lost something lately.
@@ -364,23 +385,36 @@ impl<T: Turns> Depot<T> {
         }
     }
 
-    // A lease that is to be taken meets the exchange where something came to it, or its window stops it. In that case the bound is raised before; where
-    // that isn't enough and none is away, all that wait meet first, and tell so how far they are.
-    fn make_ready(&mut self, number: u16, spare: &mut EventList<Turned>) -> Result<(), MeetRefused>
+    // Whether a lease can go on that is to be taken. It meets the exchange first, where something came to it.
+    fn make_ready(
+        &mut self,
+        number: u16,
+        spare: &mut EventList<Turned>,
+    ) -> Result<bool, MeetRefused>
         ensures { self.new ≡ self.old }
     {
         if self.is_stopped(number) {
-            self.commit();
-            self.meet(number, spare)?;
-        } else if self.waiting.exchange().has_mail(number) {
-            self.meet(number, spare)?;
+            return self.make_room(number, spare);
         }
+        if self.waiting.exchange().has_mail(number) {
+            self.meet_with(number, spare)?;
+        }
+        Ok(true)
+    }
+
+    // A lease that its window stops meets the exchange, once the bound is raised. Where that isn't enough and none is away, all that wait meet first,
+    // and tell so how far they are. Whether it can go on then.
+    fn make_room(&mut self, number: u16, spare: &mut EventList<Turned>) -> Result<bool, MeetRefused>
+        ensures { self.new ≡ self.old }
+    {
+        self.commit();
+        self.meet_with(number, spare)?;
         if self.is_stopped(number) && self.away.oldest().is_none() {
             self.settle(spare)?;
             self.commit();
-            self.meet(number, spare)?;
+            self.meet_with(number, spare)?;
         }
-        Ok(())
+        Ok(!self.is_stopped(number))
     }
 
     // The lease with the least to do, if it may be taken, and its window doesn't stop it.
@@ -395,8 +429,7 @@ impl<T: Turns> Depot<T> {
             return Ok(None);
         }
         let number = least.number;
-        self.make_ready(number, spare)?;
-        if self.is_stopped(number) {
+        if !self.make_ready(number, spare)? {
             self.place(number);
             return Ok(None);
         }
@@ -412,7 +445,7 @@ impl<T: Turns> Depot<T> {
         ensures { self.new ≡ self.old }
     {
         for number in 0..self.components {
-            self.meet(number, spare)?;
+            self.meet_with(number, spare)?;
             self.place(number);
         }
         Ok(())
@@ -433,11 +466,24 @@ impl<T: Turns> Depot<T> {
         Ok(())
     }
 
-    // The lease that is visited next, if any is worth it, with the spare cells.
+    // The lease that a worker visits next, if any is worth it, with the spare cells.
     pub(crate) fn take_next(
         &mut self,
+        worker: u16,
         spare: &mut EventList<Turned>,
     ) -> Result<Option<Visit<T>>, MeetRefused>
+        ensures same { self.new ≡ self.old }
+        ensures own { IfOk result (IsVisitOf self.old) }
+    {
+        let visit = self.take_any(spare)?;
+        if visit.is_some() {
+            self.away.take(worker, self.rounds.visits());
+        }
+        Ok(visit)
+    }
+
+    // The same, whoever visits it.
+    fn take_any(&mut self, spare: &mut EventList<Turned>) -> Result<Option<Visit<T>>, MeetRefused>
         ensures same { self.new ≡ self.old }
         ensures own { IfOk result (IsVisitOf self.old) }
     {

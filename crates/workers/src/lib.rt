@@ -1,17 +1,10 @@
 //! Workers: threads that hold leases in turn, run them ahead and share what they did, while the calling thread writes what is committed.
 #![tactic(auto)]
 
-mod away;
 mod crew;
 mod depot;
 pub mod fault;
 pub mod gate;
-mod pace;
-mod patience;
-mod places;
-mod policy;
-mod ready;
-mod rounds;
 pub mod running;
 mod shared;
 pub mod stats;

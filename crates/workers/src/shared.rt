@@ -10,8 +10,6 @@ use gvt::Published;
 use pools::{Pass, Pool};
 use std::sync::atomic::{AtomicBool, AtomicU64, Ordering};
 use std::sync::{Mutex, Wait};
-use std::thread::Parker;
-use std::time::Duration;
 use task_seed::{Setup, Turns};
 
 // The exchange with the leases that wait, which one thread at a time has, the first fault, whether a worker has ended, how often the calling thread
@@ -47,11 +45,6 @@ pub(crate) fn hold<T: Turns, R: Wait>(
         backoff.snooze();
     }
     unreachable!()
-}
-
-// Sleeps for so many microseconds, where there is nothing to do and a thread that looked again and again would take a processor from one that works.
-pub(crate) fn nap<R: Wait>(rt: &R, micros: u64) {
-    Parker::new().park_timeout(rt, Duration::from_micros(micros));
 }
 
 // Whether a worker has ended, or is to end: the exchange has finished, or a fault was noted.

@@ -9,7 +9,7 @@ ghost use Rattle.workers.specs.Portions.{IsCutOf};
 use crate::crew::{Handed, Paced};
 use crate::writing::{Cut, take_cut};
 use event_keys::Turned;
-use exchange::{Effort, Exchange, MeetRefused, Parcel};
+use exchange::{Effort, Exchange, Lease, MeetRefused, Parcel};
 use raw_events::EventList;
 use std::alloc::Global;
 use std::marker::Model;
@@ -21,6 +21,44 @@ use terms::NoMemory;
 pub(crate) struct Waiter<T: Turns> {
     paced: Box<Paced<T>>,
     is_known: bool,
+}
+
+// Which cells a lease has at a meeting for the turns that it gives up.
+#[derive(Clone, Copy)]
+pub(crate) enum Cells {
+    // Its own; the worker that had it gets them then.
+    Own,
+    // A worker's, which gets them back.
+    Lent,
+    // None: it gives up no turn.
+    Missing,
+}
+
+impl Cells {
+    fn are_lent(self) -> bool {
+        match self {
+            Cells::Own => false,
+            Cells::Lent => true,
+            Cells::Missing => false,
+        }
+    }
+
+    fn are_there(self) -> bool {
+        match self {
+            Cells::Own => true,
+            Cells::Lent => true,
+            Cells::Missing => false,
+        }
+    }
+}
+
+// Swaps a lease's spare cells for others, or leaves it as it is.
+pub(crate) fn swap_if<T: Turns>(lease: &mut Lease<T>, swaps: bool, spare: &mut EventList<Turned>)
+    ensures { lease.new ≡ lease.old }
+{
+    if swaps {
+        lease.swap_spare(spare);
+    }
 }
 
 // The exchange, with the lease of each component, unless a worker has it. A lease that has met the exchange since it came is known to it.
@@ -54,6 +92,7 @@ impl<T: Turns> Waiter<T> {
         &mut self,
         exchange: &mut Exchange<T>,
         pass: u64,
+        cells: Cells,
         spare: &mut EventList<Turned>,
     ) -> Result<(), MeetRefused>
         requires { IsWaiting T.turn_of exchange.old (number_of self.old) self.old }
@@ -63,14 +102,14 @@ impl<T: Turns> Waiter<T> {
         ensures window { exchange.new.window ≡ exchange.old.window }
     {
         let paced = &mut *self.paced;
-        paced.lease.swap_spare(spare);
+        swap_if(&mut paced.lease, cells.are_lent(), spare);
         if self.is_known {
             exchange.meet_known(&mut paced.lease);
         } else {
             exchange.meet_own(&mut paced.lease)?;
             self.is_known = true;
         }
-        paced.lease.swap_spare(spare);
+        swap_if(&mut paced.lease, cells.are_there(), spare);
         paced.pace.meet(pass);
         Ok(())
     }
@@ -182,6 +221,7 @@ impl<T: Turns> Waiting<T> {
         &mut self,
         number: u16,
         pass: u64,
+        cells: Cells,
         spare: &mut EventList<Turned>,
     ) -> Result<(), MeetRefused>
         ensures { self.new ≡ self.old }
@@ -192,7 +232,7 @@ impl<T: Turns> Waiting<T> {
         }
         match &mut self.waiters[at] {
             None => Ok(()),
-            Some(waiter) => waiter.meet(&mut self.exchange, pass, spare),
+            Some(waiter) => waiter.meet(&mut self.exchange, pass, cells, spare),
         }
     }
 }

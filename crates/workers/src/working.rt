@@ -8,13 +8,13 @@ use crate::crew::{Handed, Paced, Worker};
 use crate::depot::{Depot, Reach, Visit};
 use crate::fault::WorkFault;
 use crate::gate::Gate;
-use crate::patience::Patience;
 use crate::shared::{Shared, end, ends, hold, looks, note};
 use event_keys::{Bound, Turned};
 use exchange::{Lease, MeetRefused};
 use raw_events::EventList;
 use std::alloc::Global;
 use std::sync::Wait;
+use steering::Patience;
 use task_seed::Turns;
 use terms::NoMemory;
 
@@ -74,7 +74,7 @@ fn put_back<T: Turns, R: Wait>(
 {
     let mut looks = 0;
     let mut lent = hold(rt, shared, &mut worker.lock, &mut looks);
-    lent.depot.put_back(handed);
+    lent.depot.give_back(worker.number, handed);
     shared.exchange.give_back(rt, &mut worker.lock, lent);
 }
 
@@ -127,10 +127,10 @@ fn go_round<T: Turns>(
 {
     let before = depot.ready();
     match done {
-        Some(handed) => depot.share(handed, &mut worker.spare)?,
+        Some(handed) => depot.share(worker.number, handed, &mut worker.spare)?,
         None => depot.take_spare(&mut worker.spare),
     }
-    let visit = next_visit(shared, depot, &mut worker.spare, rests)?;
+    let visit = next_visit(shared, depot, worker.number, &mut worker.spare, rests)?;
     if depot.ready() != before {
         shared.published.publish(&mut worker.seat, depot.ready());
     }
@@ -140,10 +140,11 @@ fn go_round<T: Turns>(
     Ok(visit)
 }
 
-// The next lease, unless the worker is to rest, or all are to end.
+// A worker's next lease, unless it is to rest, or all are to end.
 fn next_visit<T: Turns>(
     shared: &Shared<T>,
     depot: &mut Depot<T>,
+    worker: u16,
     spare: &mut EventList<Turned>,
     rests: bool,
 ) -> Result<Option<Visit<T>>, MeetRefused>
@@ -153,7 +154,7 @@ fn next_visit<T: Turns>(
     if rests || ends(shared) {
         return Ok(None);
     }
-    depot.take_next(spare)
+    depot.take_next(worker, spare)
 }
 
 // Without the lock: a lease delivers what came to it, and runs ahead as the gate lets it.

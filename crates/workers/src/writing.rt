@@ -11,8 +11,7 @@ ghost use Rattle.workers.specs.Runs.{WroteAll, WroteSome};
 
 use crate::crew::Caller;
 use crate::fault::{RunFault, WorkFault, run_fault};
-use crate::policy::POLICY;
-use crate::shared::{Shared, ends, hold, nap, note_look, noted};
+use crate::shared::{Shared, ends, hold, note_look, noted};
 use crate::stats::Stats;
 use event_keys::Turned;
 use exchange::{Exchange, Parcel};
@@ -21,6 +20,7 @@ use raw_events::EventList;
 use reference::laws::turns_are_schedule;
 use std::io::Write;
 use std::sync::Wait;
+use steering::nap::nap;
 use task_seed::{Setup, Turns};
 use trace::{Counted, Lines, WriteFault, append_turns};
 
@@ -109,7 +109,8 @@ fn next_portion<T: Turns, R: Wait>(
     Ok(Some(put_together(own, cut, &mut caller.parcel)))
 }
 
-// Writes the lines of a portion's turns, where so many bytes went out before.
+// Writes the lines of a portion's turns, where so many bytes went out before. It stays a call, so that its loop has the registers to itself.
+#[inline(never)]
 fn put_portion<W: Write>(
     plan: &Plan,
     turns: &EventList<Turned>,
@@ -127,7 +128,7 @@ fn put_portion<W: Write>(
 // Naps, unless a worker has ended: then what is left can be had at once.
 fn rest<T: Turns, R: Wait>(rt: &R, shared: &Shared<T>) {
     if !ends(shared) {
-        nap(rt, POLICY.nap);
+        nap(rt);
     }
 }
 

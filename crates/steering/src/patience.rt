@@ -1,13 +1,13 @@
 //! When a worker keeps out of the others' way.
+use crate::nap::nap_for;
 use crate::policy::POLICY;
-use crate::shared::nap;
 use std::sync::Wait;
 
-// Where turns are cheap and each waits for a message, a second worker does nothing but take the exchange from the first. So a worker that finds
-// it away too often rests, each time longer, but the first worker, which never does. Where components lose nothing they don't wait for each other,
-// and no worker rests.
+/// Where turns are cheap and each waits for a message, a second worker does nothing but take the exchange from the first. So a worker that finds
+/// it away too often rests, each time longer, but the first worker, which never does. Where components lose nothing they don't wait for each other,
+/// and no worker rests.
 #[derive(Drop)]
-pub(crate) struct Patience {
+pub struct Patience {
     is_first: bool,
     // How often the exchange was away of late.
     crowd: u32,
@@ -26,7 +26,8 @@ pub(crate) struct Patience {
 }
 
 impl Patience {
-    pub(crate) fn new(worker: u16) -> Patience {
+    /// That of a worker, by its number.
+    pub fn new(worker: u16) -> Patience {
         Patience {
             is_first: worker == 0,
             crowd: 0,
@@ -40,35 +41,36 @@ impl Patience {
         }
     }
 
-    // Naps, if a rest isn't over yet, and answers whether it did.
-    pub(crate) fn rest_on<R: Wait>(&mut self, rt: &R) -> bool {
+    /// Naps, if a rest isn't over yet, and answers whether it did.
+    pub fn rest_on<R: Wait>(&mut self, rt: &R) -> bool {
         if self.naps == 0 {
             return false;
         }
         self.naps -= 1;
-        self.nap_for(rt, self.nap);
+        self.sleep(rt, self.nap);
         true
     }
 
-    fn nap_for<R: Wait>(&mut self, rt: &R, micros: u64) {
+    // Sleeps for so many microseconds.
+    fn sleep<R: Wait>(&mut self, rt: &R, micros: u64) {
         self.waited = self.waited.saturating_add(micros);
-        nap(rt, micros);
+        nap_for(rt, micros);
     }
 
-    // How many microseconds it napped since this was last asked.
-    pub(crate) fn take_waited(&mut self) -> u64 {
+    /// How many microseconds it napped since this was last asked.
+    pub fn take_waited(&mut self) -> u64 {
         let waited = self.waited;
         self.waited = 0;
         waited
     }
 
-    // So many turns are published.
-    pub(crate) fn see(&mut self, count: u64) {
+    /// So many turns are published.
+    pub fn see(&mut self, count: u64) {
         self.count = count;
     }
 
-    // Naps, if the calling thread has looked for turns so often, and many were published since it did last. Answers whether it napped.
-    pub(crate) fn keep_back<R: Wait>(&mut self, rt: &R, caller_looks: u64) -> bool {
+    /// Naps, if the calling thread has looked for turns so often, and many were published since it did last. Answers whether it napped.
+    pub fn keep_back<R: Wait>(&mut self, rt: &R, caller_looks: u64) -> bool {
         if self.caller_looks != caller_looks {
             self.caller_looks = caller_looks;
             self.published = self.count;
@@ -76,12 +78,12 @@ impl Patience {
         if self.count.saturating_sub(self.published) <= POLICY.most_unseen {
             return false;
         }
-        self.nap_for(rt, POLICY.nap);
+        self.sleep(rt, POLICY.nap);
         true
     }
 
-    // The exchange was had after so many vain looks, and whether what the worker does may be lost. Whether it is to rest.
-    pub(crate) fn note(&mut self, looks: u32, is_risky: bool) -> bool {
+    /// The exchange was had after so many vain looks, and whether what the worker does may be lost. Whether it is to rest.
+    pub fn note(&mut self, looks: u32, is_risky: bool) -> bool {
         if looks > 0 && is_risky {
             self.crowd = self.crowd.saturating_add(POLICY.away);
         } else {
@@ -111,12 +113,12 @@ impl Patience {
         self.naps = 1 << (doublings - of_nap);
     }
 
-    // Lets other threads go on.
-    pub(crate) fn wait<R: Wait>(&mut self, rt: &R) {
+    /// Lets other threads go on.
+    pub fn wait<R: Wait>(&mut self, rt: &R) {
         if self.is_crowded() {
             self.begin_rest();
         } else {
-            self.nap_for(rt, POLICY.nap);
+            self.sleep(rt, POLICY.nap);
         }
     }
 }

@@ -17,10 +17,10 @@ const PARKED: u64 = 9_223_372_036_854_775_808;
 // Later ticks count as this one.
 const LAST_TICK: u64 = 140_737_488_355_327;
 
-// The places of the components' leases, in a tournament. A place is the tick of what a lease has to do next, with the number of its component,
-// so that no two are equal; it steers the workers, and no promise rests on it.
+/// The places of the components' leases, in a tournament. A place is the tick of what a lease has to do next, with the number of its component,
+/// so that no two are equal; it steers the workers, and no promise rests on it.
 #[derive(Drop)]
-pub(crate) struct Places {
+pub struct Places {
     nodes: Vec<u64>,
     count: usize,
 }
@@ -39,39 +39,42 @@ impl Model for Places {
     ghost invariant = { λ p. IsTournament p.count p.nodes.items };
 }
 
-// The lease that has the least to do, and whether it is parked.
+/// The lease that has the least to do.
 #[derive(Clone, Copy)]
-pub(crate) struct Least {
-    pub(crate) tick: u64,
-    pub(crate) number: u16,
-    pub(crate) is_parked: bool,
+pub struct Least {
+    /// The tick of that.
+    pub tick: u64,
+    /// The number of its component.
+    pub number: u16,
+    /// Whether it is parked.
+    pub is_parked: bool,
 }
 
 impl Places {
-    // All are nowhere.
-    pub(crate) fn new(alloc: Global, count: u16) -> Result<Places, NoMemory> {
+    /// All are nowhere.
+    pub fn new(alloc: Global, count: u16) -> Result<Places, NoMemory> {
         let count = usize::from(count);
         let nodes = vec![in alloc; NOWHERE; 2 * count]?;
         Ok(Places { nodes, count })
     }
 
-    // A lease waits that has this to do next.
-    pub(crate) fn wait(&mut self, number: u16, next: Bound) {
+    /// A lease waits that has this to do next.
+    pub fn wait(&mut self, number: u16, next: Bound) {
         self.move_to(number, place_of(next, number));
     }
 
-    // The same of one that comes behind all others.
-    pub(crate) fn park(&mut self, number: u16, next: Bound) {
+    /// The same of one that comes behind all others.
+    pub fn park(&mut self, number: u16, next: Bound) {
         self.move_to(number, place_of(next, number).saturating_add(PARKED));
     }
 
-    // A lease goes away, or has nothing to do.
-    pub(crate) fn leave(&mut self, number: u16) {
+    /// A lease goes away, or has nothing to do.
+    pub fn leave(&mut self, number: u16) {
         self.move_to(number, NOWHERE);
     }
 
-    // A lease that is parked, or has nothing to do, comes to where the others are.
-    pub(crate) fn call(&mut self, number: u16) {
+    /// A lease that is parked, or has nothing to do, comes to where the others are.
+    pub fn call(&mut self, number: u16) {
         if self.place(number) >= PARKED {
             self.move_to(number, place_at(self.front(), number));
         }
@@ -99,8 +102,8 @@ impl Places {
         }
     }
 
-    // The least of all that are somewhere.
-    pub(crate) fn least(&self) -> Option<Least> {
+    /// The least of all that are somewhere.
+    pub fn least(&self) -> Option<Least> {
         let place = *self.nodes.get(1)?;
         if place == NOWHERE {
             return None;
@@ -126,8 +129,8 @@ fn place_at(tick: u64, number: u16) -> u64 {
 }
 
 impl Least {
-    // How far another lease may run before this one.
-    pub(crate) fn bound(self) -> Bound {
+    /// How far another lease may run before this one.
+    pub fn bound(self) -> Bound {
         Bound::At(Key {
             tick: self.tick,
             component: self.number,
