@@ -1,6 +1,6 @@
 -- Ranges of seeds, one behind the other.
 use Rattle.std.proofs.Common.{◌≡◌, ◌⊎◌, ℕ, Bool, true, false, true≢false, zero, suc, ◌+◌, ◌-◌, ◌<◌, ◌≤◌, List, inl, inr, refl, sym, subst, arith}
-use Rattle.std.specs.Prelude.{Option, None, Some, Result, Ok, Err, IfErr, IfNone, IfOk, IfSome, IsOk, MatchBool, OnOk}
+use Rattle.std.specs.Prelude.{Option, None, Some, Result, Ok, Err, IfErr, IfNone, IfOk, IfSome, MatchBool, OnOk}
 use Rattle.std.proofs.lemmas.Bool.{cases_lt}
 use Rattle.event_keys.specs.declared.outcome.Turned.{Turned}
 use Rattle.compose.specs.Composed.{IsComposed}
@@ -11,11 +11,9 @@ use Rattle.trace.specs.declared.fault.WriteFault.{WriteFault}
 use Rattle.hunt.specs.declared.fault.HuntFault.{HuntFault}
 use Rattle.hunt.specs.declared.fault.HuntFault.TheVariants as fault
 use Rattle.hunt.specs.declared.find.Find.{Find}
-use Rattle.hunt.specs.declared.find.Part.{Part}
-use Rattle.hunt.specs.declared.find.Part.TheVariants.{Found, Nothing, GivenUp}
 use Rattle.hunt.specs.declared.wanted.Wanted.{Wanted}
 use Rattle.hunt.specs.Faults.{IsStoppedBy, IsUnhunted, IsUnseen}
-use Rattle.hunt.specs.Hunts.{AllLack, AreSeeds, IsCount, IsFind, IsFound, IsLeast, IsNone, IsPart, IsTold}
+use Rattle.hunt.specs.Hunts.{AllLack, AreSeeds, IsCount, IsFind, IsFound, IsLeast, IsNone, IsTold}
 use Rattle.hunt.specs.Seeds.{Has, HasText, Hunted, IsSown, Lacks}
 use Rattle.hunt.specs.Sightings.{IsShown, NeverOccurs}
 use Rattle.hunt.specs.Wanted.{IsWanted}
@@ -66,11 +64,8 @@ module _ (h : Hunted) where
   pub find_longer : (from middle end : ℕ) → middle ≤ end → (find : Find) → IsFind h from middle find → IsFind h from end find
   find_longer from middle end low find is = least_longer from middle end find.seed _ low is
 
-  -- two looks, one behind the other
-  pub part_later : (from middle end : ℕ) → from ≤ middle → AllLack h from middle → (part : Part) → IsPart h middle end part → IsPart h from end part
-  part_later from middle end low lack (Found find) is = least_later from middle end find.seed _ low lack is
-  part_later from middle end low lack Nothing is = lack_both from middle end lack is
-  part_later from middle end low lack GivenUp is = tt
+  pub find_later : (from middle end : ℕ) → from ≤ middle → AllLack h from middle → (find : Find) → IsFind h middle end find → IsFind h from end find
+  find_later from middle end low lack find is = least_later from middle end find.seed _ low lack is
 
   -- of no seeds none has it, and of one more as many or one more
   pub count_lacks : (from seed count : ℕ) → from ≤ seed → IsCount h from seed count → Lacks h seed → IsCount h from (seed + 1) count
@@ -112,12 +107,8 @@ module _ (h : Hunted) where
       let many : (middle - from) + (end - middle) ≡ end - from = omega arith in
       subst (λ n. AreSeeds h from n (a + b)) many (seeds_joined from (middle - from) (end - middle) a b first (subst (λ k. AreSeeds h k (end - middle) b) begin second))
 
-  pub sum_counted : (from middle end : ℕ) → from ≤ middle → middle ≤ end → (r low high : Result ℕ HuntFault) → IfOk r (λ sum. IfOk low (λ a. IfOk high (λ b. sum ≡ a + b))) → OnOk r (IsOk low × IsOk high)
-      → IfOk low (IsCount h from middle) → IfOk high (IsCount h middle end) → IfOk r (IsCount h from end)
-  sum_counted from middle end above below (Ok sum) (Ok a) (Ok b) is both first second = subst (IsCount h from end) (sym is) (count_joined from middle end a b above below first second)
-  sum_counted from middle end above below (Ok sum) (Ok a) (Err f) is both first second = absurd (true≢false (sym both.1))
-  sum_counted from middle end above below (Ok sum) (Err e) high is both first second = absurd (true≢false (sym both.0))
-  sum_counted from middle end above below (Err e) low high is both first second = tt
+  pub counts_joined : (from middle end a b sum : ℕ) → from ≤ middle → middle ≤ end → sum ≡ a + b → IsCount h from middle a → IsCount h middle end b → IsCount h from end sum
+  counts_joined from middle end a b sum low high is first second = subst (IsCount h from end) (sym is) (count_joined from middle end a b low high first second)
 
   -- a seed that has it, whatever its turns
   pub has_any : (seed : ℕ) (Holds : Plan → List Turned → Type 0) → Has h seed Holds → Has h seed (λ plan turns. Unit {0})

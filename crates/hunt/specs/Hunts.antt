@@ -1,10 +1,12 @@
 -- What is found among the seeds of a range, which ends before its end.
+use Rattle.std.specs.List.{All}
 use Rattle.std.specs.Prelude.{◌≡◌, ◌<◌, ◌≤◌, ◌+◌, ◌-◌, ◌⊎◌, ℕ, zero, suc, List, ◌++◌, Option, None, Some, codes, decimal}
 use Rattle.event_keys.specs.declared.outcome.Turned.{Turned}
 use Rattle.plans.specs.declared.plan.Plan.{Plan}
 use Rattle.hunt.specs.declared.find.Find.{Find}
 use Rattle.hunt.specs.declared.find.Part.{Part}
-use Rattle.hunt.specs.declared.find.Part.TheVariants.{Found, Nothing, GivenUp}
+use Rattle.hunt.specs.declared.find.Part.TheVariants.{Found, Nothing, GivenUp, Counted}
+use Rattle.hunt.specs.declared.find.Taken.{Taken}
 use Rattle.hunt.specs.Seeds.{Has, Hunted, Lacks}
 use Rattle.hunt.specs.Sightings.{seed_text}
 
@@ -30,12 +32,6 @@ abbrev pub IsFound : Hunted → ℕ → ℕ → Option Find → Type 0
 IsFound h from end None = AllLack h from end
 IsFound h from end (Some find) = IsFind h from end find
 
--- what a look at the range came to; of one that was given up nothing is said
-abbrev pub IsPart : Hunted → ℕ → ℕ → Part → Type 0
-IsPart h from end (Found find) = IsFind h from end find
-IsPart h from end Nothing = AllLack h from end
-IsPart h from end GivenUp = Unit {0}
-
 -- so many seeds from one on, of which a number has the action
 abbrev pub AreSeeds : Hunted → ℕ → (many count : ℕ) → Type 0
 AreSeeds h from zero count = count ≡ 0
@@ -47,6 +43,17 @@ AreSeeds h from (suc many) count =
 -- so many seeds of the range have it
 abbrev pub IsCount : Hunted → ℕ → ℕ → ℕ → Type 0
 IsCount h from end count = AreSeeds h from (end - from) count
+
+-- what a look at the range came to; of one that was given up nothing is said
+abbrev pub IsPart : Hunted → ℕ → ℕ → Part → Type 0
+IsPart h from end (Found find) = IsFind h from end find
+IsPart h from end Nothing = AllLack h from end
+IsPart h from end GivenUp = Unit {0}
+IsPart h from end (Counted count) = IsCount h from end count
+
+-- these are parts of a range, and what a look at each came to
+abbrev pub AreTaken : Hunted → List Taken → Type 0
+AreTaken h = All (λ taken. IsPart h taken.from taken.end taken.part)
 
 -- the text that tells the least seed became this
 pub record IsTold (h : Hunted) (from end : ℕ) (Became : List ℕ → Type 0) : Type 0 where

@@ -9,6 +9,7 @@ ghost use Rattle.hunt.specs.Seeds.{hunted};
 use crate::counting::count_all;
 use crate::course::Course;
 use crate::fault::HuntFault;
+use crate::looks::Looks;
 use crate::searching::search;
 use itoa::Buffer;
 use std::alloc::{AllocError, Global};
@@ -31,13 +32,13 @@ fn count_text(alloc: Global, count: u64) -> Result<Vec<u8>, AllocError>
 ///
 /// A schedule of a seed is that of the simulator on one thread that always takes the least key. The action is a name of actions, or an
 /// action as a line of a trace has it. Workers only share the work: the answer is the same by any number of them; 0 is taken as 1.
-/// What a worker holds grows with the turns of one seed.
+/// What a worker holds grows with the turns of one seed. `looks` is told of each seed that was looked at.
 ///
 /// # Errors
 ///
 /// `Source`, `Turns`, `Ticks` and `Action` where the source, the gap, the last tick or the action is refused, in this order, and `NoMemory`;
 /// then nothing is written. `Write` where a write failed, with the number of the text's bytes that went out before.
-pub fn hunt<W: Write, R: Threads + Sync>(
+pub fn hunt<W: Write, R: Threads + Sync, L: Looks + Sync>(
     rt: &R,
     alloc: Global,
     source: &[u8],
@@ -46,6 +47,7 @@ pub fn hunt<W: Write, R: Threads + Sync>(
     first: u64,
     end: u64,
     workers: u64,
+    looks: &L,
     out: &mut Counted<W>,
 ) -> Result<bool, HuntFault>
     ensures answered { IfOk result (λ found. MatchBool found
@@ -55,7 +57,9 @@ pub fn hunt<W: Write, R: Threads + Sync>(
         (λ failed. IsAnswered (hunted source.now action.now course) first end
         (λ text. IsStopped W.contents out.old out.new text (written_of failed)))) }
 {
-    match search(rt, alloc, source, action, course, first, end, workers) {
+    match search(
+        rt, alloc, source, action, course, first, end, workers, looks,
+    ) {
         Ok(Some(find)) => tell(find.text.as_slice(), true, out),
         Ok(None) => tell(b"none\n", false, out),
         Err(fault) => Err(fault),
@@ -80,7 +84,7 @@ fn tell<W: Write>(text: &[u8], found: bool, out: &mut Counted<W>) -> Result<bool
 /// # Errors
 ///
 /// As those of [`hunt`].
-pub fn count<W: Write, R: Threads + Sync>(
+pub fn count<W: Write, R: Threads + Sync, L: Looks + Sync>(
     rt: &R,
     alloc: Global,
     source: &[u8],
@@ -89,6 +93,7 @@ pub fn count<W: Write, R: Threads + Sync>(
     first: u64,
     end: u64,
     workers: u64,
+    looks: &L,
     out: &mut Counted<W>,
 ) -> Result<(), HuntFault>
     ensures counted { OnOk result (IsCounted (hunted source.now action.now course) first end
@@ -97,7 +102,9 @@ pub fn count<W: Write, R: Threads + Sync>(
         (λ failed. IsCounted (hunted source.now action.now course) first end
         (λ text. IsStopped W.contents out.old out.new text (written_of failed)))) }
 {
-    let count = match count_all(rt, alloc, source, action, course, first, end, workers) {
+    let count = match count_all(
+        rt, alloc, source, action, course, first, end, workers, looks,
+    ) {
         Ok(count) => count,
         Err(fault) => return Err(fault),
     };

@@ -5,7 +5,7 @@ use Rattle.hunt.proofs.Parts.{count_joined}
 use Rattle.hunt.proofs.counting.count_alone.Goals as goal
 
 pub loop-seed-preserved : goal.loop-seed-preserved
-loop-seed-preserved c =
+loop-seed-preserved g c =
     let here = c.loop-seed.invariant in
     let test = c.loop-seed-test.true in
     let one = c.in-Ok.ensures.few in
@@ -17,14 +17,14 @@ loop-seed-preserved c =
     }
 
 pub returns-clause-count : goal.returns-clause-count
-returns-clause-count c =
+returns-clause-count g c =
     let here = c.loop-seed.invariant in
     let test = c.loop-seed-test.false in
     let same : c.loop-seed.seed ≡ c.args.end = omega arith in
     subst (λ n. IsCount (hunted c.args.source.now c.args.action.now c.args.course) c.args.from n c.loop-seed.count) same here.are
 
 pub returns-clause-few : goal.returns-clause-few
-returns-clause-few c =
+returns-clause-few g c =
     let here = c.loop-seed.invariant in
     let test = c.loop-seed-test.false in
     omega arith

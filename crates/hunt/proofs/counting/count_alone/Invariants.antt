@@ -4,7 +4,7 @@ use Rattle.hunt.specs.Seeds.{hunted}
 use Rattle.hunt.proofs.counting.count_alone.Given as goal
 
 abbrev pub invariant-loop-seed : goal.invariant-loop-seed
-invariant-loop-seed l = record {
+invariant-loop-seed g l = record {
   above : l.from ≤ l.seed;
   below : l.seed ≤ l.end;
   are : IsCount (hunted l.source l.action l.course) l.from l.seed l.count;

@@ -1,8 +1,8 @@
 use Rattle.std.proofs.Common.{◌+◌, ◌*◌}
-use Rattle.hunt.proofs.searching.+halves.Given as goal
+use Rattle.hunt.proofs.sharing.+shares.Given as goal
 
-abbrev pub decreases-search_shared : goal.decreases-search_shared
-decreases-search_shared g l = 2 * l.workers
+abbrev pub decreases-share : goal.decreases-share
+decreases-share g l = 2 * l.workers
 
 abbrev pub decreases-front : goal.decreases-front
 decreases-front g l = 2 * l.low + 1

@@ -1,0 +1,6 @@
+use Rattle.hunt.specs.Hunts.{AreTaken}
+use Rattle.hunt.specs.Seeds.{hunted}
+use Rattle.hunt.proofs.sharing.take_parts.Given as goal
+
+abbrev pub invariant-loop : goal.invariant-loop
+invariant-loop g l = AreTaken (hunted l.source l.action l.course) l.parts.items
