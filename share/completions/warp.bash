@@ -17,7 +17,7 @@ _warp() {
     case $command in
     reference | drive) options=$turns ;;
     run) options="$turns --workers --budget --window --stats" ;;
-    hunt) options="--seeds --stream --gap --from-zero --ticks --workers --count" ;;
+    hunt) options="--seeds --stream --gap --from-zero --ticks --workers --count --progress" ;;
     draw) options="$turns --from --to" ;;
     explain) options="--table --steps --actions" ;;
     help)

@@ -12,7 +12,7 @@ complete -c warp -n "__fish_seen_subcommand_from $turns hunt" -x -l ticks -d "Th
 complete -c warp -n "__fish_seen_subcommand_from $turns explain" -r -l table -d "A table of turns"
 complete -c warp -n "__fish_seen_subcommand_from $turns" -l trace -d "Only turns with an external action"
 complete -c warp -n "__fish_seen_subcommand_from $turns" -l head -d "Begin with the line trace 2"
-complete -c warp -n "__fish_seen_subcommand_from $turns" -l progress -d "Tell once a second how far it is"
+complete -c warp -n "__fish_seen_subcommand_from $turns hunt" -l progress -d "Tell once a second how far it is"
 complete -c warp -n "__fish_seen_subcommand_from run hunt" -x -l workers -d "How many threads there are"
 complete -c warp -n "__fish_seen_subcommand_from run" -x -l budget -d "How far a worker runs ahead"
 complete -c warp -n "__fish_seen_subcommand_from run" -x -l window -d "How many turns of a component may wait to be committed"

@@ -2,4 +2,4 @@ mod Telling
 mod Numbers
 mod Locals
 mod Ranges
-mod Runs
+mod Lacking

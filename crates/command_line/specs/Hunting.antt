@@ -15,20 +15,27 @@ seeds_rule = record (new_rule (codes "seeds")) {
   value_names = 1;
 }
 
--- a subcommand that hunts
-abbrev pub hunting : App → App
-hunting app =
-    with_rule (with_rule (with_rule (with_rule (with_rule (with_rule (with_rule app
+-- a subcommand that draws turns from a range of seeds
+abbrev pub sown : App → App
+sown app =
+    with_rule (with_rule (with_rule (with_rule (with_rule app
     seeds_rule)
     (number_rule (codes "stream") (codes "0") whole))
     (number_rule (codes "gap") (codes "8") (Unsigned 1 65535)))
     (flag_rule (codes "from-zero")))
-    (number_rule (codes "ticks") (codes "1000") (Unsigned 0 4294967296)))
+    (number_rule (codes "ticks") (codes "1000") (Unsigned 0 4294967296))
+
+-- a subcommand that hunts
+abbrev pub hunting : App → App
+hunting app =
+    with_rule (with_rule (with_rule app
     (number_rule (codes "workers") (codes "2") (Unsigned 1 64)))
-    (flag_rule (codes "count"))
+    (flag_rule (codes "count")))
+    (flag_rule (codes "progress"))
 
 abbrev pub hunt_app : App
-hunt_app = hunting (with_rule (of_file (codes "hunt") (codes "F")) (file_rule (codes "ACTION")))
+hunt_app =
+    hunting (sown (with_rule (of_file (codes "hunt") (codes "F")) (file_rule (codes "ACTION"))))
 
 -- the text is that of the range: two numbers with two dots between them, the first not above the
 -- last
@@ -52,6 +59,7 @@ pub record HasHunting (rows : List Row) (h : Hunting) : Type 0 where
   pub ticks : IsNumber rows (codes "ticks") 0 4294967296 h.ticks
   pub workers : IsNumber rows (codes "workers") 1 64 h.workers
   pub count : IsFlag (first_of (codes "count") rows) h.count
+  pub progress : IsFlag (first_of (codes "progress") rows) h.progress
 
 -- what was entered is this subcommand, with this file, this action and this hunt
 pub record Hunts (entered : Option (Text × List Row)) (source action : Text) (h : Hunting)

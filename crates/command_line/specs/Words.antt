@@ -1,5 +1,5 @@
 -- What the words of the command line ask for, as `clap` reads them.
-use Rattle.std.specs.Prelude.{◌≡◌, ◌≢◌, ◌⊎◌, ℕ, Option, Some, true, List, [], codes, option_map}
+use Rattle.std.specs.Prelude.{◌≡◌, ◌≢◌, ◌⊎◌, ℕ, Option, None, Some, true, List, [], codes, option_map}
 use Rattle.clap.specs.Words.{App, IsAmong, Row, Text, fault_of, first_of, new_app, subcommand_of, with_rule, with_subcommand}
 use Rattle.clap.specs.declared.builder.value_parser.ValueParser.TheVariants.{Unsigned}
 use Rattle.clap.specs.declared.error.ErrorKind.{ErrorKind}
@@ -163,6 +163,11 @@ IsNamed entered (asked.Explain source table steps actions) =
     Explains entered source.now (option_map (λ s. s.now) table) (option_map (λ s. s.now) steps) (option_map (λ s. s.now) actions)
 IsNamed entered (asked.Hunt source action hunting) = Hunts entered source.now action.now hunting
 IsNamed entered (asked.Draw source options ticks) = Draws entered source.now options ticks
+
+-- what was entered asks for this, or for nothing
+abbrev pub IsAskedBy : Option (Text × List Row) → Option Asked → Type 0
+IsAskedBy entered None = (a : Asked) → IsNamed entered a → ⊥
+IsAskedBy entered (Some a) = IsNamed entered a
 
 -- `clap` finds this fault in the words
 abbrev pub HasFault : List Text → ErrorKind → Type 0

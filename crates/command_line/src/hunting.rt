@@ -4,7 +4,7 @@ ghost use Rattle.std.specs.Fmt.{decimal};
 ghost use Rattle.clap.specs.Words.{app_of, found_of, rows_of, rule_of};
 ghost use Rattle.command_line.specs.declared.hunting.Hunting.{Hunting as HuntingValue};
 ghost use Rattle.command_line.specs.declared.seeds.Seeds.{Seeds as SeedsValue};
-ghost use Rattle.command_line.specs.Hunting.{HasHunting, HasSeeds, IsRange, hunt_app, hunting, seeds_rule};
+ghost use Rattle.command_line.specs.Hunting.{HasHunting, HasSeeds, IsRange, hunt_app, hunting, seeds_rule, sown};
 
 use crate::seeds::Seeds;
 use crate::{file, file_of, flag, is_set, number, number_of};
@@ -29,6 +29,8 @@ pub struct Hunting {
     pub workers: u16,
     /// How many seeds have the action is wanted, and not the least of them.
     pub count: bool,
+    /// How many seeds were looked at is told once a second.
+    pub progress: bool,
 }
 
 /// The subcommand `hunt`.
@@ -44,17 +46,17 @@ pub(crate) fn hunt<'a>(alloc: Global) -> Result<Command<'a>, AllocError>
             "ACTION",
             "An action's name, or an action with its arguments",
         ))?;
-    with_hunting(alloc, command)
+    let command = with_seeds(alloc, command)?;
+    with_hunters(alloc, command)
 }
 
-// The options of a hunt.
-fn with_hunting<'a>(alloc: Global, command: Command<'a>) -> Result<Command<'a>, AllocError>
-    ensures { IfOk result (λ c. app_of c ≡ hunting (app_of command.entry)) }
+// The seeds of a hunt, and how turns are drawn from them.
+fn with_seeds<'a>(alloc: Global, command: Command<'a>) -> Result<Command<'a>, AllocError>
+    ensures { IfOk result (λ c. app_of c ≡ sown (app_of command.entry)) }
 {
     let whole = value_parser!(u64);
     let gaps = value_parser!(u64).range(1..65_536);
     let ticks = value_parser!(u64).range(0..4_294_967_297);
-    let workers = value_parser!(u64).range(1..65);
     command
         .arg(range(alloc))?
         .arg(number(
@@ -76,7 +78,15 @@ fn with_hunting<'a>(alloc: Global, command: Command<'a>) -> Result<Command<'a>, 
             "from-zero",
             "Draw gaps from 0 to one less than --gap, and not from 1 to --gap",
         ))?
-        .arg(number(alloc, "ticks", "1000", ticks, "The last tick"))?
+        .arg(number(alloc, "ticks", "1000", ticks, "The last tick"))
+}
+
+// Who hunts, and what is told of it.
+fn with_hunters<'a>(alloc: Global, command: Command<'a>) -> Result<Command<'a>, AllocError>
+    ensures { IfOk result (λ c. app_of c ≡ hunting (app_of command.entry)) }
+{
+    let workers = value_parser!(u64).range(1..65);
+    command
         .arg(number(
             alloc,
             "workers",
@@ -88,6 +98,11 @@ fn with_hunting<'a>(alloc: Global, command: Command<'a>) -> Result<Command<'a>, 
             alloc,
             "count",
             "Write how many seeds have it, in place of the least one",
+        ))?
+        .arg(flag(
+            alloc,
+            "progress",
+            "Tell on standard error once a second how many seeds were looked at",
         ))
 }
 
@@ -121,6 +136,7 @@ pub(crate) fn hunting_of(found: &ArgMatches) -> Option<Hunting>
         ticks,
         workers: workers as u16,
         count: is_set(found, "count"),
+        progress: is_set(found, "progress"),
     })
 }
 

@@ -1,14 +1,13 @@
 //! The command line of `warp`: its subcommands and their options, read by `clap`.
 #![tactic(auto)]
 
-ghost use Rattle.std.specs.Prelude.{◌≡◌, ◌≤◌, ℕ, codes, false, Option, IfOk, IfSome, MatchOption, MatchResult, map, option_map, string_bytes};
+ghost use Rattle.std.specs.Prelude.{◌≡◌, ◌≤◌, ℕ, codes, false, Option, Some, IfOk, IfSome, MatchOption, MatchResult, map, option_map, string_bytes};
 ghost use Rattle.clap.specs.Words.{app_of, first_of, found_of, kind_of, rows_of, rule_of, subcommand_rows_of};
 ghost use Rattle.command_line.specs.Chosen.{or_one};
-ghost use Rattle.command_line.specs.declared.Asked.{Asked as AskedValue};
 ghost use Rattle.command_line.specs.declared.crew.Crew.{Crew as CrewValue};
 ghost use Rattle.command_line.specs.declared.Options.{Options as OptionsValue};
 ghost use Rattle.command_line.specs.Rules.{file_rule, flag_rule, number_rule, option_rule, optional_rule, IsChosen, IsFlag, IsNumber};
-ghost use Rattle.command_line.specs.Words.{bare, version_text, warp, simulating, manned, print_app, reference_app, run_app, check_app, drive_app, explain_app, judging, HasCrew, HasOptions, IsAsked, IsNamed, IsRefused, IsTold};
+ghost use Rattle.command_line.specs.Words.{bare, version_text, warp, simulating, manned, print_app, reference_app, run_app, check_app, drive_app, explain_app, judging, HasCrew, HasOptions, IsAsked, IsAskedBy, IsRefused, IsTold};
 ghost use Rattle.command_line.specs.declared.Refused.TheVariants.{NoMemory};
 
 mod crew;
@@ -403,73 +402,122 @@ fn file<'a>(alloc: Global, name: &'a str, help: &'a str) -> Arg<'a>
 
 // What the subcommand that was entered asks for.
 fn asked_by<'a>(matches: &ArgMatches<'a>) -> Option<Asked<'a>>
-    ensures { MatchOption result ((a : AskedValue) → IsNamed (subcommand_rows_of matches.now) a → ⊥) (IsNamed (subcommand_rows_of matches.now)) }
+    ensures { IsAskedBy (subcommand_rows_of matches.now) result }
 {
     let (name, found) = matches.subcommand()?;
+    let source = file_of(found, "F")?;
     if name == "print" {
-        let source = file_of(found, "F")?;
         return Some(Asked::Print { source });
     }
     if name == "reference" {
-        let source = file_of(found, "F")?;
-        let options = options_of(found)?;
-        return Some(Asked::Reference { source, options });
+        return asked_reference(source, found);
     }
     if name == "run" {
-        let source = file_of(found, "F")?;
-        let options = options_of(found)?;
-        let crew = crew_of(found)?;
-        return Some(Asked::Run {
-            source,
-            options,
-            crew,
-        });
+        return asked_run(source, found);
     }
     if name == "check" {
-        let source = file_of(found, "F")?;
-        let trace = file_of(found, "TRACE")?;
-        return Some(Asked::Check { source, trace });
+        return asked_check(source, found);
     }
     if name == "drive" {
-        let source = file_of(found, "F")?;
-        let steps = file_of(found, "STEPS")?;
-        let options = options_of(found)?;
-        return Some(Asked::Drive {
-            source,
-            steps,
-            options,
-        });
+        return asked_drive(source, found);
     }
     if name == "explain" {
-        let source = file_of(found, "F")?;
-        return Some(Asked::Explain {
-            source,
-            table: file_of(found, "table"),
-            steps: file_of(found, "steps"),
-            actions: file_of(found, "actions"),
-        });
+        return asked_explain(source, found);
     }
     if name == "hunt" {
-        let source = file_of(found, "F")?;
-        let action = file_of(found, "ACTION")?;
-        let hunting = hunting_of(found)?;
-        return Some(Asked::Hunt {
-            source,
-            action,
-            hunting,
-        });
+        return asked_hunt(source, found);
     }
     if name == "draw" {
-        let source = file_of(found, "F")?;
-        let options = options_of(found)?;
-        let ticks = ticks_of(found)?;
-        return Some(Asked::Draw {
-            source,
-            options,
-            ticks,
-        });
+        return asked_draw(source, found);
     }
     None
+}
+
+// What is asked for by `reference`.
+fn asked_reference<'a>(source: &'a str, found: &ArgMatches<'a>) -> Option<Asked<'a>>
+    requires { first_of (codes "F") (rows_of (found_of found.now)) ≡ Some source.now }
+    ensures { IsAskedBy (Some (codes "reference", rows_of (found_of found.now))) result }
+{
+    let options = options_of(found)?;
+    Some(Asked::Reference { source, options })
+}
+
+// What is asked for by `run`.
+fn asked_run<'a>(source: &'a str, found: &ArgMatches<'a>) -> Option<Asked<'a>>
+    requires { first_of (codes "F") (rows_of (found_of found.now)) ≡ Some source.now }
+    ensures { IsAskedBy (Some (codes "run", rows_of (found_of found.now))) result }
+{
+    let options = options_of(found)?;
+    let crew = crew_of(found)?;
+    Some(Asked::Run {
+        source,
+        options,
+        crew,
+    })
+}
+
+// What is asked for by `check`.
+fn asked_check<'a>(source: &'a str, found: &ArgMatches<'a>) -> Option<Asked<'a>>
+    requires { first_of (codes "F") (rows_of (found_of found.now)) ≡ Some source.now }
+    ensures { IsAskedBy (Some (codes "check", rows_of (found_of found.now))) result }
+{
+    let trace = file_of(found, "TRACE")?;
+    Some(Asked::Check { source, trace })
+}
+
+// What is asked for by `drive`.
+fn asked_drive<'a>(source: &'a str, found: &ArgMatches<'a>) -> Option<Asked<'a>>
+    requires { first_of (codes "F") (rows_of (found_of found.now)) ≡ Some source.now }
+    ensures { IsAskedBy (Some (codes "drive", rows_of (found_of found.now))) result }
+{
+    let steps = file_of(found, "STEPS")?;
+    let options = options_of(found)?;
+    Some(Asked::Drive {
+        source,
+        steps,
+        options,
+    })
+}
+
+// What is asked for by `explain`.
+fn asked_explain<'a>(source: &'a str, found: &ArgMatches<'a>) -> Option<Asked<'a>>
+    requires { first_of (codes "F") (rows_of (found_of found.now)) ≡ Some source.now }
+    ensures { IsAskedBy (Some (codes "explain", rows_of (found_of found.now))) result }
+{
+    Some(Asked::Explain {
+        source,
+        table: file_of(found, "table"),
+        steps: file_of(found, "steps"),
+        actions: file_of(found, "actions"),
+    })
+}
+
+// What is asked for by `hunt`.
+fn asked_hunt<'a>(source: &'a str, found: &ArgMatches<'a>) -> Option<Asked<'a>>
+    requires { first_of (codes "F") (rows_of (found_of found.now)) ≡ Some source.now }
+    ensures { IsAskedBy (Some (codes "hunt", rows_of (found_of found.now))) result }
+{
+    let action = file_of(found, "ACTION")?;
+    let hunting = hunting_of(found)?;
+    Some(Asked::Hunt {
+        source,
+        action,
+        hunting,
+    })
+}
+
+// What is asked for by `draw`.
+fn asked_draw<'a>(source: &'a str, found: &ArgMatches<'a>) -> Option<Asked<'a>>
+    requires { first_of (codes "F") (rows_of (found_of found.now)) ≡ Some source.now }
+    ensures { IsAskedBy (Some (codes "draw", rows_of (found_of found.now))) result }
+{
+    let options = options_of(found)?;
+    let ticks = ticks_of(found)?;
+    Some(Asked::Draw {
+        source,
+        options,
+        ticks,
+    })
 }
 
 // The options, each number in its range.

@@ -19,6 +19,7 @@ use crate::report::{Report, report_of};
 use crate::running::run_setup;
 use crate::simulation::{check_plan, simulate_setup};
 use command_line::{Asked, Crew, Options};
+use hunt::Looks;
 use plans::Plan;
 use std::alloc::Global;
 use std::io::Write;
@@ -29,11 +30,12 @@ use trace::{Counted, Form, Lines};
 use workers::Unheld;
 
 /// Does what is asked for.
-pub(crate) fn do_asked<F: Files, W: Write + Drop, R: Threads + Wait + Sync>(
+pub(crate) fn do_asked<F: Files, L: Looks + Sync, W: Write + Drop, R: Threads + Wait + Sync>(
     rt: &R,
     alloc: Global,
     asked: Asked,
     files: &F,
+    looks: &L,
     out: &mut Counted<W>,
 ) -> Report
     ensures report { IsReportOn asked.entry (F.has files.now) (F.lacks files.now) (out.new ≡ out.old) (IsWritten W.contents out.old out.new) (IsStopped W.contents out.old out.new) result }
@@ -72,7 +74,7 @@ pub(crate) fn do_asked<F: Files, W: Write + Drop, R: Threads + Wait + Sync>(
             source,
             action,
             hunting,
-        } => hunt_file(rt, alloc, source, action, hunting, files, out),
+        } => hunt_file(rt, alloc, source, action, hunting, files, looks, out),
         Asked::Draw {
             source,
             options,

@@ -7,39 +7,41 @@ use crate::files::Files;
 use crate::reading::{SOURCE_BYTES, read_front};
 use crate::report::{Report, report_of};
 use command_line::Hunting;
-use hunt::{Course, count, hunt};
+use hunt::{Course, Looks, count, hunt};
 use std::alloc::Global;
 use std::io::Write;
 use std::thread::Threads;
 use trace::Counted;
 
 /// Hunts for an action in the schedules of the composition of a source, or counts the seeds that have it. What is written is the same by any
-/// number of workers. The source is judged first, then the action.
-pub fn hunt_source<W: Write, R: Threads + Sync>(
+/// number of workers. The source is judged first, then the action. `looks` is told of each seed that was looked at.
+pub fn hunt_source<L: Looks + Sync, W: Write, R: Threads + Sync>(
     rt: &R,
     alloc: Global,
     source: &[u8],
     action: &str,
     hunting: Hunting,
+    looks: &L,
     out: &mut Counted<W>,
 ) -> Report
     ensures { IsHuntReport source.now action.now hunting (out.new ≡ out.old)
         (IsWritten W.contents out.old out.new) (IsStopped W.contents out.old out.new) result }
 {
     if hunting.count {
-        count_source(rt, alloc, source, action, hunting, out)
+        count_source(rt, alloc, source, action, hunting, looks, out)
     } else {
-        seek_source(rt, alloc, source, action, hunting, out)
+        seek_source(rt, alloc, source, action, hunting, looks, out)
     }
 }
 
 // Writes the turns of the least seed.
-fn seek_source<W: Write, R: Threads + Sync>(
+fn seek_source<L: Looks + Sync, W: Write, R: Threads + Sync>(
     rt: &R,
     alloc: Global,
     source: &[u8],
     action: &str,
     hunting: Hunting,
+    looks: &L,
     out: &mut Counted<W>,
 ) -> Report
     requires { hunting.count ≡ false }
@@ -63,6 +65,7 @@ fn seek_source<W: Write, R: Threads + Sync>(
         hunting.seeds.first,
         end,
         workers,
+        looks,
         out,
     ) {
         Ok(found) => found_report(found),
@@ -78,12 +81,13 @@ fn found_report(found: bool) -> Report
 }
 
 // Writes how many seeds have the action.
-fn count_source<W: Write, R: Threads + Sync>(
+fn count_source<L: Looks + Sync, W: Write, R: Threads + Sync>(
     rt: &R,
     alloc: Global,
     source: &[u8],
     action: &str,
     hunting: Hunting,
+    looks: &L,
     out: &mut Counted<W>,
 ) -> Report
     requires { hunting.count ≡ true }
@@ -107,6 +111,7 @@ fn count_source<W: Write, R: Threads + Sync>(
         hunting.seeds.first,
         end,
         workers,
+        looks,
         out,
     ) {
         Ok(()) => Report::Done,
@@ -115,13 +120,14 @@ fn count_source<W: Write, R: Threads + Sync>(
 }
 
 // Hunts in the schedules of the source in a file.
-pub(crate) fn hunt_file<F: Files, W: Write, R: Threads + Sync>(
+pub(crate) fn hunt_file<F: Files, L: Looks + Sync, W: Write, R: Threads + Sync>(
     rt: &R,
     alloc: Global,
     name: &str,
     action: &str,
     hunting: Hunting,
     files: &F,
+    looks: &L,
     out: &mut Counted<W>,
 ) -> Report
     ensures { IsHuntFileReport (F.has files.now name.now) (F.lacks files.now name.now) action.now hunting
@@ -129,7 +135,7 @@ pub(crate) fn hunt_file<F: Files, W: Write, R: Threads + Sync>(
         (IsStopped W.contents out.old out.new) result }
 {
     match read_front(alloc, name, SOURCE_BYTES, files) {
-        Ok(source) => hunt_source(rt, alloc, source.as_slice(), action, hunting, out),
+        Ok(source) => hunt_source(rt, alloc, source.as_slice(), action, hunting, looks, out),
         Err(number) => Report::Fault(number),
     }
 }

@@ -21,3 +21,4 @@ mod writing;
 
 pub use files::{FileFault, Files};
 pub use given::GivenTurns;
+pub use hunt::{Looks, Unwatched};

@@ -14,6 +14,7 @@ use crate::report::Report;
 use crate::writing::say;
 use clap::error::Error;
 use command_line::{Refused, read_words, version};
+use hunt::Looks;
 use std::alloc::{AllocError, Global};
 use std::io::Write;
 use std::sync::Wait;
@@ -25,37 +26,39 @@ use trace::{Counted, write_text};
 pub const MOST_BYTES: u64 = 16_777_216;
 
 /// Serves the words after the program's name: what is asked goes to `out`, as help and the version do, and `out` is flushed where all is done;
-/// faults and what is wrong with the words go to `err`, up to the first write that fails there, and the answer is the exit status. It may wait
-/// where `run` is asked for.
+/// faults and what is wrong with the words go to `err`, up to the first write that fails there, and the answer is the exit status. A hunt tells
+/// `looks` of each seed that was looked at. It may wait where `run` is asked for.
 ///
 /// A flush that fails is the fault of a failed write (60). The lines of the steps that `drive` refused, and of what workers did, come after it.
-pub fn serve<F: Files, W: Write + Drop, E: Write, R: Threads + Wait + Sync>(
+pub fn serve<F: Files, L: Looks + Sync, W: Write + Drop, E: Write, R: Threads + Wait + Sync>(
     rt: &R,
     alloc: Global,
     words: &[String],
     files: &F,
+    looks: &L,
     out: &mut Counted<W>,
     err: &mut Counted<E>,
 ) -> u8
     ensures status { (report : Report) × (result ≡ status_of report) × IsFlushedReport (map string_bytes words.now) (F.has files.now) (F.lacks files.now) (out.new ≡ out.old) (IsWritten W.contents out.old out.new) (IsStopped W.contents out.old out.new) report × IsTold E.contents err.old err.new report }
 {
-    let report = answer(rt, alloc, words, files, out, err);
+    let report = answer(rt, alloc, words, files, looks, out, err);
     report.tell(err);
     report.status()
 }
 
-fn answer<F: Files, W: Write + Drop, E: Write, R: Threads + Wait + Sync>(
+fn answer<F: Files, L: Looks + Sync, W: Write + Drop, E: Write, R: Threads + Wait + Sync>(
     rt: &R,
     alloc: Global,
     words: &[String],
     files: &F,
+    looks: &L,
     out: &mut Counted<W>,
     err: &mut Counted<E>,
 ) -> Report
     ensures report { IsFlushedReport (map string_bytes words.now) (F.has files.now) (F.lacks files.now) (out.new ≡ out.old) (IsWritten W.contents out.old out.new) (IsStopped W.contents out.old out.new) result }
     ensures warned { IsWarned E.contents err.old err.new result }
 {
-    let report = answer_words(rt, alloc, words, files, out, err);
+    let report = answer_words(rt, alloc, words, files, looks, out, err);
     flushed(report, out)
 }
 
@@ -82,11 +85,12 @@ fn flushed<W: Write>(report: Report, out: &mut Counted<W>) -> Report
 }
 
 // The report, before the output is flushed.
-fn answer_words<F: Files, W: Write + Drop, E: Write, R: Threads + Wait + Sync>(
+fn answer_words<F: Files, L: Looks + Sync, W: Write + Drop, E: Write, R: Threads + Wait + Sync>(
     rt: &R,
     alloc: Global,
     words: &[String],
     files: &F,
+    looks: &L,
     out: &mut Counted<W>,
     err: &mut Counted<E>,
 ) -> Report
@@ -94,7 +98,7 @@ fn answer_words<F: Files, W: Write + Drop, E: Write, R: Threads + Wait + Sync>(
     ensures warned { IsWarned E.contents err.old err.new result }
 {
     match read_words(alloc, words) {
-        Ok(asked) => do_asked(rt, alloc, asked, files, out),
+        Ok(asked) => do_asked(rt, alloc, asked, files, looks, out),
         Err(refused) => refuse(alloc, &refused, out, err),
     }
 }

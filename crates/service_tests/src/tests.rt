@@ -9,12 +9,13 @@ use service::report::Report;
 use service::running::run_source;
 use service::serve::serve;
 use service::simulation::{check_source, simulate_source};
-use service::{FileFault, Files, GivenTurns};
+use service::{FileFault, Files, GivenTurns, Looks, Unwatched};
 use std::alloc::{AllocError, AllocGlobal, Global};
 use std::io::{self, Write};
 use std::process::Abort;
 use std::str;
 use std::sync::Wait;
+use std::sync::atomic::{AtomicU64, Ordering};
 use std::thread::Threads;
 use trace::{Counted, Form, Lines};
 use workers::Unheld;
@@ -152,7 +153,15 @@ fn is_answered<R: Abort + AllocGlobal + Threads + Wait + Sync>(
     let words = words(rt, all);
     let mut out = Counted::new(Narrow::new(Vec::new(rt.alloc()), room, is_stuck));
     let mut err = Counted::new(Vec::new(rt.alloc()));
-    let ended = serve(rt, rt.alloc(), words.as_slice(), files, &mut out, &mut err);
+    let ended = serve(
+        rt,
+        rt.alloc(),
+        words.as_slice(),
+        files,
+        &Unwatched,
+        &mut out,
+        &mut err,
+    );
     drop(words);
     let (out, err) = (out.into_inner(), err.into_inner());
     let is_right = ended == status
@@ -177,7 +186,7 @@ const CUT: &str = "1 1 0 idle\n2 0 0 pass(1)\n3 1 1 pass(0)\n4 0 1 pass(1)";
 const HEADED: &str = "trace 2\n1 1 0 idle\n2 0 0 pass(1)\n3 1 1 pass(0)\n4 0 1 pass(1)\n";
 
 // Words on the ring and its table: runs, references and prints with little room, help and the version, also where these are cut.
-const SERVED: [Row; 52] = [
+const SERVED: [Row; 54] = [
     (
         "run source --table table --window 1",
         53,
@@ -374,6 +383,20 @@ const SERVED: [Row; 52] = [
         Is("fault 60\n"),
         3,
     ),
+    (
+        "hunt source pass --ticks 0 --progress",
+        5,
+        Is("none\n"),
+        Is(""),
+        4,
+    ),
+    (
+        "hunt source pass --progress --ticks 0 --count",
+        2,
+        Is("0\n"),
+        Is(""),
+        0,
+    ),
     ("hunt source pas", 9999, Is(""), Is("refused 51 at 1\n"), 1),
     ("help", 9999, Has("hunt"), Is(""), 0),
     ("help", 9999, Has("explain"), Is(""), 0),
@@ -399,7 +422,7 @@ const SERVED: [Row; 52] = [
 ];
 
 // Words that are wrong, and a part of what is said then.
-const REFUSED: [(&str, &str); 30] = [
+const REFUSED: [(&str, &str); 31] = [
     ("", "Usage: warp <COMMAND>"),
     ("run", "<F>"),
     ("print", "<F>"),
@@ -430,6 +453,7 @@ const REFUSED: [(&str, &str); 30] = [
     ("hunt a", "<ACTION>"),
     ("hunt a b --seeds 2..1", "FIRST..LAST"),
     ("hunt a b --table t", "--table"),
+    ("check a b --progress", "--progress"),
 ];
 
 #[test]
@@ -445,6 +469,102 @@ fn words_are_served_or_refused(rt: HostRuntime) {
     for (k, (said, part)) in REFUSED.iter().enumerate() {
         let row = (*said, 100, Is(""), Has(part), 2);
         assert!(rt; is_served(&rt, &files, &row), "wrong row {k}");
+    }
+}
+
+// How many seeds were looked at.
+#[derive(Drop)]
+struct Tally {
+    looked: AtomicU64,
+}
+
+impl Looks for Tally {
+    fn looked(&self) {
+        self.looked.fetch_add(1, Ordering::SeqCst);
+    }
+}
+
+// Words of a hunt with what is printed, the exit status, and how many seeds are looked at.
+type Hunted<'a> = (&'a str, Text<'a>, u8, u64);
+
+// No turn comes at tick 0; up to tick 8 component 0 has a turn whatever the seed, and passes.
+const HUNTED: [Hunted; 6] = [
+    (
+        "hunt source pass --ticks 0 --seeds 1..100 --workers 1",
+        Is("none\n"),
+        4,
+        100,
+    ),
+    (
+        "hunt source pass --ticks 0 --seeds 1..100 --workers 3",
+        Is("none\n"),
+        4,
+        100,
+    ),
+    (
+        "hunt source pass --ticks 0 --seeds 5..5 --progress",
+        Is("none\n"),
+        4,
+        1,
+    ),
+    (
+        "hunt source pass --ticks 8 --seeds 7..90 --workers 1",
+        Has("seed 7\n"),
+        0,
+        1,
+    ),
+    (
+        "hunt source pass --ticks 8 --seeds 1..100 --workers 1 --count",
+        Is("100\n"),
+        0,
+        100,
+    ),
+    (
+        "hunt source pass --ticks 8 --seeds 1..100 --workers 3 --count",
+        Is("100\n"),
+        0,
+        100,
+    ),
+];
+
+// Whether a hunt does what its row says.
+fn is_hunted<R: Abort + AllocGlobal + Threads + Wait + Sync>(rt: &R, row: &Hunted) -> bool {
+    let (all, printed, status, seeds) = *row;
+    let files = TextFiles {
+        source: RING.as_bytes(),
+        table: b"",
+        more: b"",
+    };
+    let words = words(rt, all);
+    let tally = Tally {
+        looked: AtomicU64::new(0),
+    };
+    let mut out = Counted::new(Vec::new(rt.alloc()));
+    let mut err = Counted::new(Vec::new(rt.alloc()));
+    let ended = serve(
+        rt,
+        rt.alloc(),
+        words.as_slice(),
+        &files,
+        &tally,
+        &mut out,
+        &mut err,
+    );
+    drop(words);
+    let (out, err) = (out.into_inner(), err.into_inner());
+    let is_right = ended == status
+        && is_wanted(out.as_slice(), printed)
+        && err.is_empty()
+        && tally.looked.load(Ordering::SeqCst) == seeds;
+    drop(out);
+    drop(err);
+    is_right
+}
+
+#[test]
+fn each_seed_that_is_looked_at_is_told(rt: HostRuntime) {
+    for (k, row) in HUNTED.iter().enumerate() {
+        assert!(rt; is_hunted(&rt, row), "hunt {k}");
     }
 }
 
@@ -584,7 +704,15 @@ fn leaves_a_beginning<R: AllocGlobal + Threads + Wait + Sync>(rt: &R, words: &[S
     };
     let mut out = Counted::new(Narrow::new(Vec::new(rt.alloc()), 100, false));
     let mut err = Counted::new(Vec::new(rt.alloc()));
-    let status = serve(rt, rt.alloc(), words, &files, &mut out, &mut err);
+    let status = serve(
+        rt,
+        rt.alloc(),
+        words,
+        &files,
+        &Unwatched,
+        &mut out,
+        &mut err,
+    );
     let (out, err) = (out.into_inner(), err.into_inner());
     let is_all = out.held.as_slice() == TURNS.as_bytes();
     let is_beginning = TURNS.as_bytes().starts_with(out.held.as_slice());

@@ -1,19 +1,21 @@
 //! The program `warp`.
 #![tactic(auto)]
 
+mod looks;
 mod machine;
 mod pace;
+mod progress;
 
+use crate::looks::PacedLooks;
 use crate::machine::{MachineFiles, STANDARD_INPUT};
-use crate::pace::{Pace, Paced};
-use command_line::{Asked, read_words};
+use crate::pace::Paced;
+use crate::progress::progress_of;
 use service::report::Report;
 use service::serve::serve;
 use std::alloc::Global;
 use std::env;
 use std::io::{self, BufWriter, ErrorKind, Write};
 use std::process::ExitCode;
-use std::rt::Clock;
 use trace::{Counted, write_text};
 
 fn main(rt: HostRuntime) -> ExitCode {
@@ -27,7 +29,8 @@ fn main(rt: HostRuntime) -> ExitCode {
         let _ = write_text(b"standard input, `-`, can be named once\n", &mut err);
         return ExitCode::from(Report::Misused.status());
     }
-    let pace = pace_of(&rt, alloc, words.as_slice());
+    let progress = progress_of(alloc, words.as_slice());
+    let pace = progress.pace(&rt);
     let capacity = if pace.is_some() { 1_024 } else { 8_192 };
     let paced = Paced::new(&rt, rt.stdout(), pace);
     let mut out = match BufWriter::with_capacity(alloc, capacity, paced) {
@@ -35,7 +38,16 @@ fn main(rt: HostRuntime) -> ExitCode {
         Err(error) => return refuse(&error, &mut err),
     };
     let files = MachineFiles::new(&rt);
-    ExitCode::from(serve(&rt, alloc, words.as_slice(), &files, &mut out, &mut err))
+    let looks = PacedLooks::new(&rt, progress.seed_count());
+    ExitCode::from(serve(
+        &rt,
+        alloc,
+        words.as_slice(),
+        &files,
+        &looks,
+        &mut out,
+        &mut err,
+    ))
 }
 
 // The words after the program's name.
@@ -68,19 +80,4 @@ fn names_input_twice(words: &[String]) -> bool {
         }
     }
     count > 1
-}
-
-// How fast it goes, where that is to be told.
-fn pace_of<R: Clock>(rt: &R, alloc: Global, words: &[String]) -> Option<Pace> {
-    let options = match read_words(alloc, words).ok()? {
-        Asked::Reference { options, .. } => options,
-        Asked::Run { options, .. } => options,
-        Asked::Drive { options, .. } => options,
-        _ => return None,
-    };
-    if options.progress {
-        Pace::new(rt, options.ticks)
-    } else {
-        None
-    }
 }
