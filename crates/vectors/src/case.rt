@@ -6,7 +6,7 @@ use ioa_check::check;
 use ioa_front::read;
 use serde_json::{Error, Value};
 use service::serve::serve;
-use service::{FileFault, Files};
+use service::{FileFault, Files, Unwatched};
 use std::alloc::{AllocError, Global};
 use std::sync::Wait;
 use std::thread::Threads;
@@ -237,7 +237,7 @@ impl Case {
         let files = CaseFiles { files };
         let mut out = Counted::new(Vec::new(alloc));
         let mut err = Counted::new(Vec::new(alloc));
-        let status = serve(rt, alloc, words, &files, &mut out, &mut err);
+        let status = serve(rt, alloc, words, &files, &Unwatched, &mut out, &mut err);
         let status_is_right = self.number("status") == Some(u64::from(status));
         let out_is_right = self.has_text(alloc, "stdout", out.into_inner().as_slice())?;
         let err_is_right = self.has_text(alloc, "stderr", err.into_inner().as_slice())?;

@@ -1,7 +1,7 @@
 //! Sources by 1 to 8 workers, beside the one-thread simulator.
 use crate::Count;
 use service::serve::serve;
-use service::{FileFault, Files};
+use service::{FileFault, Files, Unwatched};
 use std::alloc::{AllocError, Global};
 use std::sync::Wait;
 use std::thread::Threads;
@@ -50,7 +50,15 @@ fn written<R: Threads + Wait + Sync>(
     let said = owned(alloc, words)?;
     let mut out = Counted::new(Vec::new(alloc));
     let mut err = Counted::new(Vec::new(alloc));
-    let status = serve(rt, alloc, said.as_slice(), &source, &mut out, &mut err);
+    let status = serve(
+        rt,
+        alloc,
+        said.as_slice(),
+        &source,
+        &Unwatched,
+        &mut out,
+        &mut err,
+    );
     let mut text = out.into_inner();
     if status != 0 || !err.into_inner().is_empty() {
         text.clear();

@@ -1,5 +1,7 @@
 //! Lists of steps of worlds, and of calls of an exchange, judged by replies worked out by hand and by the one-thread simulator.
 
+mod accounts;
+mod chunks;
 mod leases;
 mod orderly;
 mod random;
@@ -11,7 +13,7 @@ use crate::lists::leases::{gives_all, replaces_its_lease};
 use crate::lists::orderly::{deliveries, steps_in_order};
 use crate::lists::random::random_steps;
 use crate::lists::rows::try_rows;
-use crate::lists::subject::{CROWD, FAN, RING, Subject, turns_after, with_seed};
+use crate::lists::subject::{CROWD, Composed, FAN, FUNNEL, RING, Subject, turns_after, with_seed};
 use anyhow::Result;
 use rand_pcg::Lcg64Xsh32;
 use reference::schedule;
@@ -20,18 +22,22 @@ use std::sync::Arc;
 use task_seed::{AnyTurns, Setup};
 use world::{Step, World};
 
-/// Drives the worlds of the rows; then, for each of three small compositions, worlds and exchanges by random lists, a thousand each in all, a
-/// world by the list in order, and an exchange that meets a lease of another.
+// How many random lists of steps there are for each composition.
+const LISTS: u64 = 250;
+
+/// Drives the worlds of the rows; then, for each of four small compositions, worlds by 250 random lists of steps, exchanges by 310 or 315 random
+/// lists of calls, a world by the list in order, and an exchange that meets a lease of another.
 pub fn try_lists(alloc: Global, count: &mut Count) -> Result<()> {
     try_rows(alloc, count)?;
-    try_source(alloc, RING, 334, count)?;
-    try_source(alloc, FAN, 333, count)?;
-    try_source(alloc, CROWD, 333, count)
+    try_composed(alloc, RING, 310, count)?;
+    try_composed(alloc, FAN, 310, count)?;
+    try_composed(alloc, CROWD, 315, count)?;
+    try_composed(alloc, FUNNEL, 315, count)
 }
 
-fn try_source(alloc: Global, source: &str, lists: u64, count: &mut Count) -> Result<()> {
-    let setup = with_seed(alloc, source)?;
-    let tried = try_setup(alloc, &setup, lists, count);
+fn try_composed(alloc: Global, composed: Composed, calls: u64, count: &mut Count) -> Result<()> {
+    let setup = with_seed(alloc, composed.source)?;
+    let tried = try_setup(alloc, &setup, composed.lines, calls, count);
     drop(setup);
     tried
 }
@@ -39,7 +45,8 @@ fn try_source(alloc: Global, source: &str, lists: u64, count: &mut Count) -> Res
 fn try_setup(
     alloc: Global,
     setup: &Arc<Setup<AnyTurns>>,
-    lists: u64,
+    lines: &str,
+    calls: u64,
     count: &mut Count,
 ) -> Result<()> {
     let turns = schedule(alloc, setup)?;
@@ -50,22 +57,38 @@ fn try_setup(
         turns: turns.as_slice(),
         order: order.as_slice(),
         messages: messages.as_slice(),
+        lines,
     };
-    try_subject(alloc, subject, lists, count)
+    try_steps(alloc, subject, count)?;
+    try_calls(alloc, subject, calls, count)?;
+    count.add(replaces_its_lease(alloc, subject.setup)?);
+    Ok(())
 }
 
 // The random lists must have committed a turn each in the mean, so that they aren't refused throughout.
-fn try_subject(alloc: Global, subject: Subject, lists: u64, count: &mut Count) -> Result<()> {
+fn try_steps(alloc: Global, subject: Subject, count: &mut Count) -> Result<()> {
     let mut committed = 0u64;
-    for number in 0..lists {
-        let mut random = Lcg64Xsh32::new(number, lists);
+    for number in 0..LISTS {
+        let mut random = Lcg64Xsh32::new(number, LISTS);
         let turns = committed_at_random(alloc, subject, &mut random)?;
         count.add(turns.is_some());
         committed = committed.saturating_add(turns.unwrap_or(0) as u64);
-        count.add(gives_all(alloc, subject, &mut random)?);
     }
-    count.add(committed >= lists && commits_all(alloc, subject)?);
-    count.add(replaces_its_lease(alloc, subject.setup)?);
+    count.add(committed >= LISTS && commits_all(alloc, subject)?);
+    Ok(())
+}
+
+// Each fifth list has no window, and the others one of 1 to 4 turns. Windows must have been full after a call of each list in the mean, so that
+// they bind.
+fn try_calls(alloc: Global, subject: Subject, calls: u64, count: &mut Count) -> Result<()> {
+    let mut full = 0u64;
+    for number in 0..calls {
+        let mut random = Lcg64Xsh32::new(number, calls);
+        let found = gives_all(alloc, subject, (number % 5) as u32, &mut random)?;
+        count.add(found.is_some());
+        full = full.saturating_add(found.unwrap_or(0));
+    }
+    count.add(full >= calls);
     Ok(())
 }
 

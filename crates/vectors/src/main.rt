@@ -9,8 +9,10 @@
 //!
 //! A file whose name ends with `.ioa` is a source, which is run by 1 to 8 workers and has to come out as by one thread, 200 runs of all sources.
 //!
-//! The word `lists` names no file: worlds are driven by twelve lists of steps whose replies are known, and worlds and exchanges of three small
-//! compositions by a thousand random lists each, whose committed turns are compared with those of the one-thread simulator.
+//! The word `lists` names no file: worlds are driven by twelve lists of steps whose replies are known; worlds of four small compositions by a
+//! thousand random lists of steps, whose committed turns are compared with those of the one-thread simulator; and their exchanges by 1,250 random
+//! lists of calls, a thousand of them with windows, whose turns are compared with those of two simulators, and what is done and waits with the
+//! window's bounds.
 #![tactic(auto)]
 
 mod case;

@@ -1,8 +1,9 @@
-//! Random lists of calls of an exchange and its leases, judged by the one-thread simulator.
+//! Random lists of calls of an exchange and its leases, judged by what two simulators on one thread do.
 
-use crate::lists::subject::{Subject, turns_after};
+use crate::lists::accounts::Accounts;
+use crate::lists::chunks::Chunks;
+use crate::lists::subject::Subject;
 use anyhow::Result;
-use event_keys::Turned;
 use exchange::{Exchange, Lease, MeetRefused};
 use rand_core::Rng;
 use rand_pcg::Lcg64Xsh32;
@@ -13,37 +14,58 @@ use task_seed::{AnyTurns, Setup};
 // Enough for all turns of a subject, of which the first that isn't committed is done and committed in two rounds.
 const ROUNDS: u32 = 10_000;
 
-/// The turns that chunks have to give, and how many of them they gave; `None` where they gave others.
+/// A call of the exchange, or of the lease at a place.
 #[derive(Clone, Copy)]
-struct Chunks<'a> {
-    turns: &'a [Turned],
-    given: Option<usize>,
+enum Call {
+    Commit,
+    TakeChunk,
+    Settle(usize),
+    Meet(usize),
+    RunAhead(usize, u32),
 }
 
-impl<'a> Chunks<'a> {
-    fn take(&mut self, exchange: &mut Exchange<AnyTurns>) {
-        let chunk = exchange.take_chunk();
-        if let Some(given) = self.given {
-            self.given = turns_after(self.turns, given, &chunk.turns);
-        }
-        drop(chunk);
-    }
+/// What comes of calls, beside what has to come of them.
+#[derive(Drop)]
+struct Watched<'a> {
+    chunks: Chunks<'a>,
+    accounts: Accounts<'a>,
 }
 
-/// Whether the chunks that an exchange gives are the simulator's turns, after a random list of calls and then round after round until all is
-/// given; and no lease has more done at any time than the window allows, of 1 to 4 turns or none.
-pub fn gives_all(alloc: Global, subject: Subject, random: &mut Lcg64Xsh32) -> Result<bool> {
-    let (mut exchange, mut leases) = start(alloc, subject, random.next_u32() % 5)?;
-    let are_given = are_given(
-        alloc,
-        subject.turns,
-        &mut exchange,
-        leases.as_mut_slice(),
-        random,
-    );
+/// How often a lease had as many turns done as its window of so many turns allows, 0 standing for no window; where the chunks that an exchange gives
+/// are the simulators' turns, after a random list of calls and then round after round until all is given, and after each call the accounts agree
+/// with what is told, and the window bounds them.
+pub fn gives_all(
+    alloc: Global,
+    subject: Subject,
+    window: u32,
+    random: &mut Lcg64Xsh32,
+) -> Result<Option<u64>> {
+    let mut watched = Watched {
+        chunks: Chunks::none(subject),
+        accounts: Accounts::new(alloc, subject, window)?,
+    };
+    let finished = has_finished(alloc, subject, window, &mut watched, random);
+    let are_all = watched.chunks.are_all();
+    let full = watched.accounts.balance();
+    drop(watched);
+    Ok(if finished? && are_all { full } else { None })
+}
+
+// Whether the exchange has finished after all calls.
+fn has_finished(
+    alloc: Global,
+    subject: Subject,
+    window: u32,
+    watched: &mut Watched,
+    random: &mut Lcg64Xsh32,
+) -> Result<bool> {
+    let (mut exchange, mut leases) = start(alloc, subject, window)?;
+    let called = call_all(alloc, &mut exchange, leases.as_mut_slice(), watched, random);
+    let finished = exchange.finished();
     drop(exchange);
     drop(leases);
-    are_given
+    called?;
+    Ok(finished)
 }
 
 // An exchange and its leases at the start, with a window of so many turns, or with none.
@@ -59,84 +81,75 @@ fn start(
     Ok(Exchange::with_window(alloc, setup, window.min(65_535))?)
 }
 
-// Whether no lease has more entries done than its window allows: own turns, and as many inputs of each other component.
-fn are_within(exchange: &Exchange<AnyTurns>, leases: &[Lease<AnyTurns>]) -> bool {
-    let Some(window) = exchange.window() else {
-        return true;
-    };
-    let most = (window.turns() as usize).saturating_mul(leases.len());
-    leases.iter().all(|lease| lease.depth() <= most)
-}
-
-fn are_given(
+// Calls at random; then each lease delivers its tray, runs ahead and meets, until all is committed and given.
+fn call_all(
     alloc: Global,
-    turns: &[Turned],
     exchange: &mut Exchange<AnyTurns>,
     leases: &mut [Lease<AnyTurns>],
+    watched: &mut Watched,
     random: &mut Lcg64Xsh32,
-) -> Result<bool> {
-    let mut chunks = Chunks {
-        turns,
-        given: Some(0),
-    };
+) -> Result<()> {
     for _ in 0..random.next_u32() % 200 {
-        call(alloc, exchange, leases, &mut chunks, random)?;
-        if !are_within(exchange, leases) {
-            return Ok(false);
-        }
+        let drawn = draw(leases.len(), random);
+        make(alloc, exchange, leases, watched, drawn)?;
     }
-    finish(alloc, exchange, leases, &mut chunks)?;
-    Ok(exchange.finished() && chunks.given == Some(turns.len()))
-}
-
-// One call, of a lease that may have been away for long.
-fn call(
-    alloc: Global,
-    exchange: &mut Exchange<AnyTurns>,
-    leases: &mut [Lease<AnyTurns>],
-    chunks: &mut Chunks,
-    random: &mut Lcg64Xsh32,
-) -> Result<()> {
-    let place = random.next_u32() as usize % leases.len().max(1);
-    match (random.next_u32() % 8, leases.get_mut(place)) {
-        (0, _) => {
-            exchange.commit();
-        }
-        (1, _) => chunks.take(exchange),
-        (2 | 3, Some(lease)) => {
-            lease.settle();
-        }
-        (4 | 5, Some(lease)) => {
-            exchange.meet(lease)?;
-        }
-        (_, Some(lease)) => {
-            lease.run_ahead(alloc, random.next_u32() % 5)?;
-        }
-        (_, None) => {}
-    }
-    Ok(())
-}
-
-// Each lease delivers its tray, runs ahead and meets, until all is committed and given.
-fn finish(
-    alloc: Global,
-    exchange: &mut Exchange<AnyTurns>,
-    leases: &mut [Lease<AnyTurns>],
-    chunks: &mut Chunks,
-) -> Result<()> {
     for _ in 0..ROUNDS {
         if exchange.finished() {
             break;
         }
-        for lease in leases.iter_mut() {
-            lease.settle();
-            lease.run_ahead(alloc, 3)?;
-            exchange.meet(lease)?;
+        for place in 0..leases.len() {
+            make(alloc, exchange, leases, watched, Call::Settle(place))?;
+            make(alloc, exchange, leases, watched, Call::RunAhead(place, 3))?;
+            make(alloc, exchange, leases, watched, Call::Meet(place))?;
         }
-        exchange.commit();
-        chunks.take(exchange);
+        make(alloc, exchange, leases, watched, Call::Commit)?;
+        make(alloc, exchange, leases, watched, Call::TakeChunk)?;
     }
-    chunks.take(exchange);
+    make(alloc, exchange, leases, watched, Call::TakeChunk)
+}
+
+// A call, maybe of a lease that has been away for long.
+fn draw(leases: usize, random: &mut Lcg64Xsh32) -> Call {
+    let place = random.next_u32() as usize % leases.max(1);
+    match random.next_u32() % 8 {
+        0 => Call::Commit,
+        1 => Call::TakeChunk,
+        2 | 3 => Call::Settle(place),
+        4 | 5 => Call::Meet(place),
+        _ => Call::RunAhead(place, random.next_u32() % 5),
+    }
+}
+
+// Makes a call, and looks at what came of it.
+fn make(
+    alloc: Global,
+    exchange: &mut Exchange<AnyTurns>,
+    leases: &mut [Lease<AnyTurns>],
+    watched: &mut Watched,
+    call: Call,
+) -> Result<()> {
+    match call {
+        Call::Commit => {
+            exchange.commit();
+        }
+        Call::TakeChunk => watched.chunks.take(alloc, exchange)?,
+        Call::Settle(place) => {
+            if let Some(lease) = leases.get_mut(place) {
+                watched.accounts.settle(lease);
+            }
+        }
+        Call::Meet(place) => {
+            if let Some(lease) = leases.get_mut(place) {
+                watched.accounts.meet(exchange, lease)?;
+            }
+        }
+        Call::RunAhead(place, budget) => {
+            if let Some(lease) = leases.get_mut(place) {
+                lease.run_ahead(alloc, budget)?;
+            }
+        }
+    }
+    watched.accounts.look(exchange, leases);
     Ok(())
 }
 

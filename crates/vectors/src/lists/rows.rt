@@ -38,7 +38,7 @@ enum Given {
 impl Given {
     fn source(self) -> &'static str {
         match self {
-            Given::Ring => RING,
+            Given::Ring => RING.source,
             Given::Fan => TWO_LISTENERS,
             Given::Counter => COUNTER,
         }
