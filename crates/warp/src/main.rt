@@ -31,7 +31,7 @@ fn main(rt: HostRuntime) -> ExitCode {
     }
     let progress = progress_of(alloc, words.as_slice());
     let pace = progress.pace(&rt);
-    let capacity = if pace.is_some() { 1_024 } else { 8_192 };
+    let capacity = if pace.is_some() { 1_024 } else { 32_768 };
     let paced = Paced::new(&rt, rt.stdout(), pace);
     let mut out = match BufWriter::with_capacity(alloc, capacity, paced) {
         Ok(out) => Counted::new(out),
