@@ -3,7 +3,7 @@
 set -eu
 cd "$(dirname "${BASH_SOURCE[0]}")/.."
 program=${1:-./warp}
-seeds=${2:-2000}
+seeds=${2:-6000}
 for load in "broken-lock.ioa got(7,false)" "lcr.ioa leader(3)" "peterson.ioa crit(7)"; do
     source=${load%% *}
     action=${load#* }
