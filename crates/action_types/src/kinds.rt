@@ -12,7 +12,8 @@ use ioa_typing::kind::is_same;
 
 // The type of a parameter.
 fn kind_of<'a>(formals: &'a [Kind], slot: &'a Slot) -> Option<&'a Kind>
-    ensures { option_map (λ k. kind_tree k.now) result ≡ slot_kind (map (λ k. option_tree (Some k)) formals.now) (slot_tree (Some slot.now)) }
+    ensures { option_map (λ k. kind_tree k.now) result
+        ≡ slot_kind (map (λ k. option_tree (Some k)) formals.now) (slot_tree (Some slot.now)) }
 {
     match slot {
         Slot::Fixed(number) => formals.get(*number),
@@ -21,7 +22,8 @@ fn kind_of<'a>(formals: &'a [Kind], slot: &'a Slot) -> Option<&'a Kind>
 }
 
 fn is_same_kind(a: Option<&Kind>, b: Option<&Kind>) -> bool
-    ensures { result ≡ same_kind (option_map (λ k. kind_tree k.now) a.entry) (option_map (λ k. kind_tree k.now) b.entry) }
+    ensures { result ≡ same_kind (option_map (λ k. kind_tree k.now) a.entry)
+        (option_map (λ k. kind_tree k.now) b.entry) }
 {
     match a {
         Some(a) => match b {

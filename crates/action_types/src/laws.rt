@@ -6,5 +6,6 @@ ghost use Rattle.action_types.specs.Types.{TypesDiffer, IsFirst};
 
 /// The first entry with other types than the first of its name stands in the first component with which types differ.
 pub fn first_law()
-    ensures { (m : MeantSource) → IsFirst (TypesDiffer m) (first_different [] (stands m.automata 0 m.components)) }
+    ensures { (m : MeantSource)
+        → IsFirst (TypesDiffer m) (first_different [] (stands m.automata 0 m.components)) }
 {}

@@ -10,7 +10,8 @@ use terms::NoMemory;
 
 /// Whether an entry has other types than the first of its name.
 pub(crate) fn differs(seen: &IndexMap<String, Standing>, standing: &Standing) -> bool
-    ensures { result ≡ differs (kept (stood standing.now).name seen.now.entries) (stood standing.now) }
+    ensures { result ≡ differs (kept (stood standing.now).name seen.now.entries)
+        (stood standing.now) }
 {
     match seen.get(standing.entry.name.as_str()) {
         Some(first) => !are_same(first, standing),
@@ -23,7 +24,8 @@ pub(crate) fn keep<'a>(
     seen: &mut IndexMap<String, Standing<'a>>,
     standing: Standing<'a>,
 ) -> Result<(), NoMemory>
-    ensures { OnOk result ((q : Bytes) → kept q seen.new.entries ≡ or_this (kept q seen.old.entries) q (stood standing.entry)) }
+    ensures { OnOk result ((q : Bytes)
+        → kept q seen.new.entries ≡ or_this (kept q seen.old.entries) q (stood standing.entry)) }
 {
     let name = &standing.entry.name;
     if !seen.contains_key(name.as_str()) {

@@ -19,7 +19,8 @@ pub(crate) struct Standing<'a> {
 
 // The automaton of a component.
 fn automaton_of<'a>(automata: &'a [Automaton], component: &Component) -> Option<&'a Automaton>
-    ensures { option_map (λ a. automaton_meaning a.now) result ≡ automaton_of (map automaton_meaning automata.now) component.now.automaton }
+    ensures { option_map (λ a. automaton_meaning a.now) result
+        ≡ automaton_of (map automaton_meaning automata.now) component.now.automaton }
 {
     match component.automaton {
         Some(number) => automata.get(number),
@@ -32,7 +33,8 @@ fn add_standings<'a>(
     component: usize,
     automaton: &'a Automaton,
 ) -> Result<(), NoMemory>
-    ensures { OnOk result (map stood standings.new.items ≡ map stood standings.old.items ++ entries_in component (Some (automaton_meaning automaton.now))) }
+    ensures { OnOk result (map stood standings.new.items ≡ map stood standings.old.items
+        ++ entries_in component (Some (automaton_meaning automaton.now))) }
 {
     let formals = automaton.formals.as_slice();
     for entry in &automaton.transitions {
@@ -51,7 +53,8 @@ pub(crate) fn standings<'a>(
     automata: &'a [Automaton],
     components: &'a [Component],
 ) -> Result<Vec<Standing<'a>>, NoMemory>
-    ensures { IfOk result (λ all. map stood all.items ≡ stands (map automaton_meaning automata.now) 0 (map component_meaning components.now)) }
+    ensures { IfOk result (λ all. map stood all.items
+        ≡ stands (map automaton_meaning automata.now) 0 (map component_meaning components.now)) }
 {
     let mut all = Vec::new(alloc);
     for (number, component) in components.iter().enumerate() {

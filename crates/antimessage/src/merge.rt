@@ -21,8 +21,10 @@ fn next_is_at_most(events: &EventList<Signed>, signed: &Signed) -> bool
 
 // Puts a cell in its place after the cursor, and the cursor behind it. What is passed isn't greater.
 fn put(events: &mut EventList<Signed>, cell: EventCell<Signed>)
-    ensures placed { reverse events.new.before ++ events.new.after ≡ reverse events.old.before ++ insert cell events.old.after }
-    ensures passed { Each (λ s. is_gt (signed_cmp s cell) ≡ false) events.old.before → Each (λ s. is_gt (signed_cmp s cell) ≡ false) events.new.before }
+    ensures placed { reverse events.new.before ++ events.new.after ≡ reverse events.old.before
+        ++ insert cell events.old.after }
+    ensures passed { Each (λ s. is_gt (signed_cmp s cell) ≡ false) events.old.before
+        → Each (λ s. is_gt (signed_cmp s cell) ≡ false) events.new.before }
 {
     while next_is_at_most(events, cell.value()) {
         events.pass_next();
@@ -35,7 +37,8 @@ pub(crate) fn append(events: &mut EventList<Signed>, other: &mut EventList<Signe
     requires front { events.old.before ≡ [] }
     requires other_front { other.old.before ≡ [] }
     requires other_order { IsSorted other.old.after }
-    ensures all { events.new ≡ record { before = []; after = insert_all other.old.after events.old.after } }
+    ensures all { events.new
+        ≡ record { before = []; after = insert_all other.old.after events.old.after } }
     ensures empty { other.new ≡ record { before = []; after = [] } }
 {
     while let Some(cell) = walks::take_next(other) {

@@ -20,7 +20,10 @@ pub(crate) fn take_next(events: &mut EventList<Signed>) -> Option<EventCell<Sign
 }
 
 pub(crate) fn rewind(events: &mut EventList<Signed>)
-    ensures { events.new ≡ record { before = []; after = reverse events.old.before ++ events.old.after } }
+    ensures { events.new ≡ record {
+      before = [];
+      after = reverse events.old.before ++ events.old.after;
+    } }
 {
     if events.peek_last().is_none() {
         return;
@@ -33,7 +36,9 @@ pub(crate) fn rewind(events: &mut EventList<Signed>)
 // Takes the first after the cursor that is sent to that component.
 pub(crate) fn take_to(events: &mut EventList<Signed>, to: u16) -> Option<EventCell<Signed>>
     ensures taken { result ≡ first_where (is_to to) events.old.after }
-    ensures rest { events.new ≡ record events.old { after = without_where (is_to to) events.old.after } }
+    ensures rest { events.new ≡ record events.old {
+      after = without_where (is_to to) events.old.after;
+    } }
 {
     events.take_where(|next| next.message.to == to)
 }
@@ -44,8 +49,12 @@ fn take_one(
     message: &Message,
     sign: Sign,
 ) -> Option<EventCell<Signed>>
-    ensures taken { result ≡ first_where (is_one (record { message = message.now; sign = sign })) events.old.after }
-    ensures rest { events.new ≡ record events.old { after = without_where (is_one (record { message = message.now; sign = sign })) events.old.after } }
+    ensures taken { result ≡ first_where
+        (is_one (record { message = message.now; sign = sign })) events.old.after }
+    ensures rest { events.new ≡ record events.old {
+      after = without_where
+          (is_one (record { message = message.now; sign = sign })) events.old.after;
+    } }
 {
     events.take_where(|next| next.message == *message && next.sign == sign)
 }
@@ -127,7 +136,10 @@ pub(crate) fn cancel(events: &mut EventList<Signed>, others: Iter<'_, Signed>)
 pub(crate) fn split_to(events: &mut EventList<Signed>, to: u16) -> EventList<Signed>
     requires { events.old.before ≡ [] }
     ensures taken { result ≡ record { before = []; after = filter (is_to to) events.old.after } }
-    ensures rest { events.new ≡ record { before = []; after = filter (λ s. not (is_to to s)) events.old.after } }
+    ensures rest { events.new ≡ record {
+      before = [];
+      after = filter (λ s. not (is_to to s)) events.old.after;
+    } }
 {
     let mut taken = EventList::new();
     while let Some(cell) = take_next(events) {

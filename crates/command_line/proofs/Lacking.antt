@@ -1,6 +1,8 @@
 -- What was entered without one of its parts asks for nothing.
-use Rattle.std.proofs.Common.{◌≡◌, ◌*◌, ◌+◌, ℕ, Option, Some, None, List, [], false, ap, codes, eqb, get_or, length, refl, subst, sym}
+use Rattle.std.proofs.Common.{◌≡◌, ◌≢◌, ◌∙◌, ◌*◌, ◌+◌, ℕ, Option, Some, None, List, [], false, ap, codes, eqb, get_or, length, refl, subst, sym}
+use Rattle.std.specs.Prelude.{option_map}
 use Rattle.std.proofs.lemmas.Bool.{eqb-false}
+use Rattle.std.proofs.lemmas.Option.{none-some, same_Some}
 use Rattle.clap.specs.Words.{Row, Text, first_of}
 use Rattle.command_line.specs.declared.Asked.{Asked}
 use Rattle.command_line.specs.declared.Asked.TheVariants.{Print, Reference, Run, Check, Drive, Explain, Hunt, Draw}
@@ -139,3 +141,83 @@ without_draw rows none (Draw source options ticks) named =
 pub asks_nothing : (entered : Entered) (r : Option Asked) → r ≡ None → ((a : Asked) → IsNamed entered a → ⊥)
     → IsAskedBy entered r
 asks_nothing entered r is none = subst (IsAskedBy entered) (sym is) none
+
+given_nothing : (rows other : List Row) (source : Text) → rows ≡ other → first_of (codes "F") rows ≡ None
+    → first_of (codes "F") other ≡ Some source → ⊥
+given_nothing rows other source is lacking given =
+    none-some source (sym lacking ∙ ap (first_of (codes "F")) is ∙ given)
+
+-- the file that every subcommand has
+pub without_file : (name : Text) (rows : List Row) → first_of (codes "F") rows ≡ None → (a : Asked)
+    → IsNamed (Some (name, rows)) a → ⊥
+without_file name rows lacking (Print source) named =
+    given_nothing rows named.rows source.now (ap rows_in named.is) lacking named.given
+without_file name rows lacking (Reference source options) named =
+    given_nothing rows named.rows source.now (ap rows_in named.is) lacking named.given
+without_file name rows lacking (Run source options crew) named =
+    given_nothing rows named.rows source.now (ap rows_in named.is) lacking named.given
+without_file name rows lacking (Check source trace) named =
+    given_nothing rows named.rows source.now (ap rows_in named.is) lacking named.first_given
+without_file name rows lacking (Drive source steps options) named =
+    given_nothing rows named.rows source.now (ap rows_in named.is) lacking named.source_given
+without_file name rows lacking (Explain source table steps actions) named =
+    given_nothing rows named.rows source.now (ap rows_in named.is) lacking named.given
+without_file name rows lacking (Hunt source action hunting) named =
+    given_nothing rows named.rows source.now (ap rows_in named.is) lacking named.source_given
+without_file name rows lacking (Draw source options ticks) named =
+    given_nothing rows named.rows source.now (ap rows_in named.is) lacking named.given
+
+entered_something : (name : Text) (rows : List Row) → ◌≡◌ {A = Entered} None (Some (name, rows)) → ⊥
+entered_something name rows is = none-some (name, rows) is
+
+-- a subcommand
+pub without_subcommand : (a : Asked) → IsNamed None a → ⊥
+without_subcommand (Print source) named = entered_something (codes "print") named.rows named.is
+without_subcommand (Reference source options) named =
+    entered_something (codes "reference") named.rows named.is
+without_subcommand (Run source options crew) named = entered_something (codes "run") named.rows named.is
+without_subcommand (Check source trace) named = entered_something (codes "check") named.rows named.is
+without_subcommand (Drive source steps options) named =
+    entered_something (codes "drive") named.rows named.is
+without_subcommand (Explain source table steps actions) named =
+    entered_something (codes "explain") named.rows named.is
+without_subcommand (Hunt source action hunting) named =
+    entered_something (codes "hunt") named.rows named.is
+without_subcommand (Draw source options ticks) named =
+    entered_something (codes "draw") named.rows named.is
+
+-- a subcommand that there is
+pub without_name : (name : Text) (rows : List Row) → name ≢ codes "print" → name ≢ codes "reference"
+    → name ≢ codes "run" → name ≢ codes "check" → name ≢ codes "drive" → name ≢ codes "explain"
+    → name ≢ codes "hunt" → name ≢ codes "draw" → (a : Asked) → IsNamed (Some (name, rows)) a → ⊥
+without_name name rows p r n c d e h w (Print source) named = p (ap name_in named.is)
+without_name name rows p r n c d e h w (Reference source options) named = r (ap name_in named.is)
+without_name name rows p r n c d e h w (Run source options crew) named = n (ap name_in named.is)
+without_name name rows p r n c d e h w (Check source trace) named = c (ap name_in named.is)
+without_name name rows p r n c d e h w (Drive source steps options) named = d (ap name_in named.is)
+without_name name rows p r n c d e h w (Explain source table steps actions) named = e (ap name_in named.is)
+without_name name rows p r n c d e h w (Hunt source action hunting) named = h (ap name_in named.is)
+without_name name rows p r n c d e h w (Draw source options ticks) named = w (ap name_in named.is)
+
+-- what is asked for by a name is asked for by what is equal to it
+pub named_so : (own name : Text) (rows : List Row) (r : Option Asked) → name ≡ own → IsAskedBy (Some (own, rows)) r
+    → IsAskedBy (Some (name, rows)) r
+named_so own name rows r is asked = subst (λ (t : Text). IsAskedBy (Some (t, rows)) r) (sym is) asked
+
+-- what was entered, by its name and its rows
+pub entered_is : {X : Type 0} (entered : Option X) (name_of : X → Text) (rows_by : X → List Row) (name : Text) (rows : List Row)
+    → Some name ≡ option_map name_of entered
+    → Some rows ≡ option_map {T = Text × List Row} (λ p. p.1) (option_map {U = Text × List Row} (λ x. (name_of x, rows_by x)) entered)
+    → option_map {U = Text × List Row} (λ x. (name_of x, rows_by x)) entered ≡ Some (name, rows)
+entered_is None name_of rows_by name rows named given = absurd (none-some name (sym named))
+entered_is (Some x) name_of rows_by name rows named given =
+    let own : name_of x ≡ name = sym (same_Some name (name_of x) named) in
+    let its : rows_by x ≡ rows = sym (same_Some rows (rows_by x) given) in
+    λ i. Some (own i, its i)
+
+-- nothing was entered
+pub nothing_entered : {X : Type 0} (entered : Option X) (name_of : X → Text) (rows_by : X → List Row)
+    → None ≡ option_map name_of entered
+    → option_map {U = Text × List Row} (λ x. (name_of x, rows_by x)) entered ≡ None
+nothing_entered None name_of rows_by named = refl
+nothing_entered (Some x) name_of rows_by named = absurd (none-some (name_of x) named)

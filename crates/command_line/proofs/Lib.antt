@@ -3,3 +3,4 @@ mod Numbers
 mod Locals
 mod Ranges
 mod Lacking
+mod Grown

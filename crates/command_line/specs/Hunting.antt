@@ -5,7 +5,7 @@ use Rattle.clap.specs.Words.{App, Row, Rule, Text, first_of, new_rule, with_rule
 use Rattle.clap.specs.declared.builder.value_parser.ValueParser.TheVariants.{Unsigned}
 use Rattle.command_line.specs.declared.hunting.Hunting.{Hunting}
 use Rattle.command_line.specs.declared.seeds.Seeds.{Seeds}
-use Rattle.command_line.specs.Rules.{IsFlag, IsNumber, file_rule, flag_rule, number_rule, of_file, whole}
+use Rattle.command_line.specs.Rules.{IsFlag, IsNumber, drawn, file_rule, flag_rule, number_rule, of_file}
 
 -- a range of seeds, with its default
 abbrev pub seeds_rule : Rule
@@ -17,13 +17,7 @@ seeds_rule = record (new_rule (codes "seeds")) {
 
 -- a subcommand that draws turns from a range of seeds
 abbrev pub sown : App → App
-sown app =
-    with_rule (with_rule (with_rule (with_rule (with_rule app
-    seeds_rule)
-    (number_rule (codes "stream") (codes "0") whole))
-    (number_rule (codes "gap") (codes "8") (Unsigned 1 65535)))
-    (flag_rule (codes "from-zero")))
-    (number_rule (codes "ticks") (codes "1000") (Unsigned 0 4294967296))
+sown app = drawn (with_rule app seeds_rule)
 
 -- a subcommand that hunts
 abbrev pub hunting : App → App

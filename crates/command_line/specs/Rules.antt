@@ -14,24 +14,37 @@ file_rule name = record (new_rule name) { required = true }
 abbrev pub of_file : Text → Text → App
 of_file name file = with_rule (new_app name) (file_rule file)
 
+-- what is entered by its name behind two dashes
+abbrev pub long_rule : Text → Rule
+long_rule name = record (new_rule name) { long = Some name }
+
 -- a number with a default
 abbrev pub number_rule : Text → Text → ValueParser → Rule
-number_rule name default parser = record (new_rule name) { long = Some name; defaults = default ∷ []; parser = Some parser }
+number_rule name default parser = record (long_rule name) { defaults = default ∷ []; parser = Some parser }
 
 -- a number that may be left out
 abbrev pub optional_rule : Text → ValueParser → Rule
-optional_rule name parser = record (new_rule name) { long = Some name; parser = Some parser }
+optional_rule name parser = record (long_rule name) { parser = Some parser }
 
 -- an option that names a file
 abbrev pub option_rule : Text → Rule
-option_rule name = record (new_rule name) { long = Some name; value_names = 1 }
+option_rule name = record (long_rule name) { value_names = 1 }
 
 -- what is asked for by its name alone
 abbrev pub flag_rule : Text → Rule
-flag_rule name = record (new_rule name) { long = Some name; action = Some SetTrue }
+flag_rule name = record (long_rule name) { action = Some SetTrue }
 
 abbrev pub whole : ValueParser
 whole = Unsigned 0 18446744073709551615
+
+-- a subcommand that draws turns from seeds
+abbrev pub drawn : App → App
+drawn app =
+    with_rule (with_rule (with_rule (with_rule app
+    (number_rule (codes "stream") (codes "0") whole))
+    (number_rule (codes "gap") (codes "8") (Unsigned 1 65535)))
+    (flag_rule (codes "from-zero")))
+    (number_rule (codes "ticks") (codes "1000") (Unsigned 0 4294967296))
 
 -- the number that stands for an option, within a range
 pub record IsNumber (rows : List Row) (option : Text) (least most n : ℕ) : Type 0 where

@@ -6,7 +6,7 @@ use Rattle.clap.specs.declared.error.ErrorKind.{ErrorKind}
 use Rattle.clap.specs.declared.error.ErrorKind.TheVariants as error
 use Rattle.command_line.specs.Drawing.{HasTicks, ticked}
 use Rattle.command_line.specs.Hunting.{Hunts, hunt_app}
-use Rattle.command_line.specs.Rules.{IsChosen, IsFlag, IsNumber, file_rule, flag_rule, number_rule, of_file, option_rule, optional_rule, whole}
+use Rattle.command_line.specs.Rules.{IsChosen, IsFlag, IsNumber, drawn, file_rule, flag_rule, number_rule, of_file, option_rule, optional_rule, whole}
 use Rattle.command_line.specs.declared.Asked.{Asked}
 use Rattle.command_line.specs.declared.Asked.TheVariants as asked
 use Rattle.command_line.specs.declared.crew.Crew.{Crew}
@@ -29,12 +29,8 @@ print_app = of_file (codes "print") (codes "F")
 -- a subcommand that simulates or drives
 abbrev pub simulating : App → App
 simulating app =
-    with_rule (with_rule (with_rule (with_rule (with_rule (with_rule (with_rule (with_rule (with_rule app
-    (number_rule (codes "seed") (codes "1") whole))
-    (number_rule (codes "stream") (codes "0") whole))
-    (number_rule (codes "gap") (codes "8") (Unsigned 1 65535)))
-    (flag_rule (codes "from-zero")))
-    (number_rule (codes "ticks") (codes "1000") (Unsigned 0 4294967296)))
+    with_rule (with_rule (with_rule (with_rule (drawn (with_rule app
+    (number_rule (codes "seed") (codes "1") whole)))
     (option_rule (codes "table")))
     (flag_rule (codes "trace")))
     (flag_rule (codes "head")))

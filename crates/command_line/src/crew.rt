@@ -4,7 +4,7 @@ ghost use Rattle.command_line.specs.Chosen.{or_one};
 
 /// By how many workers a composition is simulated, how far each runs ahead at a time, how much a component may have done that isn't committed, and
 /// whether they tell what they did.
-#[derive(Clone, Copy, Debug, PartialEq, Eq)]
+#[derive(Clone, Copy)]
 pub struct Crew {
     /// How many workers, 1 to 64.
     pub workers: u16,

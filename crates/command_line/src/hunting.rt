@@ -1,19 +1,20 @@
 //! What is asked of a hunt.
 ghost use Rattle.std.specs.Prelude.{◌≡◌, ◌≤◌, ◌<◌, ◌^◌, ◌++◌, ◌∷◌, ℕ, List, false, IfOk, IfSome, IsSomeAnd, MatchOption, Some, codes};
 ghost use Rattle.std.specs.Fmt.{decimal};
-ghost use Rattle.clap.specs.Words.{app_of, found_of, rows_of, rule_of};
+ghost use Rattle.clap.specs.Words.{App, app_of, found_of, rows_of, rule_of, with_rule};
 ghost use Rattle.command_line.specs.declared.hunting.Hunting.{Hunting as HuntingValue};
 ghost use Rattle.command_line.specs.declared.seeds.Seeds.{Seeds as SeedsValue};
-ghost use Rattle.command_line.specs.Hunting.{HasHunting, HasSeeds, IsRange, hunt_app, hunting, seeds_rule, sown};
+ghost use Rattle.command_line.specs.Hunting.{HasHunting, HasSeeds, IsRange, hunt_app, hunting, seeds_rule};
 
+use crate::adding::{add_file, add_flag, add_number};
 use crate::seeds::Seeds;
-use crate::{file, file_of, flag, is_set, number, number_of};
+use crate::{add_draws, file_of, is_set, number_of, of_file, option};
 use clap::{Arg, ArgMatches, Command, value_parser};
 use itoa::Buffer;
 use std::alloc::{AllocError, Global};
 
 /// The seeds of a hunt, how turns are drawn from them, and who hunts.
-#[derive(Clone, Copy, Debug, PartialEq, Eq)]
+#[derive(Clone, Copy)]
 pub struct Hunting {
     /// The seeds whose schedules are looked at.
     pub seeds: Seeds,
@@ -37,84 +38,75 @@ pub struct Hunting {
 pub(crate) fn hunt<'a>(alloc: Global) -> Result<Command<'a>, AllocError>
     ensures { IfOk result (λ c. app_of c ≡ hunt_app) }
 {
-    let command = Command::new(alloc, "hunt")
-        .about("Find the least seed whose schedule has an action, and write its turns up to that")
-        .after_help("Example: warp hunt examples/broken-lock.ioa alarm --ticks 60")
-        .arg(file(alloc, "F", "The file of the source"))?
-        .arg(file(
-            alloc,
-            "ACTION",
-            "An action's name, or an action with its arguments",
-        ))?;
-    let command = with_seeds(alloc, command)?;
-    with_hunters(alloc, command)
+    let command = of_file(
+        alloc,
+        "hunt",
+        "Find the least seed whose schedule has an action, and write its turns up to that",
+        "Example: warp hunt examples/broken-lock.ioa alarm --ticks 60",
+        "The file of the source",
+    );
+    let command = add_file(
+        alloc,
+        command,
+        "ACTION",
+        "An action's name, or an action with its arguments",
+    );
+    let command = add_draws(alloc, add_seeds(alloc, command));
+    add_hunters(alloc, command)
 }
 
-// The seeds of a hunt, and how turns are drawn from them.
-fn with_seeds<'a>(alloc: Global, command: Command<'a>) -> Result<Command<'a>, AllocError>
-    ensures { IfOk result (λ c. app_of c ≡ sown (app_of command.entry)) }
+// The seeds of a hunt.
+fn add_seeds<'a>(
+    alloc: Global,
+    command: Result<Command<'a>, AllocError>,
+) -> Result<Command<'a>, AllocError>
+    ensures { (app : App) → IfOk command.entry (λ c. app_of c ≡ app)
+        → IfOk result (λ c. app_of c ≡ with_rule app seeds_rule) }
 {
-    let whole = value_parser!(u64);
-    let gaps = value_parser!(u64).range(1..65_536);
-    let ticks = value_parser!(u64).range(0..4_294_967_297);
-    command
-        .arg(range(alloc))?
-        .arg(number(
-            alloc,
-            "stream",
-            "0",
-            whole,
-            "The stream of the first component's turns",
-        ))?
-        .arg(number(
-            alloc,
-            "gap",
-            "8",
-            gaps,
-            "The greatest gap between two turns, in ticks",
-        ))?
-        .arg(flag(
-            alloc,
-            "from-zero",
-            "Draw gaps from 0 to one less than --gap, and not from 1 to --gap",
-        ))?
-        .arg(number(alloc, "ticks", "1000", ticks, "The last tick"))
+    match command {
+        Ok(command) => command.arg(range(alloc)),
+        Err(error) => Err(error),
+    }
 }
 
 // Who hunts, and what is told of it.
-fn with_hunters<'a>(alloc: Global, command: Command<'a>) -> Result<Command<'a>, AllocError>
-    ensures { IfOk result (λ c. app_of c ≡ hunting (app_of command.entry)) }
+fn add_hunters<'a>(
+    alloc: Global,
+    command: Result<Command<'a>, AllocError>,
+) -> Result<Command<'a>, AllocError>
+    ensures { (app : App) → IfOk command.entry (λ c. app_of c ≡ app)
+        → IfOk result (λ c. app_of c ≡ hunting app) }
 {
     let workers = value_parser!(u64).range(1..65);
-    command
-        .arg(number(
-            alloc,
-            "workers",
-            "2",
-            workers,
-            "How many workers look at seeds",
-        ))?
-        .arg(flag(
-            alloc,
-            "count",
-            "Write how many seeds have it, in place of the least one",
-        ))?
-        .arg(flag(
-            alloc,
-            "progress",
-            "Tell on standard error once a second how many seeds were looked at",
-        ))
+    let command = add_number(
+        alloc,
+        command,
+        "workers",
+        "2",
+        workers,
+        "How many workers look at seeds",
+    );
+    let command = add_flag(
+        alloc,
+        command,
+        "count",
+        "Write how many seeds have it, in place of the least one",
+    );
+    add_flag(
+        alloc,
+        command,
+        "progress",
+        "Tell on standard error once a second how many seeds were looked at",
+    )
 }
 
 fn range<'a>(alloc: Global) -> Arg<'a>
     ensures rule { rule_of result ≡ seeds_rule }
     ensures local { result.global ≡ false }
 {
-    Arg::new(alloc, "seeds")
-        .long("seeds")
+    option(alloc, "seeds", "The first and the last seed")
         .value_name("A..B")
         .default_value("1..1000")
-        .help("The first and the last seed")
 }
 
 /// What is asked of a hunt, each number in its range.

@@ -2,20 +2,22 @@
 #![tactic(auto)]
 
 ghost use Rattle.std.specs.Prelude.{◌≡◌, ◌≤◌, ℕ, codes, false, Option, Some, IfOk, IfSome, MatchOption, MatchResult, map, option_map, string_bytes};
-ghost use Rattle.clap.specs.Words.{app_of, first_of, found_of, kind_of, rows_of, rule_of, subcommand_rows_of};
+ghost use Rattle.clap.specs.Words.{App, app_of, first_of, found_of, kind_of, rows_of, rule_of, subcommand_rows_of, with_rule};
 ghost use Rattle.command_line.specs.Chosen.{or_one};
 ghost use Rattle.command_line.specs.declared.crew.Crew.{Crew as CrewValue};
 ghost use Rattle.command_line.specs.declared.Options.{Options as OptionsValue};
-ghost use Rattle.command_line.specs.Rules.{file_rule, flag_rule, number_rule, option_rule, optional_rule, IsChosen, IsFlag, IsNumber};
+ghost use Rattle.command_line.specs.Rules.{drawn, file_rule, flag_rule, long_rule, number_rule, of_file, option_rule, optional_rule, whole, IsChosen, IsFlag, IsNumber};
 ghost use Rattle.command_line.specs.Words.{bare, version_text, warp, simulating, manned, print_app, reference_app, run_app, check_app, drive_app, explain_app, judging, HasCrew, HasOptions, IsAsked, IsAskedBy, IsRefused, IsTold};
 ghost use Rattle.command_line.specs.declared.Refused.TheVariants.{NoMemory};
 
+mod adding;
 mod crew;
 mod drawing;
 mod hunting;
 mod seeds;
 mod ticks;
 
+use adding::{add_file, add_flag, add_number, add_optional, add_other, add_subcommand};
 use clap::builder::ValueParser;
 use clap::error::{Error, ErrorKind};
 use clap::{Arg, ArgAction, ArgMatches, Command, value_parser};
@@ -28,7 +30,7 @@ use std::alloc::{AllocError, Global};
 pub use ticks::Ticks;
 
 /// What the words ask for.
-#[derive(Clone, Copy, Debug, PartialEq, Eq)]
+#[derive(Clone, Copy)]
 pub enum Asked<'a> {
     /// The source in this file is printed in its layout.
     Print {
@@ -78,7 +80,7 @@ pub enum Asked<'a> {
 }
 
 /// The turns with which a composition is simulated or driven, and what is written of them.
-#[derive(Clone, Copy, Debug, PartialEq, Eq)]
+#[derive(Clone, Copy)]
 pub struct Options<'a> {
     /// The seed of the turns; with a table, seed, stream and gap aren't used.
     pub seed: u64,
@@ -101,7 +103,7 @@ pub struct Options<'a> {
 }
 
 /// Why the words ask for nothing.
-#[derive(Debug, Drop)]
+#[derive(Drop)]
 pub enum Refused {
     /// Want of memory.
     NoMemory,
@@ -130,7 +132,8 @@ pub fn version() -> &'static str
 
 /// Reads the words after the program's name.
 pub fn read_words<'a>(alloc: Global, words: &'a [String]) -> Result<Asked<'a>, Refused>
-    ensures { MatchResult result (IsAsked (map string_bytes words.now)) (IsRefused (map string_bytes words.now)) }
+    ensures { MatchResult result (IsAsked (map string_bytes words.now))
+        (IsRefused (map string_bytes words.now)) }
 {
     let mut command = described(alloc)?;
     let matches = match command.try_get_matches_from_mut(words) {
@@ -172,176 +175,262 @@ fn bare<'a>(alloc: Global) -> Command<'a>
 fn described<'a>(alloc: Global) -> Result<Command<'a>, AllocError>
     ensures app { IfOk result (λ c. app_of c ≡ warp) }
 {
-    bare(alloc)
-        .subcommand(print(alloc)?)?
-        .subcommand(reference(alloc)?)?
-        .subcommand(run(alloc)?)?
-        .subcommand(check(alloc)?)?
-        .subcommand(drive(alloc)?)?
-        .subcommand(explain(alloc)?)?
-        .subcommand(hunting::hunt(alloc)?)?
-        .subcommand(drawing::draw(alloc)?)
+    let command = add_subcommand(Ok(bare(alloc)), print(alloc));
+    let command = add_subcommand(command, reference(alloc));
+    let command = add_subcommand(command, run(alloc));
+    let command = add_subcommand(command, check(alloc));
+    let command = add_subcommand(command, drive(alloc));
+    let command = add_subcommand(command, explain(alloc));
+    let command = add_subcommand(command, hunting::hunt(alloc));
+    add_subcommand(command, drawing::draw(alloc))
+}
+
+// A subcommand of one file, with what is told of it: what it does, and examples.
+fn of_file<'a>(
+    alloc: Global,
+    name: &'a str,
+    about: &'a str,
+    examples: &'a str,
+    source: &'a str,
+) -> Result<Command<'a>, AllocError>
+    ensures { IfOk result (λ c. app_of c ≡ of_file name.now (codes "F")) }
+{
+    Command::new(alloc, name)
+        .about(about)
+        .after_help(examples)
+        .arg(file(alloc, "F", source))
 }
 
 fn print<'a>(alloc: Global) -> Result<Command<'a>, AllocError>
     ensures { IfOk result (λ c. app_of c ≡ print_app) }
 {
-    Command::new(alloc, "print")
-        .about("Print a source in its layout; it is read and not checked")
-        .after_help("Example: warp print examples/ring.ioa")
-        .arg(file(alloc, "F", "The file of the source"))
+    of_file(
+        alloc,
+        "print",
+        "Print a source in its layout; it is read and not checked",
+        "Example: warp print examples/ring.ioa",
+        "The file of the source",
+    )
 }
 
 fn reference<'a>(alloc: Global) -> Result<Command<'a>, AllocError>
     ensures { IfOk result (λ c. app_of c ≡ reference_app) }
 {
-    let command = Command::new(alloc, "reference")
-        .about(
-            "Simulate a composition by one thread, which always takes the turn with the least key",
-        )
-        .after_help("Example: warp reference examples/ring.ioa --table examples/ring-a.table")
-        .arg(file(alloc, "F", "The file of the source"))?;
-    with_options(alloc, command)
+    let command = of_file(
+        alloc,
+        "reference",
+        "Simulate a composition by one thread, which always takes the turn with the least key",
+        "Example: warp reference examples/ring.ioa --table examples/ring-a.table",
+        "The file of the source",
+    );
+    add_options(alloc, command)
 }
 
 fn run<'a>(alloc: Global) -> Result<Command<'a>, AllocError>
     ensures { IfOk result (λ c. app_of c ≡ run_app) }
 {
-    let command = Command::new(alloc, "run")
-        .about("Simulate a composition by several workers, and write the turns that are committed")
-        .after_help("Example: warp run examples/lcr.ioa --seed 7 --ticks 100 --workers 4")
-        .arg(file(alloc, "F", "The file of the source"))?;
-    let command = with_options(alloc, command)?;
-    with_crew(alloc, command)
+    let command = of_file(
+        alloc,
+        "run",
+        "Simulate a composition by several workers, and write the turns that are committed",
+        "Example: warp run examples/lcr.ioa --seed 7 --ticks 100 --workers 4",
+        "The file of the source",
+    );
+    let command = add_options(alloc, command);
+    add_crew(alloc, command)
 }
 
 fn check<'a>(alloc: Global) -> Result<Command<'a>, AllocError>
     ensures { IfOk result (λ c. app_of c ≡ check_app) }
 {
-    Command::new(alloc, "check")
-        .about("Say whether actions are a schedule of a composition")
-        .after_help("Example: warp check examples/ring.ioa ACTIONS")
-        .arg(file(alloc, "F", "The file of the source"))?
-        .arg(file(alloc, "TRACE", "The file of the actions, one a line"))
+    let command = of_file(
+        alloc,
+        "check",
+        "Say whether actions are a schedule of a composition",
+        "Example: warp check examples/ring.ioa ACTIONS",
+        "The file of the source",
+    );
+    add_file(
+        alloc,
+        command,
+        "TRACE",
+        "The file of the actions, one a line",
+    )
 }
 
 fn drive<'a>(alloc: Global) -> Result<Command<'a>, AllocError>
     ensures { IfOk result (λ c. app_of c ≡ drive_app) }
 {
-    let command = Command::new(alloc, "drive")
-        .about("Drive a composition by steps, and write the turns that are committed after all")
-        .after_help(
-            "Example: warp drive examples/ring.ioa examples/ring.steps --table examples/ring-a.table",
-        )
-        .arg(file(alloc, "F", "The file of the source"))?
-        .arg(file(alloc, "STEPS", "The file of the steps, one a line"))?;
-    with_options(alloc, command)
+    let command = of_file(
+        alloc,
+        "drive",
+        "Drive a composition by steps, and write the turns that are committed after all",
+        "Example: warp drive examples/ring.ioa examples/ring.steps --table examples/ring-a.table",
+        "The file of the source",
+    );
+    let command = add_file(alloc, command, "STEPS", "The file of the steps, one a line");
+    add_options(alloc, command)
 }
 
 fn explain<'a>(alloc: Global) -> Result<Command<'a>, AllocError>
     ensures { IfOk result (λ c. app_of c ≡ explain_app) }
 {
-    let command = Command::new(alloc, "explain")
-        .about("Tell where a source or a file for it is refused, and what may help; or of a number")
-        .after_help("Examples: warp explain examples/ring.ioa; warp explain 12")
-        .arg(file(
-            alloc,
-            "F",
-            "The file of the source, or the number of a refusal or fault",
-        ))?;
-    with_files(alloc, command)
+    let command = of_file(
+        alloc,
+        "explain",
+        "Tell where a source or a file for it is refused, and what may help; or of a number",
+        "Examples: warp explain examples/ring.ioa; warp explain 12",
+        "The file of the source, or the number of a refusal or fault",
+    );
+    add_files(alloc, command)
 }
 
 // The options of what judges further files.
-fn with_files<'a>(alloc: Global, command: Command<'a>) -> Result<Command<'a>, AllocError>
-    ensures { IfOk result (λ c. app_of c ≡ judging (app_of command.entry)) }
+fn add_files<'a>(
+    alloc: Global,
+    command: Result<Command<'a>, AllocError>,
+) -> Result<Command<'a>, AllocError>
+    ensures { (app : App) → IfOk command.entry (λ c. app_of c ≡ app)
+        → IfOk result (λ c. app_of c ≡ judging app) }
 {
-    command
-        .arg(other(alloc, "table", "The file of a table of turns"))?
-        .arg(other(alloc, "steps", "The file of steps, one a line"))?
-        .arg(other(alloc, "actions", "The file of actions, one a line"))
+    let command = add_other(alloc, command, "table", "The file of a table of turns");
+    let command = add_other(alloc, command, "steps", "The file of steps, one a line");
+    add_other(alloc, command, "actions", "The file of actions, one a line")
 }
 
 // The options of what simulates or drives.
-fn with_options<'a>(alloc: Global, command: Command<'a>) -> Result<Command<'a>, AllocError>
-    ensures { IfOk result (λ c. app_of c ≡ simulating (app_of command.entry)) }
+fn add_options<'a>(
+    alloc: Global,
+    command: Result<Command<'a>, AllocError>,
+) -> Result<Command<'a>, AllocError>
+    ensures { (app : App) → IfOk command.entry (λ c. app_of c ≡ app)
+        → IfOk result (λ c. app_of c ≡ simulating app) }
+{
+    let command = add_turns(alloc, command);
+    let command = add_other(
+        alloc,
+        command,
+        "table",
+        "The file of a table of turns; seed, stream and gap are then not used",
+    );
+    let command = add_flag(
+        alloc,
+        command,
+        "trace",
+        "Write only turns with an external action",
+    );
+    let command = add_flag(
+        alloc,
+        command,
+        "head",
+        "Begin with the line `trace 2`, after which `check` wants rising keys",
+    );
+    add_flag(
+        alloc,
+        command,
+        "progress",
+        "Tell on standard error once a second how far it is",
+    )
+}
+
+// A seed, and what else draws turns.
+fn add_turns<'a>(
+    alloc: Global,
+    command: Result<Command<'a>, AllocError>,
+) -> Result<Command<'a>, AllocError>
+    ensures { (app : App) → IfOk command.entry (λ c. app_of c ≡ app)
+        → IfOk result (λ c. app_of c ≡ drawn
+        (with_rule app (number_rule (codes "seed") (codes "1") whole))) }
+{
+    let whole = value_parser!(u64);
+    let command = add_number(alloc, command, "seed", "1", whole, "The seed of the turns");
+    add_draws(alloc, command)
+}
+
+// How turns are drawn from a seed.
+fn add_draws<'a>(
+    alloc: Global,
+    command: Result<Command<'a>, AllocError>,
+) -> Result<Command<'a>, AllocError>
+    ensures { (app : App) → IfOk command.entry (λ c. app_of c ≡ app)
+        → IfOk result (λ c. app_of c ≡ drawn app) }
 {
     let whole = value_parser!(u64);
     let gaps = value_parser!(u64).range(1..65_536);
     let ticks = value_parser!(u64).range(0..4_294_967_297);
-    command
-        .arg(number(alloc, "seed", "1", whole, "The seed of the turns"))?
-        .arg(number(
-            alloc,
-            "stream",
-            "0",
-            whole,
-            "The stream of the first component's turns",
-        ))?
-        .arg(number(
-            alloc,
-            "gap",
-            "8",
-            gaps,
-            "The greatest gap between two turns, in ticks",
-        ))?
-        .arg(flag(
-            alloc,
-            "from-zero",
-            "Draw gaps from 0 to one less than --gap, and not from 1 to --gap",
-        ))?
-        .arg(number(alloc, "ticks", "1000", ticks, "The last tick"))?
-        .arg(other(
-            alloc,
-            "table",
-            "The file of a table of turns; seed, stream and gap are then not used",
-        ))?
-        .arg(flag(alloc, "trace", "Write only turns with an external action"))?
-        .arg(flag(
-            alloc,
-            "head",
-            "Begin with the line `trace 2`, after which `check` wants rising keys",
-        ))?
-        .arg(flag(
-            alloc,
-            "progress",
-            "Tell on standard error once a second how far it is",
-        ))
+    let command = add_number(
+        alloc,
+        command,
+        "stream",
+        "0",
+        whole,
+        "The stream of the first component's turns",
+    );
+    let command = add_number(
+        alloc,
+        command,
+        "gap",
+        "8",
+        gaps,
+        "The greatest gap between two turns, in ticks",
+    );
+    let command = add_flag(
+        alloc,
+        command,
+        "from-zero",
+        "Draw gaps from 0 to one less than --gap, and not from 1 to --gap",
+    );
+    add_number(alloc, command, "ticks", "1000", ticks, "The last tick")
 }
 
 // The options of what workers simulate.
-fn with_crew<'a>(alloc: Global, command: Command<'a>) -> Result<Command<'a>, AllocError>
-    ensures { IfOk result (λ c. app_of c ≡ manned (app_of command.entry)) }
+fn add_crew<'a>(
+    alloc: Global,
+    command: Result<Command<'a>, AllocError>,
+) -> Result<Command<'a>, AllocError>
+    ensures { (app : App) → IfOk command.entry (λ c. app_of c ≡ app)
+        → IfOk result (λ c. app_of c ≡ manned app) }
 {
     let workers = value_parser!(u64).range(1..65);
     let budgets = value_parser!(u64).range(1..65_536);
     let windows = value_parser!(u64).range(1..65_536);
-    command
-        .arg(number(
-            alloc,
-            "workers",
-            "2",
-            workers,
-            "How many workers run the components",
-        ))?
-        .arg(number(
-            alloc,
-            "budget",
-            "64",
-            budgets,
-            "How many entries a worker processes of a component at a time",
-        ))?
-        .arg(optional(
-            alloc,
-            "window",
-            windows,
-            "How many turns of its own a component may have done that aren't committed",
-        ))?
-        .arg(flag(
-            alloc,
-            "stats",
-            "Tell on standard error what the workers did",
-        ))
+    let command = add_number(
+        alloc,
+        command,
+        "workers",
+        "2",
+        workers,
+        "How many workers run the components",
+    );
+    let command = add_number(
+        alloc,
+        command,
+        "budget",
+        "64",
+        budgets,
+        "How many entries a worker processes of a component at a time",
+    );
+    let command = add_optional(
+        alloc,
+        command,
+        "window",
+        windows,
+        "How many turns of its own a component may have done that aren't committed",
+    );
+    add_flag(
+        alloc,
+        command,
+        "stats",
+        "Tell on standard error what the workers did",
+    )
+}
+
+// What is entered by a name behind two dashes.
+fn option<'a>(alloc: Global, name: &'a str, help: &'a str) -> Arg<'a>
+    ensures rule { rule_of result ≡ long_rule name.now }
+    ensures local { result.global ≡ false }
+{
+    Arg::new(alloc, name).long(name).help(help)
 }
 
 fn number<'a>(
@@ -354,11 +443,7 @@ fn number<'a>(
     ensures rule { rule_of result ≡ number_rule name.now default.now parser.entry }
     ensures local { result.global ≡ false }
 {
-    Arg::new(alloc, name)
-        .long(name)
-        .default_value(default)
-        .value_parser(parser)
-        .help(help)
+    optional(alloc, name, parser, help).default_value(default)
 }
 
 // The option of a number that may be left out.
@@ -366,10 +451,7 @@ fn optional<'a>(alloc: Global, name: &'a str, parser: ValueParser<'a>, help: &'a
     ensures rule { rule_of result ≡ optional_rule name.now parser.entry }
     ensures local { result.global ≡ false }
 {
-    Arg::new(alloc, name)
-        .long(name)
-        .value_parser(parser)
-        .help(help)
+    option(alloc, name, help).value_parser(parser)
 }
 
 // The option of another file.
@@ -377,20 +459,14 @@ fn other<'a>(alloc: Global, name: &'a str, help: &'a str) -> Arg<'a>
     ensures rule { rule_of result ≡ option_rule name.now }
     ensures local { result.global ≡ false }
 {
-    Arg::new(alloc, name)
-        .long(name)
-        .value_name("FILE")
-        .help(help)
+    option(alloc, name, help).value_name("FILE")
 }
 
 fn flag<'a>(alloc: Global, name: &'a str, help: &'a str) -> Arg<'a>
     ensures rule { rule_of result ≡ flag_rule name.now }
     ensures local { result.global ≡ false }
 {
-    Arg::new(alloc, name)
-        .long(name)
-        .action(ArgAction::SetTrue)
-        .help(help)
+    option(alloc, name, help).action(ArgAction::SetTrue)
 }
 
 fn file<'a>(alloc: Global, name: &'a str, help: &'a str) -> Arg<'a>
@@ -406,6 +482,14 @@ fn asked_by<'a>(matches: &ArgMatches<'a>) -> Option<Asked<'a>>
 {
     let (name, found) = matches.subcommand()?;
     let source = file_of(found, "F")?;
+    asked_as(name, source, found)
+}
+
+// What is asked for by the subcommand of this name.
+fn asked_as<'a>(name: &str, source: &'a str, found: &ArgMatches<'a>) -> Option<Asked<'a>>
+    requires { first_of (codes "F") (rows_of (found_of found.now)) ≡ Some source.now }
+    ensures { IsAskedBy (Some (name.now, rows_of (found_of found.now))) result }
+{
     if name == "print" {
         return Some(Asked::Print { source });
     }
@@ -522,7 +606,9 @@ fn asked_draw<'a>(source: &'a str, found: &ArgMatches<'a>) -> Option<Asked<'a>>
 
 // The options, each number in its range.
 fn options_of<'a>(found: &ArgMatches<'a>) -> Option<Options<'a>>
-    ensures { MatchOption result ((o : OptionsValue) → HasOptions (rows_of (found_of found.now)) o → ⊥) (HasOptions (rows_of (found_of found.now))) }
+    ensures { MatchOption result
+        ((o : OptionsValue) → HasOptions (rows_of (found_of found.now)) o → ⊥)
+        (HasOptions (rows_of (found_of found.now))) }
 {
     let seed = number_of(found, "seed", 0, u64::MAX)?;
     let stream = number_of(found, "stream", 0, u64::MAX)?;
@@ -543,7 +629,8 @@ fn options_of<'a>(found: &ArgMatches<'a>) -> Option<Options<'a>>
 
 // The workers, each number in its range.
 fn crew_of(found: &ArgMatches) -> Option<Crew>
-    ensures { MatchOption result ((c : CrewValue) → HasCrew (rows_of (found_of found.now)) c → ⊥) (HasCrew (rows_of (found_of found.now))) }
+    ensures { MatchOption result ((c : CrewValue) → HasCrew (rows_of (found_of found.now)) c → ⊥)
+        (HasCrew (rows_of (found_of found.now))) }
 {
     let workers = number_of(found, "workers", 1, 64)?;
     let budget = number_of(found, "budget", 1, 65_535)?;
@@ -573,7 +660,9 @@ fn window_of(found: &ArgMatches) -> Option<Option<u32>>
 
 // The number that stands for an option, if it is in a range.
 fn number_of(found: &ArgMatches, option: &str, least: u64, most: u64) -> Option<u64>
-    ensures { MatchOption result ((n : ℕ) → IsNumber (rows_of (found_of found.now)) option.now least most n → ⊥) (IsNumber (rows_of (found_of found.now)) option.now least most) }
+    ensures { MatchOption result
+        ((n : ℕ) → IsNumber (rows_of (found_of found.now)) option.now least most n → ⊥)
+        (IsNumber (rows_of (found_of found.now)) option.now least most) }
 {
     match found.get_one::<u64>(option) {
         Some(number) => {
@@ -600,7 +689,8 @@ fn is_set(found: &ArgMatches, flag: &str) -> bool
 }
 
 fn file_of<'a>(found: &ArgMatches<'a>, argument: &str) -> Option<&'a str>
-    ensures { option_map (λ s. s.now) result ≡ first_of argument.now (rows_of (found_of found.now)) }
+    ensures { option_map (λ s. s.now) result
+        ≡ first_of argument.now (rows_of (found_of found.now)) }
 {
     found.get_str(argument)
 }

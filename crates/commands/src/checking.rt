@@ -24,8 +24,10 @@ pub fn check_trace<W: Write>(
     trace: &[u8],
     out: &mut Counted<W>,
 ) -> Result<Verdict, CheckFault>
-    ensures judged { IfOk result (λ verdict. IsJudged plan.now trace.now verdict (IsWritten W.contents out.old out.new)) }
-    ensures unjudged { IfErr result (IsUnjudged plan.now trace.now (out.new ≡ out.old) (IsStopped W.contents out.old out.new)) }
+    ensures judged { IfOk result (λ verdict. IsJudged plan.now trace.now verdict
+        (IsWritten W.contents out.old out.new)) }
+    ensures unjudged { IfErr result
+        (IsUnjudged plan.now trace.now (out.new ≡ out.old) (IsStopped W.contents out.old out.new)) }
 {
     let actions = match read_trace(alloc, plan, trace) {
         Ok(actions) => actions,

@@ -66,7 +66,8 @@ fn drive_world<T: Turns, W: Write>(
     form: Form,
     out: &mut Counted<W>,
 ) -> Result<Vec<RefusedStep>, DriveFault>
-    requires start { world_of (machine_of T.turn_of world.old.setup) world.old ≡ start_world (machine_of T.turn_of world.old.setup) }
+    requires start { world_of (machine_of T.turn_of world.old.setup) world.old
+        ≡ start_world (machine_of T.turn_of world.old.setup) }
     ensures driven { IfOk result (λ refused. IsDriven (plan_of world.old.setup)
         (system T.turn_of world.old.setup) form.lines steps.now
         (Behind form.head (IsWritten W.contents out.old out.new)) refused.items) }
@@ -104,7 +105,8 @@ fn refused_steps(
 
 // The text of what is committed is a beginning of that of all turns, and its actions are a schedule. The call does nothing.
 fn committed_begins<T: Turns>(world: &World<T>, lines: Lines)
-    ensures { IsBeginning (plan_of world.now.setup) (system T.turn_of world.now.setup) lines (reverse world.now.committed) }
+    ensures { IsBeginning (plan_of world.now.setup) (system T.turn_of world.now.setup) lines
+        (reverse world.now.committed) }
 {
     machine_is_lawful(world.setup());
     turns_are_schedule(world.setup());

@@ -31,8 +31,11 @@ pub fn overlap(
     others: &[Scalar],
     other_params: &[Param],
 ) -> bool
-    ensures some { result ≡ true → (args : List Scalar) × ((fits formals.now params.now args ≡ true) × (fits others.now other_params.now args ≡ true)) }
-    ensures none { result ≡ false → (args : List Scalar) → fits formals.now params.now args ≡ true → fits others.now other_params.now args ≡ true → ⊥ }
+    ensures some { result ≡ true → (args : List Scalar)
+        × ((fits formals.now params.now args ≡ true)
+        × (fits others.now other_params.now args ≡ true)) }
+    ensures none { result ≡ false → (args : List Scalar) → fits formals.now params.now args ≡ true
+        → fits others.now other_params.now args ≡ true → ⊥ }
 {
     match (params.split_first(), other_params.split_first()) {
         (None, None) => true,

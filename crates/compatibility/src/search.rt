@@ -38,7 +38,8 @@ pub fn first_break(
     automata: &[Automaton],
     components: &[Component],
 ) -> Result<Option<usize>, NoMemory>
-    ensures { IfOk result (λ first. IsFirst (Breaks rule (composed automata.now components.now)) first) }
+    ensures { IfOk result (λ first. IsFirst
+        (Breaks rule (composed automata.now components.now)) first) }
 {
     first_law();
     let standings = standings(alloc, automata, components)?;

@@ -27,7 +27,9 @@ fn push<'a>(
     seen: &mut Vec<Vec<Standing<'a>>>,
     standing: Standing<'a>,
 ) -> Result<(), NoMemory>
-    ensures { OnOk result ((n : ℕ) → seen_at seen.new.items n ≡ seen_at seen.old.items n ++ cond (nat_eq (stood standing.entry).entry.name n) (stood standing.entry ∷ []) []) }
+    ensures { OnOk result ((n : ℕ)
+        → seen_at seen.new.items n ≡ seen_at seen.old.items n
+        ++ cond (nat_eq (stood standing.entry).entry.name n) (stood standing.entry ∷ []) []) }
 {
     let name = standing.entry.name;
     make_room(alloc, seen, name)?;
@@ -42,8 +44,10 @@ fn push<'a>(
 
 // Whether one of these entries and the given one break a rule.
 fn clash_with(rule: Rule, earlier: &[Standing], standing: &Standing) -> bool
-    ensures some { result ≡ true → Has (λ a. Clash rule a (stood standing.now)) (map stood earlier.now) }
-    ensures none { result ≡ false → Has (λ a. Clash rule a (stood standing.now)) (map stood earlier.now) → ⊥ }
+    ensures some { result ≡ true
+        → Has (λ a. Clash rule a (stood standing.now)) (map stood earlier.now) }
+    ensures none { result ≡ false
+        → Has (λ a. Clash rule a (stood standing.now)) (map stood earlier.now) → ⊥ }
 {
     for other in earlier {
         if clash(rule, other, standing) {
@@ -55,8 +59,12 @@ fn clash_with(rule: Rule, earlier: &[Standing], standing: &Standing) -> bool
 
 /// Whether one of the entries so far and the given one break a rule.
 pub(crate) fn is_clash(rule: Rule, seen: &[Vec<Standing>], standing: &Standing) -> bool
-    ensures some { result ≡ true → Has (λ a. Clash rule a (stood standing.now)) (seen_at seen.now (stood standing.now).entry.name) }
-    ensures none { result ≡ false → Has (λ a. Clash rule a (stood standing.now)) (seen_at seen.now (stood standing.now).entry.name) → ⊥ }
+    ensures some { result ≡ true
+        → Has (λ a. Clash rule a (stood standing.now))
+        (seen_at seen.now (stood standing.now).entry.name) }
+    ensures none { result ≡ false
+        → Has (λ a. Clash rule a (stood standing.now))
+        (seen_at seen.now (stood standing.now).entry.name) → ⊥ }
 {
     if suits_all(rule, standing.entry.kind) {
         return false;
@@ -74,8 +82,12 @@ pub(crate) fn push_by_kind<'a>(
     controls: &mut Vec<Vec<Standing<'a>>>,
     standing: Standing<'a>,
 ) -> Result<(), NoMemory>
-    ensures inputs { OnOk result ((n : ℕ) → seen_at inputs.new.items n ≡ seen_at inputs.old.items n ++ cond (is_input_of n (stood standing.entry)) (stood standing.entry ∷ []) []) }
-    ensures controls { OnOk result ((n : ℕ) → seen_at controls.new.items n ≡ seen_at controls.old.items n ++ cond (is_control_of n (stood standing.entry)) (stood standing.entry ∷ []) []) }
+    ensures inputs { OnOk result ((n : ℕ)
+        → seen_at inputs.new.items n ≡ seen_at inputs.old.items n
+        ++ cond (is_input_of n (stood standing.entry)) (stood standing.entry ∷ []) []) }
+    ensures controls { OnOk result ((n : ℕ)
+        → seen_at controls.new.items n ≡ seen_at controls.old.items n
+        ++ cond (is_control_of n (stood standing.entry)) (stood standing.entry ∷ []) []) }
 {
     if is_input(standing.entry.kind) {
         return push(alloc, inputs, standing);
@@ -95,8 +107,12 @@ fn is_input(kind: Kind) -> bool
 
 /// Whether one of the inputs so far and the given entry break a rule. They aren't compared where no input and an entry of this kind do.
 pub(crate) fn is_clash_with_input(rule: Rule, inputs: &[Vec<Standing>], standing: &Standing) -> bool
-    ensures some { result ≡ true → Has (λ a. Clash rule a (stood standing.now)) (seen_at inputs.now (stood standing.now).entry.name) }
-    ensures none { result ≡ false → Has (λ a. ClashesAsInput rule a (stood standing.now)) (seen_at inputs.now (stood standing.now).entry.name) → ⊥ }
+    ensures some { result ≡ true
+        → Has (λ a. Clash rule a (stood standing.now))
+        (seen_at inputs.now (stood standing.now).entry.name) }
+    ensures none { result ≡ false
+        → Has (λ a. ClashesAsInput rule a (stood standing.now))
+        (seen_at inputs.now (stood standing.now).entry.name) → ⊥ }
 {
     if suits_inputs(rule, standing.entry.kind) {
         return false;

@@ -64,8 +64,10 @@ fn span_of_listed(listed: Listed) -> Span
 
 /// Whether two sets have a scalar in common.
 pub fn meet(a: Span, b: Span) -> bool
-    ensures some { result ≡ true → (value : Scalar) × ((is_in a value ≡ true) × (is_in b value ≡ true)) }
-    ensures none { result ≡ false → (value : Scalar) → is_in a value ≡ true → is_in b value ≡ true → ⊥ }
+    ensures some { result ≡ true → (value : Scalar)
+        × ((is_in a value ≡ true) × (is_in b value ≡ true)) }
+    ensures none { result ≡ false → (value : Scalar) → is_in a value ≡ true → is_in b value ≡ true
+        → ⊥ }
 {
     !is_empty(intersection(a, b))
 }

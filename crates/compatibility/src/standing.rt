@@ -41,7 +41,8 @@ fn add_standings<'a>(
     entries: &'a [Entry],
     formals: &'a [Scalar],
 ) -> Result<(), NoMemory>
-    ensures { OnOk result (map stood standings.new.items ≡ map stood standings.old.items ++ map (stood_in component formals.now) (map transition_of entries.now)) }
+    ensures { OnOk result (map stood standings.new.items ≡ map stood standings.old.items
+        ++ map (stood_in component formals.now) (map transition_of entries.now)) }
 {
     for entry in entries {
         standings.push(Standing {
@@ -59,7 +60,8 @@ pub(crate) fn standings<'a>(
     automata: &'a [Automaton],
     components: &'a [Component],
 ) -> Result<Vec<Standing<'a>>, NoMemory>
-    ensures { IfOk result (λ all. map stood all.items ≡ stands 0 (composed automata.now components.now)) }
+    ensures { IfOk result (λ all. map stood all.items
+        ≡ stands 0 (composed automata.now components.now)) }
 {
     let mut all = Vec::new(alloc);
     let mut number = 0;

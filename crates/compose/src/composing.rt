@@ -21,7 +21,9 @@ const MOST_COMPONENTS: usize = 1024;
 
 // The first component whose automaton isn't known.
 fn first_unknown(components: &[Component]) -> Option<usize>
-    ensures some { IfSome result (λ n. (unknown_at components.now n ≡ true) × ((k : ℕ) → k < n → unknown_at components.now k ≡ false)) }
+    ensures some { IfSome result
+        (λ n. (unknown_at components.now n ≡ true)
+        × ((k : ℕ) → k < n → unknown_at components.now k ≡ false)) }
     ensures none { IfNone result ((k : ℕ) → unknown_at components.now k ≡ false) }
 {
     components
@@ -79,7 +81,8 @@ fn last_error(hidden: Option<usize>) -> Option<ComposeError>
 /// `NoMemory` may stand in its place, or in place of an answer.
 pub fn compose(alloc: Global, checked: Checked) -> Result<Plan, ComposeError>
     ensures plan { IfOk result (λ plan. IsPlan (meaning checked) plan) }
-    ensures faultless { IfOk result (λ plan. (f : AnyFault) (j : ℕ) → HasFault (action_texts plan) (meaning checked) f j → ⊥) }
+    ensures faultless { IfOk result (λ plan. (f : AnyFault) (j : ℕ)
+        → HasFault (action_texts plan) (meaning checked) f j → ⊥) }
     ensures refused { IfErr result (λ e. IsRefused (meaning checked) e) }
 {
     compatible_law();

@@ -53,9 +53,10 @@ fn visit(
     component: &Component,
 ) -> Result<(), AllocError>
     ensures { OnOk result ((seen : List MeantComponent)
-        → AreGiven (map automaton_meaning automata.now) seen (used_names given.old) visited.old.items
-        → AreGiven (map automaton_meaning automata.now) (seen ++ component_meaning component.now ∷ [])
-        (used_names given.new) visited.new.items) }
+        → AreGiven (map automaton_meaning automata.now) seen
+        (used_names given.old) visited.old.items
+        → AreGiven (map automaton_meaning automata.now)
+        (seen ++ component_meaning component.now ∷ []) (used_names given.new) visited.new.items) }
 {
     let Some(number) = component.automaton else {
         return Ok(());

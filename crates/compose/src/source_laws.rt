@@ -13,6 +13,8 @@ pub fn number_law()
 
 /// The first bytes of a source, one more than it may have, tell what all of it means, and why it is refused.
 pub fn front_law()
-    ensures composed { (source : List ℕ) (plan : Plan) → IsComposed (take front_bytes source) plan → IsComposed source plan }
-    ensures refused { (source : List ℕ) (e : SourceError) → IsRefused (take front_bytes source) e → IsRefused source e }
+    ensures composed { (source : List ℕ) (plan : Plan) → IsComposed (take front_bytes source) plan
+        → IsComposed source plan }
+    ensures refused { (source : List ℕ) (e : SourceError) → IsRefused (take front_bytes source) e
+        → IsRefused source e }
 {}

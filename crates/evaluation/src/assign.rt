@@ -20,7 +20,9 @@ pub(crate) fn assign<C: Cells>(
     env: &Env,
     cells: &mut C,
 ) -> Result<(), NoMemory>
-    ensures ok { OnOk result (C.values cells.new ≡ slice_set (C.values cells.old) cell (value (term_tree term.now) (scope env.now) (C.values cells.old))) }
+    ensures ok { OnOk result (C.values cells.new
+        ≡ slice_set (C.values cells.old) cell
+        (value (term_tree term.now) (scope env.now) (C.values cells.old))) }
     ensures err { OnErr result (C.values cells.new ≡ C.values cells.old) }
     ensures marked { C.marked cells.new ≡ C.marked cells.old }
 {
@@ -39,7 +41,9 @@ pub(crate) fn assign_other<C: Cells>(
     env: &Env,
     cells: &mut C,
 ) -> Result<(), NoMemory>
-    ensures ok { OnOk result (C.values cells.new ≡ slice_set (C.values cells.old) cell (value (term_tree term.now) (scope env.now) (C.values cells.old))) }
+    ensures ok { OnOk result (C.values cells.new
+        ≡ slice_set (C.values cells.old) cell
+        (value (term_tree term.now) (scope env.now) (C.values cells.old))) }
     ensures err { OnErr result (C.values cells.new ≡ C.values cells.old) }
     ensures marked { C.marked cells.new ≡ C.marked cells.old }
 {
@@ -58,7 +62,9 @@ fn assign_made<C: Cells>(
     env: &Env,
     cells: &mut C,
 ) -> Result<(), NoMemory>
-    ensures ok { OnOk result (C.values cells.new ≡ slice_set (C.values cells.old) cell (value (term_tree term.now) (scope env.now) (C.values cells.old))) }
+    ensures ok { OnOk result (C.values cells.new
+        ≡ slice_set (C.values cells.old) cell
+        (value (term_tree term.now) (scope env.now) (C.values cells.old))) }
     ensures err { OnErr result (C.values cells.new ≡ C.values cells.old) }
     ensures marked { C.marked cells.new ≡ C.marked cells.old }
 {
@@ -76,7 +82,9 @@ pub(crate) fn assign_item<C: Cells>(
     env: &Env,
     cells: &mut C,
 ) -> Result<(), NoMemory>
-    ensures ok { OnOk result (C.values cells.new ≡ after (AssignItem cell (term_tree at.entry.0.now) at.entry.1 (term_tree term.now)) (scope env.now) (C.values cells.old)) }
+    ensures ok { OnOk result (C.values cells.new
+        ≡ after (AssignItem cell (term_tree at.entry.0.now) at.entry.1 (term_tree term.now))
+        (scope env.now) (C.values cells.old)) }
     ensures err { OnErr result (C.values cells.new ≡ C.values cells.old) }
     ensures marked { C.marked cells.new ≡ C.marked cells.old }
 {

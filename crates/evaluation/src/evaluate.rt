@@ -17,7 +17,8 @@ use terms::{Cells, Env, NoMemory, Scalar, Term, Value};
 /// The value of a term in a scope and a state. `NoMemory` where a growth was refused; a scalar takes no memory, unless it
 /// is one of a sequence or an array that the term makes.
 pub fn eval<C: Cells>(alloc: Global, term: &Term, env: &Env, cells: &C) -> Result<Value, NoMemory>
-    ensures { IfOk result (λ v. v ≡ value (term_tree term.now) (scope env.now) (C.values cells.now)) }
+    ensures { IfOk result (λ v. v
+        ≡ value (term_tree term.now) (scope env.now) (C.values cells.now)) }
 {
     match scalar_at_once(term, env, cells) {
         Some(scalar) => Ok(Value::of_scalar(scalar)),
@@ -28,7 +29,8 @@ pub fn eval<C: Cells>(alloc: Global, term: &Term, env: &Env, cells: &C) -> Resul
 // The same for a term that isn't read off at once.
 #[inline(never)]
 fn eval_other<C: Cells>(alloc: Global, term: &Term, env: &Env, cells: &C) -> Result<Value, NoMemory>
-    ensures { IfOk result (λ v. v ≡ value (term_tree term.now) (scope env.now) (C.values cells.now)) }
+    ensures { IfOk result (λ v. v
+        ≡ value (term_tree term.now) (scope env.now) (C.values cells.now)) }
 {
     match found(term, env, cells) {
         Some(scalar) => Ok(Value::of_scalar(scalar)),
@@ -43,14 +45,16 @@ pub(crate) fn made<C: Cells>(
     env: &Env,
     cells: &C,
 ) -> Result<Value, NoMemory>
-    ensures { IfOk result (λ v. v ≡ value (term_tree term.now) (scope env.now) (C.values cells.now)) }
+    ensures { IfOk result (λ v. v
+        ≡ value (term_tree term.now) (scope env.now) (C.values cells.now)) }
 {
     parts::owned(alloc, look(alloc, term, env, cells))
 }
 
 /// The scalar that a term is, first of all as a whole number; `None` where it is none, or where memory is needed to find it.
 pub(crate) fn found<C: Cells>(term: &Term, env: &Env, cells: &C) -> Option<Scalar>
-    ensures { IfSome result (λ s. value (term_tree term.now) (scope env.now) (C.values cells.now) ≡ Just s) }
+    ensures { IfSome result
+        (λ s. value (term_tree term.now) (scope env.now) (C.values cells.now) ≡ Just s) }
 {
     match number_of(term, env, cells) {
         Some(number) => Some(Scalar::Int(number)),
@@ -61,7 +65,8 @@ pub(crate) fn found<C: Cells>(term: &Term, env: &Env, cells: &C) -> Option<Scala
 /// Whether a term is true in a scope and a state.
 #[inline(always)]
 pub fn is_true<C: Cells>(alloc: Global, term: &Term, env: &Env, cells: &C) -> Result<bool, NoMemory>
-    ensures { IfOk result (λ t. t ≡ truth (value (term_tree term.now) (scope env.now) (C.values cells.now))) }
+    ensures { IfOk result (λ t. t
+        ≡ truth (value (term_tree term.now) (scope env.now) (C.values cells.now))) }
 {
     match truth_at_once(term, env, cells) {
         Some(truth) => Ok(truth),
@@ -77,7 +82,8 @@ fn is_other_true<C: Cells>(
     env: &Env,
     cells: &C,
 ) -> Result<bool, NoMemory>
-    ensures { IfOk result (λ t. t ≡ truth (value (term_tree term.now) (scope env.now) (C.values cells.now))) }
+    ensures { IfOk result (λ t. t
+        ≡ truth (value (term_tree term.now) (scope env.now) (C.values cells.now))) }
 {
     match truth_worked_out(term, env, cells) {
         Some(truth) => Ok(truth),
@@ -92,7 +98,8 @@ fn is_scalar_true<C: Cells>(
     env: &Env,
     cells: &C,
 ) -> Result<bool, NoMemory>
-    ensures { IfOk result (λ t. t ≡ truth (value (term_tree term.now) (scope env.now) (C.values cells.now))) }
+    ensures { IfOk result (λ t. t
+        ≡ truth (value (term_tree term.now) (scope env.now) (C.values cells.now))) }
 {
     match scalar_of(term, env, cells) {
         Some(scalar) => Ok(truth_in(scalar)),
@@ -108,7 +115,8 @@ fn is_made_true<C: Cells>(
     env: &Env,
     cells: &C,
 ) -> Result<bool, NoMemory>
-    ensures { IfOk result (λ t. t ≡ truth (value (term_tree term.now) (scope env.now) (C.values cells.now))) }
+    ensures { IfOk result (λ t. t
+        ≡ truth (value (term_tree term.now) (scope env.now) (C.values cells.now))) }
 {
     let seen = look(alloc, term, env, cells)?;
     let truth = seen.truth();

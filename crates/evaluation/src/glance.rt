@@ -14,7 +14,8 @@ use terms::{Cells, Env, Link, Operand, Operator, Scalar, Term, Value};
 /// The scalar that a term is; `None` where it is none, or where memory is needed to find it.
 #[cycle(glance)]
 pub(crate) fn scalar_of<C: Cells>(term: &Term, env: &Env, cells: &C) -> Option<Scalar>
-    ensures { IfSome result (λ s. value (term_tree term.now) (scope env.now) (C.values cells.now) ≡ Just s) }
+    ensures { IfSome result
+        (λ s. value (term_tree term.now) (scope env.now) (C.values cells.now) ≡ Just s) }
 {
     let first = first_of(&term.first, env, cells)?;
     with_links(first, term.links.as_slice(), env, cells)
@@ -22,7 +23,8 @@ pub(crate) fn scalar_of<C: Cells>(term: &Term, env: &Env, cells: &C) -> Option<S
 
 #[cycle(glance)]
 fn first_of<C: Cells>(operand: &Operand, env: &Env, cells: &C) -> Option<Scalar>
-    ensures { IfSome result (λ s. value (operand_tree operand.now) (scope env.now) (C.values cells.now) ≡ Just s) }
+    ensures { IfSome result
+        (λ s. value (operand_tree operand.now) (scope env.now) (C.values cells.now) ≡ Just s) }
 {
     match read_off(operand, env, cells) {
         Some(scalar) => Some(scalar),
@@ -33,7 +35,9 @@ fn first_of<C: Cells>(operand: &Operand, env: &Env, cells: &C) -> Option<Scalar>
 // The scalar that links make of the one before them.
 #[cycle(glance)]
 fn with_links<C: Cells>(first: Scalar, links: &[Link], env: &Env, cells: &C) -> Option<Scalar>
-    ensures { IfSome result (λ s. values_on (map link_tree links.now) (scope env.now) (C.values cells.now) (Just first) ≡ Just s) }
+    ensures { IfSome result
+        (λ s. values_on (map link_tree links.now) (scope env.now) (C.values cells.now) (Just first)
+        ≡ Just s) }
 {
     let mut scalar = first;
     for link in links {
@@ -44,7 +48,9 @@ fn with_links<C: Cells>(first: Scalar, links: &[Link], env: &Env, cells: &C) -> 
 
 #[cycle(glance)]
 fn with_link<C: Cells>(left: Scalar, link: &Link, env: &Env, cells: &C) -> Option<Scalar>
-    ensures { IfSome result (λ s. value_on (link_tree link.now) (scope env.now) (C.values cells.now) (Just left) ≡ Just s) }
+    ensures { IfSome result
+        (λ s. value_on (link_tree link.now) (scope env.now) (C.values cells.now) (Just left)
+        ≡ Just s) }
 {
     match link {
         Link::Operator(operator, right) => {
@@ -58,7 +64,8 @@ fn with_link<C: Cells>(left: Scalar, link: &Link, env: &Env, cells: &C) -> Optio
 // The scalar that a right operand is: at once where it is read off, as most are.
 #[cycle(glance)]
 fn right_of<C: Cells>(term: &Term, env: &Env, cells: &C) -> Option<Scalar>
-    ensures { IfSome result (λ s. value (term_tree term.now) (scope env.now) (C.values cells.now) ≡ Just s) }
+    ensures { IfSome result
+        (λ s. value (term_tree term.now) (scope env.now) (C.values cells.now) ≡ Just s) }
 {
     if term.links.is_empty() {
         if let Some(scalar) = read_off(&term.first, env, cells) {
@@ -71,7 +78,8 @@ fn right_of<C: Cells>(term: &Term, env: &Env, cells: &C) -> Option<Scalar>
 // The scalar that stands in a slot, or in the state.
 #[inline(always)]
 fn read_off<C: Cells>(operand: &Operand, env: &Env, cells: &C) -> Option<Scalar>
-    ensures { IfSome result (λ s. value (operand_tree operand.now) (scope env.now) (C.values cells.now) ≡ Just s) }
+    ensures { IfSome result
+        (λ s. value (operand_tree operand.now) (scope env.now) (C.values cells.now) ≡ Just s) }
 {
     match operand {
         Operand::Known(scalar) => Some(*scalar),
@@ -87,7 +95,8 @@ fn read_off<C: Cells>(operand: &Operand, env: &Env, cells: &C) -> Option<Scalar>
 #[inline(never)]
 #[cycle(glance)]
 fn worked_out<C: Cells>(operand: &Operand, env: &Env, cells: &C) -> Option<Scalar>
-    ensures { IfSome result (λ s. value (operand_tree operand.now) (scope env.now) (C.values cells.now) ≡ Just s) }
+    ensures { IfSome result
+        (λ s. value (operand_tree operand.now) (scope env.now) (C.values cells.now) ≡ Just s) }
 {
     match operand {
         Operand::Not(a) => unary::inverse(scalar_of(a, env, cells)),
@@ -121,7 +130,8 @@ pub(crate) fn place_of<'a, C: Cells>(
     env: &Env,
     cells: &'a C,
 ) -> Option<&'a Value>
-    ensures { IfSome result (λ v. value (operand_tree operand.now) (scope env.now) (C.values cells.now) ≡ v.now) }
+    ensures { IfSome result
+        (λ v. value (operand_tree operand.now) (scope env.now) (C.values cells.now) ≡ v.now) }
 {
     match operand {
         Operand::Cell(n) => cells.get(*n),
@@ -137,7 +147,9 @@ pub(crate) fn place_of<'a, C: Cells>(
 // The items of a sequence or an array in the state.
 #[cycle(glance)]
 pub(crate) fn items_in<'a, C: Cells>(term: &Term, env: &Env, cells: &'a C) -> Option<&'a [Value]>
-    ensures { IfSome result (λ items. items_of (value (term_tree term.now) (scope env.now) (C.values cells.now)) ≡ items.now) }
+    ensures { IfSome result
+        (λ items. items_of (value (term_tree term.now) (scope env.now) (C.values cells.now))
+        ≡ items.now) }
 {
     if term.links.is_empty() {
         items_of(&term.first, env, cells)
@@ -149,7 +161,9 @@ pub(crate) fn items_in<'a, C: Cells>(term: &Term, env: &Env, cells: &'a C) -> Op
 #[cycle(glance)]
 #[tactic(auto, using(terms::specs::Linked::tail_by))]
 fn items_of<'a, C: Cells>(operand: &Operand, env: &Env, cells: &'a C) -> Option<&'a [Value]>
-    ensures { IfSome result (λ items. items_of (value (operand_tree operand.now) (scope env.now) (C.values cells.now)) ≡ items.now) }
+    ensures { IfSome result
+        (λ items. items_of (value (operand_tree operand.now) (scope env.now) (C.values cells.now))
+        ≡ items.now) }
 {
     match operand {
         Operand::Tail(a) => Some(without_first(items_in(a, env, cells)?)),

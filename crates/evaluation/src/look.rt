@@ -46,7 +46,8 @@ fn join<'a>(
     left: Seen<'_>,
     right: Result<Seen<'_>, NoMemory>,
 ) -> Result<Seen<'a>, NoMemory>
-    ensures { (d : Datum) → IfOk right.entry (λ v. seen v ≡ d) → IfOk result (λ v. seen v ≡ Just (combined operator (seen left.entry) d)) }
+    ensures { (d : Datum) → IfOk right.entry (λ v. seen v ≡ d)
+        → IfOk result (λ v. seen v ≡ Just (combined operator (seen left.entry) d)) }
 {
     match right {
         Ok(right) => {
@@ -71,7 +72,8 @@ pub(crate) fn look<'a, C: Cells>(
     env: &Env,
     cells: &'a C,
 ) -> Result<Seen<'a>, NoMemory>
-    ensures { IfOk result (λ v. seen v ≡ value (term_tree term.now) (scope env.now) (C.values cells.now)) }
+    ensures { IfOk result (λ v. seen v
+        ≡ value (term_tree term.now) (scope env.now) (C.values cells.now)) }
 {
     let first = look_first(alloc, &term.first, env, cells)?;
     look_on(alloc, first, term.links.as_slice(), env, cells)
@@ -86,7 +88,9 @@ fn look_on<'a, C: Cells>(
     env: &Env,
     cells: &'a C,
 ) -> Result<Seen<'a>, NoMemory>
-    ensures { IfOk result (λ v. seen v ≡ values_on (map link_tree links.now) (scope env.now) (C.values cells.now) (seen first.entry)) }
+    ensures { IfOk result (λ v. seen v
+        ≡ values_on (map link_tree links.now) (scope env.now) (C.values cells.now)
+        (seen first.entry)) }
 {
     let mut value = first;
     for link in links {
@@ -103,7 +107,8 @@ fn look_at<'a, C: Cells>(
     env: &Env,
     cells: &'a C,
 ) -> Result<Seen<'a>, NoMemory>
-    ensures { IfOk result (λ v. seen v ≡ value_on (link_tree link.now) (scope env.now) (C.values cells.now) (seen left.entry)) }
+    ensures { IfOk result (λ v. seen v
+        ≡ value_on (link_tree link.now) (scope env.now) (C.values cells.now) (seen left.entry)) }
 {
     match link {
         Link::Operator(operator, right) => { join(*operator, left, look(alloc, right, env, cells)) }
@@ -118,7 +123,8 @@ fn look_first<'a, C: Cells>(
     env: &Env,
     cells: &'a C,
 ) -> Result<Seen<'a>, NoMemory>
-    ensures { IfOk result (λ v. seen v ≡ value (operand_tree operand.now) (scope env.now) (C.values cells.now)) }
+    ensures { IfOk result (λ v. seen v
+        ≡ value (operand_tree operand.now) (scope env.now) (C.values cells.now)) }
 {
     match operand {
         Operand::Known(scalar) => Ok(Seen::of_scalar(*scalar)),

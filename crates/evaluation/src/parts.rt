@@ -104,7 +104,8 @@ pub(crate) fn item<'a>(
     list: Result<Seen<'a>, NoMemory>,
     at: usize,
 ) -> Result<Seen<'a>, NoMemory>
-    ensures { (d : Datum) → IfOk list.entry (λ v. seen v ≡ d) → IfOk result (λ v. seen v ≡ get_or (items_of d) at (Just (Int (pos 0)))) }
+    ensures { (d : Datum) → IfOk list.entry (λ v. seen v ≡ d)
+        → IfOk result (λ v. seen v ≡ get_or (items_of d) at (Just (Int (pos 0)))) }
 {
     Ok(item_of(alloc, list?, at))
 }
@@ -134,7 +135,8 @@ pub(crate) fn head<'a>(
     list: Result<Seen<'a>, NoMemory>,
     shape: &Shape,
 ) -> Result<Seen<'a>, NoMemory>
-    ensures { (d : Datum) → IfOk list.entry (λ v. seen v ≡ d) → IfOk result (λ v. seen v ≡ get_or (items_of d) 0 (default (shape_tree shape.now))) }
+    ensures { (d : Datum) → IfOk list.entry (λ v. seen v ≡ d)
+        → IfOk result (λ v. seen v ≡ get_or (items_of d) 0 (default (shape_tree shape.now))) }
 {
     let list = list?;
     if list.value().items().is_empty() {
@@ -149,7 +151,8 @@ pub(crate) fn tail<'a>(
     alloc: Global,
     list: Result<Seen<'_>, NoMemory>,
 ) -> Result<Seen<'a>, NoMemory>
-    ensures { (d : Datum) → IfOk list.entry (λ v. seen v ≡ d) → IfOk result (λ v. seen v ≡ pack (drop 1 (items_of d))) }
+    ensures { (d : Datum) → IfOk list.entry (λ v. seen v ≡ d)
+        → IfOk result (λ v. seen v ≡ pack (drop 1 (items_of d))) }
 {
     match list? {
         Seen::Lent(value) => match value.items().split_first() {
@@ -168,7 +171,8 @@ pub(crate) fn tail<'a>(
 
 /// How many items there are.
 pub(crate) fn length<'a>(list: Result<Seen<'_>, NoMemory>) -> Result<Seen<'a>, NoMemory>
-    ensures { (d : Datum) → IfOk list.entry (λ v. seen v ≡ d) → IfOk result (λ v. seen v ≡ Just (Int (pos (length (items_of d))))) }
+    ensures { (d : Datum) → IfOk list.entry (λ v. seen v ≡ d)
+        → IfOk result (λ v. seen v ≡ Just (Int (pos (length (items_of d))))) }
 {
     let list = list?;
     let length = list.length();
@@ -182,7 +186,8 @@ pub(crate) fn filled<'a>(
     item: Result<Seen<'_>, NoMemory>,
     count: u16,
 ) -> Result<Seen<'a>, NoMemory>
-    ensures { (d : Datum) → IfOk item.entry (λ v. seen v ≡ d) → IfOk result (λ v. seen v ≡ pack (replicate count d)) }
+    ensures { (d : Datum) → IfOk item.entry (λ v. seen v ≡ d)
+        → IfOk result (λ v. seen v ≡ pack (replicate count d)) }
 {
     let item = item?;
     let items = repeated(alloc, item.value(), count);
@@ -197,7 +202,8 @@ pub(crate) fn append<'a>(
     item: Result<Seen<'_>, NoMemory>,
     room: usize,
 ) -> Result<Seen<'a>, NoMemory>
-    ensures { (d : Datum) → IfOk item.entry (λ v. seen v ≡ d) → IfOk result (λ v. seen v ≡ appended room list d) }
+    ensures { (d : Datum) → IfOk item.entry (λ v. seen v ≡ d)
+        → IfOk result (λ v. seen v ≡ appended room list d) }
 {
     let mut items = list.into_items(alloc);
     let item = item?;
@@ -221,19 +227,22 @@ pub(crate) fn place_seen(
     listed: Listed,
     value: Result<Seen<'_>, NoMemory>,
 ) -> Result<usize, NoMemory>
-    ensures { (d : Datum) → IfOk value.entry (λ v. seen v ≡ d) → IfOk result (λ at. at ≡ place listed (scalar_of d)) }
+    ensures { (d : Datum) → IfOk value.entry (λ v. seen v ≡ d)
+        → IfOk result (λ at. at ≡ place listed (scalar_of d)) }
 {
     Ok(place_in(listed, value?.into_scalar()))
 }
 
 pub(crate) fn inverse<'a>(value: Result<Seen<'_>, NoMemory>) -> Result<Seen<'a>, NoMemory>
-    ensures { (d : Datum) → IfOk value.entry (λ v. seen v ≡ d) → IfOk result (λ v. seen v ≡ Just (Bool (not (truth d)))) }
+    ensures { (d : Datum) → IfOk value.entry (λ v. seen v ≡ d)
+        → IfOk result (λ v. seen v ≡ Just (Bool (not (truth d)))) }
 {
     Ok(Seen::of_scalar(Scalar::Bool(!truth_in(value?.into_scalar()))))
 }
 
 pub(crate) fn negative<'a>(value: Result<Seen<'_>, NoMemory>) -> Result<Seen<'a>, NoMemory>
-    ensures { (d : Datum) → IfOk value.entry (λ v. seen v ≡ d) → IfOk result (λ v. seen v ≡ Just (Int (whole (neg_ℤ (number d))))) }
+    ensures { (d : Datum) → IfOk value.entry (λ v. seen v ≡ d)
+        → IfOk result (λ v. seen v ≡ Just (Int (whole (neg_ℤ (number d))))) }
 {
     Ok(Seen::of_scalar(Scalar::Int(number::negative(value?.into_number()))))
 }

@@ -21,8 +21,11 @@ pub fn run<C: Cells>(
     env: &Env,
     cells: &mut C,
 ) -> Result<(), NoMemory>
-    ensures ok { OnOk result (C.values cells.new ≡ after (effect_tree effect.now) (scope env.now) (C.values cells.old)) }
-    ensures err { OnErr result (IsPart (effect_tree effect.now) (scope env.now) (C.values cells.old) (C.values cells.new)) }
+    ensures ok { OnOk result (C.values cells.new
+        ≡ after (effect_tree effect.now) (scope env.now) (C.values cells.old)) }
+    ensures err { OnErr result
+        (IsPart (effect_tree effect.now) (scope env.now) (C.values cells.old)
+        (C.values cells.new)) }
     ensures marked { C.marked cells.new ≡ C.marked cells.old }
 {
     for part in &effect.parts {
@@ -41,8 +44,10 @@ pub fn run<C: Cells>(
 #[inline(always)]
 #[cycle(run)]
 fn run_last<C: Cells>(alloc: Global, last: &Last, env: &Env, cells: &mut C) -> Result<(), NoMemory>
-    ensures ok { OnOk result (C.values cells.new ≡ after (last_tree last.now) (scope env.now) (C.values cells.old)) }
-    ensures err { OnErr result (IsPart (last_tree last.now) (scope env.now) (C.values cells.old) (C.values cells.new)) }
+    ensures ok { OnOk result (C.values cells.new
+        ≡ after (last_tree last.now) (scope env.now) (C.values cells.old)) }
+    ensures err { OnErr result
+        (IsPart (last_tree last.now) (scope env.now) (C.values cells.old) (C.values cells.new)) }
     ensures marked { C.marked cells.new ≡ C.marked cells.old }
 {
     match last {
@@ -56,8 +61,10 @@ fn run_last<C: Cells>(alloc: Global, last: &Last, env: &Env, cells: &mut C) -> R
 #[inline(never)]
 #[cycle(run)]
 fn run_other<C: Cells>(alloc: Global, last: &Last, env: &Env, cells: &mut C) -> Result<(), NoMemory>
-    ensures ok { OnOk result (C.values cells.new ≡ after (last_tree last.now) (scope env.now) (C.values cells.old)) }
-    ensures err { OnErr result (IsPart (last_tree last.now) (scope env.now) (C.values cells.old) (C.values cells.new)) }
+    ensures ok { OnOk result (C.values cells.new
+        ≡ after (last_tree last.now) (scope env.now) (C.values cells.old)) }
+    ensures err { OnErr result
+        (IsPart (last_tree last.now) (scope env.now) (C.values cells.old) (C.values cells.new)) }
     ensures marked { C.marked cells.new ≡ C.marked cells.old }
 {
     match last {
@@ -80,8 +87,13 @@ fn turns<C: Cells>(
     env: &Env,
     cells: &mut C,
 ) -> Result<(), NoMemory>
-    ensures ok { OnOk result (C.values cells.new ≡ each (turn slot (effect_tree body.now) (scope env.now)) (members listed) (C.values cells.old)) }
-    ensures err { OnErr result (AreParts (turn slot (effect_tree body.now) (scope env.now)) (IsPartOfTurn slot (effect_tree body.now) (scope env.now)) (members listed) (C.values cells.old) (C.values cells.new)) }
+    ensures ok { OnOk result (C.values cells.new
+        ≡ each (turn slot (effect_tree body.now) (scope env.now)) (members listed)
+        (C.values cells.old)) }
+    ensures err { OnErr result
+        (AreParts (turn slot (effect_tree body.now) (scope env.now))
+        (IsPartOfTurn slot (effect_tree body.now) (scope env.now)) (members listed)
+        (C.values cells.old) (C.values cells.new)) }
     ensures marked { C.marked cells.new ≡ C.marked cells.old }
 {
     if body.parts.is_empty() {
@@ -102,8 +114,13 @@ fn run_each<C: Cells>(
     env: &Env,
     cells: &mut C,
 ) -> Result<(), NoMemory>
-    ensures ok { OnOk result (C.values cells.new ≡ each (turn slot (effect_tree body.now) (scope env.now)) (members listed) (C.values cells.old)) }
-    ensures err { OnErr result (AreParts (turn slot (effect_tree body.now) (scope env.now)) (IsPartOfTurn slot (effect_tree body.now) (scope env.now)) (members listed) (C.values cells.old) (C.values cells.new)) }
+    ensures ok { OnOk result (C.values cells.new
+        ≡ each (turn slot (effect_tree body.now) (scope env.now)) (members listed)
+        (C.values cells.old)) }
+    ensures err { OnErr result
+        (AreParts (turn slot (effect_tree body.now) (scope env.now))
+        (IsPartOfTurn slot (effect_tree body.now) (scope env.now)) (members listed)
+        (C.values cells.old) (C.values cells.new)) }
     ensures marked { C.marked cells.new ≡ C.marked cells.old }
 {
     let mut inner = *env;

@@ -14,7 +14,8 @@ use terms::{Cells, Env, Link, Operand, Operator, Scalar, Term};
 /// The scalar that an operand is, in a slot or in the state. What is met most stands first, in its caller's frame.
 #[inline(always)]
 pub(crate) fn scalar_at<C: Cells>(operand: &Operand, env: &Env, cells: &C) -> Option<Scalar>
-    ensures { IfSome result (λ s. value (operand_tree operand.now) (scope env.now) (C.values cells.now) ≡ Just s) }
+    ensures { IfSome result
+        (λ s. value (operand_tree operand.now) (scope env.now) (C.values cells.now) ≡ Just s) }
 {
     if let Operand::Cell(n) = operand {
         return cells.get(*n)?.as_scalar();
@@ -30,7 +31,8 @@ pub(crate) fn scalar_at<C: Cells>(operand: &Operand, env: &Env, cells: &C) -> Op
 
 #[inline(never)]
 fn in_slot<C: Cells>(operand: &Operand, env: &Env, cells: &C) -> Option<Scalar>
-    ensures { IfSome result (λ s. value (operand_tree operand.now) (scope env.now) (C.values cells.now) ≡ Just s) }
+    ensures { IfSome result
+        (λ s. value (operand_tree operand.now) (scope env.now) (C.values cells.now) ≡ Just s) }
 {
     let _ = cells;
     match operand {
@@ -43,7 +45,9 @@ fn in_slot<C: Cells>(operand: &Operand, env: &Env, cells: &C) -> Option<Scalar>
 /// The whole number that an operand is, in a slot or in the state.
 #[inline(always)]
 pub(crate) fn number_at<C: Cells>(operand: &Operand, env: &Env, cells: &C) -> Option<i64>
-    ensures { IfSome result (λ n. value (operand_tree operand.now) (scope env.now) (C.values cells.now) ≡ Just (Scalar.Int n)) }
+    ensures { IfSome result
+        (λ n. value (operand_tree operand.now) (scope env.now) (C.values cells.now)
+        ≡ Just (Scalar.Int n)) }
 {
     if let Operand::Cell(n) = operand {
         return cells.get(*n)?.as_number();
@@ -59,7 +63,9 @@ pub(crate) fn number_at<C: Cells>(operand: &Operand, env: &Env, cells: &C) -> Op
 
 #[inline(never)]
 fn number_in_slot<C: Cells>(operand: &Operand, env: &Env, cells: &C) -> Option<i64>
-    ensures { IfSome result (λ n. value (operand_tree operand.now) (scope env.now) (C.values cells.now) ≡ Just (Scalar.Int n)) }
+    ensures { IfSome result
+        (λ n. value (operand_tree operand.now) (scope env.now) (C.values cells.now)
+        ≡ Just (Scalar.Int n)) }
 {
     let _ = cells;
     match operand {
@@ -72,7 +78,9 @@ fn number_in_slot<C: Cells>(operand: &Operand, env: &Env, cells: &C) -> Option<i
 /// The truth value that a term is where it is read off, or compares two operands that are.
 #[inline(always)]
 pub(crate) fn truth_at_once<C: Cells>(term: &Term, env: &Env, cells: &C) -> Option<bool>
-    ensures { IfSome result (λ t. value (term_tree term.now) (scope env.now) (C.values cells.now) ≡ Just (Scalar.Bool t)) }
+    ensures { IfSome result
+        (λ t. value (term_tree term.now) (scope env.now) (C.values cells.now)
+        ≡ Just (Scalar.Bool t)) }
 {
     let links = term.links.as_slice();
     linked_truth(&term.first, links, env, cells)
@@ -80,7 +88,10 @@ pub(crate) fn truth_at_once<C: Cells>(term: &Term, env: &Env, cells: &C) -> Opti
 
 #[inline(always)]
 fn linked_truth<C: Cells>(first: &Operand, links: &[Link], env: &Env, cells: &C) -> Option<bool>
-    ensures { IfSome result (λ t. values_on (map link_tree links.now) (scope env.now) (C.values cells.now) (value (operand_tree first.now) (scope env.now) (C.values cells.now)) ≡ Just (Scalar.Bool t)) }
+    ensures { IfSome result
+        (λ t. values_on (map link_tree links.now) (scope env.now) (C.values cells.now)
+        (value (operand_tree first.now) (scope env.now) (C.values cells.now))
+        ≡ Just (Scalar.Bool t)) }
 {
     match links.split_first() {
         None => truth_in_cell(first, env, cells),
@@ -95,7 +106,9 @@ fn linked_truth<C: Cells>(first: &Operand, links: &[Link], env: &Env, cells: &C)
 
 #[inline(always)]
 fn truth_in_cell<C: Cells>(operand: &Operand, env: &Env, cells: &C) -> Option<bool>
-    ensures { IfSome result (λ t. value (operand_tree operand.now) (scope env.now) (C.values cells.now) ≡ Just (Scalar.Bool t)) }
+    ensures { IfSome result
+        (λ t. value (operand_tree operand.now) (scope env.now) (C.values cells.now)
+        ≡ Just (Scalar.Bool t)) }
 {
     let _ = env;
     if let Operand::Cell(n) = operand {
@@ -106,7 +119,10 @@ fn truth_in_cell<C: Cells>(operand: &Operand, env: &Env, cells: &C) -> Option<bo
 
 #[inline(always)]
 fn compared_at_once<C: Cells>(first: &Operand, link: &Link, env: &Env, cells: &C) -> Option<bool>
-    ensures { IfSome result (λ t. value_on (link_tree link.now) (scope env.now) (C.values cells.now) (value (operand_tree first.now) (scope env.now) (C.values cells.now)) ≡ Just (Scalar.Bool t)) }
+    ensures { IfSome result
+        (λ t. value_on (link_tree link.now) (scope env.now) (C.values cells.now)
+        (value (operand_tree first.now) (scope env.now) (C.values cells.now))
+        ≡ Just (Scalar.Bool t)) }
 {
     match link {
         Link::Operator(operator, right) => {
@@ -125,7 +141,9 @@ fn compared_at_once<C: Cells>(first: &Operand, link: &Link, env: &Env, cells: &C
 /// Whether an operator that compares holds of two whole numbers; `None` where it compares none.
 #[inline(always)]
 pub(crate) fn compared(operator: Operator, left: i64, right: i64) -> Option<bool>
-    ensures { IfSome result (λ t. combined operator (Just (Scalar.Int left)) (Just (Scalar.Int right)) ≡ Scalar.Bool t) }
+    ensures { IfSome result
+        (λ t. combined operator (Just (Scalar.Int left)) (Just (Scalar.Int right))
+        ≡ Scalar.Bool t) }
 {
     match operator {
         Operator::Same => Some(left == right),
@@ -145,7 +163,10 @@ fn compared_as_scalars<C: Cells>(
     env: &Env,
     cells: &C,
 ) -> Option<bool>
-    ensures { IfSome result (λ t. combined operator (value (operand_tree first.now) (scope env.now) (C.values cells.now)) (value (term_tree right.now) (scope env.now) (C.values cells.now)) ≡ Scalar.Bool t) }
+    ensures { IfSome result
+        (λ t. combined operator
+        (value (operand_tree first.now) (scope env.now) (C.values cells.now))
+        (value (term_tree right.now) (scope env.now) (C.values cells.now)) ≡ Scalar.Bool t) }
 {
     let left = scalar_at(first, env, cells)?;
     let right = scalar_alone(right, env, cells)?;
@@ -159,7 +180,8 @@ fn compared_as_scalars<C: Cells>(
 // The scalar that a term of one operand is.
 #[inline(always)]
 fn scalar_alone<C: Cells>(term: &Term, env: &Env, cells: &C) -> Option<Scalar>
-    ensures { IfSome result (λ s. value (term_tree term.now) (scope env.now) (C.values cells.now) ≡ Just s) }
+    ensures { IfSome result
+        (λ s. value (term_tree term.now) (scope env.now) (C.values cells.now) ≡ Just s) }
 {
     if term.links.is_empty() {
         return scalar_at(&term.first, env, cells);
@@ -170,7 +192,8 @@ fn scalar_alone<C: Cells>(term: &Term, env: &Env, cells: &C) -> Option<Scalar>
 /// The scalar that a term is where it is read off, or a whole number made of two that are.
 #[inline(always)]
 pub(crate) fn scalar_at_once<C: Cells>(term: &Term, env: &Env, cells: &C) -> Option<Scalar>
-    ensures { IfSome result (λ s. value (term_tree term.now) (scope env.now) (C.values cells.now) ≡ Just s) }
+    ensures { IfSome result
+        (λ s. value (term_tree term.now) (scope env.now) (C.values cells.now) ≡ Just s) }
 {
     let links = term.links.as_slice();
     linked_scalar(&term.first, links, env, cells)
@@ -178,7 +201,9 @@ pub(crate) fn scalar_at_once<C: Cells>(term: &Term, env: &Env, cells: &C) -> Opt
 
 #[inline(always)]
 fn linked_scalar<C: Cells>(first: &Operand, links: &[Link], env: &Env, cells: &C) -> Option<Scalar>
-    ensures { IfSome result (λ s. values_on (map link_tree links.now) (scope env.now) (C.values cells.now) (value (operand_tree first.now) (scope env.now) (C.values cells.now)) ≡ Just s) }
+    ensures { IfSome result
+        (λ s. values_on (map link_tree links.now) (scope env.now) (C.values cells.now)
+        (value (operand_tree first.now) (scope env.now) (C.values cells.now)) ≡ Just s) }
 {
     match links.split_first() {
         None => scalar_at(first, env, cells),
@@ -193,7 +218,10 @@ fn linked_scalar<C: Cells>(first: &Operand, links: &[Link], env: &Env, cells: &C
 
 #[inline(always)]
 fn number_at_once<C: Cells>(first: &Operand, link: &Link, env: &Env, cells: &C) -> Option<i64>
-    ensures { IfSome result (λ n. value_on (link_tree link.now) (scope env.now) (C.values cells.now) (value (operand_tree first.now) (scope env.now) (C.values cells.now)) ≡ Just (Scalar.Int n)) }
+    ensures { IfSome result
+        (λ n. value_on (link_tree link.now) (scope env.now) (C.values cells.now)
+        (value (operand_tree first.now) (scope env.now) (C.values cells.now))
+        ≡ Just (Scalar.Int n)) }
 {
     match link {
         Link::Operator(operator, right) => {
@@ -211,7 +239,9 @@ fn number_at_once<C: Cells>(first: &Operand, link: &Link, env: &Env, cells: &C) 
 /// The whole number that a term of one operand is.
 #[inline(always)]
 pub(crate) fn number_alone<C: Cells>(term: &Term, env: &Env, cells: &C) -> Option<i64>
-    ensures { IfSome result (λ n. value (term_tree term.now) (scope env.now) (C.values cells.now) ≡ Just (Scalar.Int n)) }
+    ensures { IfSome result
+        (λ n. value (term_tree term.now) (scope env.now) (C.values cells.now)
+        ≡ Just (Scalar.Int n)) }
 {
     if term.links.is_empty() {
         return number_at(&term.first, env, cells);
@@ -222,7 +252,8 @@ pub(crate) fn number_alone<C: Cells>(term: &Term, env: &Env, cells: &C) -> Optio
 /// The whole number that an operator makes of two; `None` where it makes none.
 #[inline(always)]
 pub(crate) fn calculated(operator: Operator, left: i64, right: i64) -> Option<i64>
-    ensures { IfSome result (λ n. combined operator (Just (Scalar.Int left)) (Just (Scalar.Int right)) ≡ Scalar.Int n) }
+    ensures { IfSome result
+        (λ n. combined operator (Just (Scalar.Int left)) (Just (Scalar.Int right)) ≡ Scalar.Int n) }
 {
     match operator {
         Operator::Plus => Some(number::sum(left, right)),

@@ -26,8 +26,13 @@ pub(crate) fn assign_turns<C: Cells>(
     env: &Env,
     cells: &mut C,
 ) -> Result<(), NoMemory>
-    ensures ok { OnOk result (C.values cells.new ≡ each (turn slot (Assign cell (term_tree term.now)) (scope env.now)) (members listed) (C.values cells.old)) }
-    ensures err { OnErr result (AreParts (turn slot (Assign cell (term_tree term.now)) (scope env.now)) (IsPartOfTurn slot (Assign cell (term_tree term.now)) (scope env.now)) (members listed) (C.values cells.old) (C.values cells.new)) }
+    ensures ok { OnOk result (C.values cells.new
+        ≡ each (turn slot (Assign cell (term_tree term.now)) (scope env.now)) (members listed)
+        (C.values cells.old)) }
+    ensures err { OnErr result
+        (AreParts (turn slot (Assign cell (term_tree term.now)) (scope env.now))
+        (IsPartOfTurn slot (Assign cell (term_tree term.now)) (scope env.now)) (members listed)
+        (C.values cells.old) (C.values cells.new)) }
     ensures marked { C.marked cells.new ≡ C.marked cells.old }
 {
     match number_left(slot, listed, cell, term, env, cells) {
@@ -46,8 +51,13 @@ fn assign_each<C: Cells>(
     env: &Env,
     cells: &mut C,
 ) -> Result<(), NoMemory>
-    ensures ok { OnOk result (C.values cells.new ≡ each (turn slot (Assign cell (term_tree term.now)) (scope env.now)) (members listed) (C.values cells.old)) }
-    ensures err { OnErr result (AreParts (turn slot (Assign cell (term_tree term.now)) (scope env.now)) (IsPartOfTurn slot (Assign cell (term_tree term.now)) (scope env.now)) (members listed) (C.values cells.old) (C.values cells.new)) }
+    ensures ok { OnOk result (C.values cells.new
+        ≡ each (turn slot (Assign cell (term_tree term.now)) (scope env.now)) (members listed)
+        (C.values cells.old)) }
+    ensures err { OnErr result
+        (AreParts (turn slot (Assign cell (term_tree term.now)) (scope env.now))
+        (IsPartOfTurn slot (Assign cell (term_tree term.now)) (scope env.now)) (members listed)
+        (C.values cells.old) (C.values cells.new)) }
     ensures marked { C.marked cells.new ≡ C.marked cells.old }
 {
     let mut inner = *env;
@@ -67,7 +77,9 @@ fn number_left<C: Cells>(
     env: &Env,
     cells: &C,
 ) -> Option<i64>
-    ensures { IfSome result (λ n. each (turn slot (Assign cell (term_tree term.now)) (scope env.now)) (members listed) (C.values cells.now) ≡ slice_set (C.values cells.now) cell (Just (Scalar.Int n))) }
+    ensures { IfSome result
+        (λ n. each (turn slot (Assign cell (term_tree term.now)) (scope env.now)) (members listed)
+        (C.values cells.now) ≡ slice_set (C.values cells.now) cell (Just (Scalar.Int n))) }
 {
     let first = own_number(&term.first, cell, cells)?;
     let links = term.links.as_slice();
@@ -79,7 +91,9 @@ fn number_left<C: Cells>(
 
 #[inline(always)]
 fn own_number<C: Cells>(operand: &Operand, cell: usize, cells: &C) -> Option<i64>
-    ensures { IfSome result (λ n. (operand_tree operand.now ≡ Cell cell) × (slice_get (C.values cells.now) cell ≡ Some (Just (Scalar.Int n)))) }
+    ensures { IfSome result
+        (λ n. (operand_tree operand.now ≡ Cell cell)
+        × (slice_get (C.values cells.now) cell ≡ Some (Just (Scalar.Int n)))) }
 {
     if let Operand::Cell(n) = operand {
         if *n == cell {
@@ -98,7 +112,9 @@ fn number_carried<C: Cells>(
     env: &Env,
     cells: &C,
 ) -> Option<i64>
-    ensures { IfSome result (λ n. carried slot (map link_tree links.now) (scope env.now) (C.values cells.now) (members listed) (Just (Scalar.Int first)) ≡ Just (Scalar.Int n)) }
+    ensures { IfSome result
+        (λ n. carried slot (map link_tree links.now) (scope env.now) (C.values cells.now)
+        (members listed) (Just (Scalar.Int first)) ≡ Just (Scalar.Int n)) }
 {
     let mut inner = *env;
     let mut number = first;

@@ -16,7 +16,9 @@ use terms::{Cells, Env, Link, Operand, Operator, Scalar, Term};
 #[inline(never)]
 #[cycle(numbers)]
 pub(crate) fn number_of<C: Cells>(term: &Term, env: &Env, cells: &C) -> Option<i64>
-    ensures { IfSome result (λ n. value (term_tree term.now) (scope env.now) (C.values cells.now) ≡ Just (Scalar.Int n)) }
+    ensures { IfSome result
+        (λ n. value (term_tree term.now) (scope env.now) (C.values cells.now)
+        ≡ Just (Scalar.Int n)) }
 {
     let first = first_number(&term.first, env, cells)?;
     numbers_on(first, term.links.as_slice(), env, cells)
@@ -25,7 +27,9 @@ pub(crate) fn number_of<C: Cells>(term: &Term, env: &Env, cells: &C) -> Option<i
 #[inline(always)]
 #[cycle(numbers)]
 fn first_number<C: Cells>(operand: &Operand, env: &Env, cells: &C) -> Option<i64>
-    ensures { IfSome result (λ n. value (operand_tree operand.now) (scope env.now) (C.values cells.now) ≡ Just (Scalar.Int n)) }
+    ensures { IfSome result
+        (λ n. value (operand_tree operand.now) (scope env.now) (C.values cells.now)
+        ≡ Just (Scalar.Int n)) }
 {
     match number_at(operand, env, cells) {
         Some(number) => Some(number),
@@ -37,7 +41,9 @@ fn first_number<C: Cells>(operand: &Operand, env: &Env, cells: &C) -> Option<i64
 #[inline(never)]
 #[cycle(numbers)]
 fn number_made<C: Cells>(operand: &Operand, env: &Env, cells: &C) -> Option<i64>
-    ensures { IfSome result (λ n. value (operand_tree operand.now) (scope env.now) (C.values cells.now) ≡ Just (Scalar.Int n)) }
+    ensures { IfSome result
+        (λ n. value (operand_tree operand.now) (scope env.now) (C.values cells.now)
+        ≡ Just (Scalar.Int n)) }
 {
     match operand {
         Operand::Negative(a) => unary::negative_number(number_of(a, env, cells)),
@@ -57,7 +63,9 @@ fn number_made<C: Cells>(operand: &Operand, env: &Env, cells: &C) -> Option<i64>
 #[inline(always)]
 #[cycle(numbers)]
 pub(crate) fn numbers_on<C: Cells>(first: i64, links: &[Link], env: &Env, cells: &C) -> Option<i64>
-    ensures { IfSome result (λ n. values_on (map link_tree links.now) (scope env.now) (C.values cells.now) (Just (Scalar.Int first)) ≡ Just (Scalar.Int n)) }
+    ensures { IfSome result
+        (λ n. values_on (map link_tree links.now) (scope env.now) (C.values cells.now)
+        (Just (Scalar.Int first)) ≡ Just (Scalar.Int n)) }
 {
     let mut number = first;
     for link in links {
@@ -69,7 +77,9 @@ pub(crate) fn numbers_on<C: Cells>(first: i64, links: &[Link], env: &Env, cells:
 #[inline(always)]
 #[cycle(numbers)]
 fn number_on<C: Cells>(left: i64, link: &Link, env: &Env, cells: &C) -> Option<i64>
-    ensures { IfSome result (λ n. value_on (link_tree link.now) (scope env.now) (C.values cells.now) (Just (Scalar.Int left)) ≡ Just (Scalar.Int n)) }
+    ensures { IfSome result
+        (λ n. value_on (link_tree link.now) (scope env.now) (C.values cells.now)
+        (Just (Scalar.Int left)) ≡ Just (Scalar.Int n)) }
 {
     match link {
         Link::Operator(operator, right) => {
@@ -84,7 +94,9 @@ fn number_on<C: Cells>(left: i64, link: &Link, env: &Env, cells: &C) -> Option<i
 #[inline(always)]
 #[cycle(numbers)]
 fn right_number<C: Cells>(term: &Term, env: &Env, cells: &C) -> Option<i64>
-    ensures { IfSome result (λ n. value (term_tree term.now) (scope env.now) (C.values cells.now) ≡ Just (Scalar.Int n)) }
+    ensures { IfSome result
+        (λ n. value (term_tree term.now) (scope env.now) (C.values cells.now)
+        ≡ Just (Scalar.Int n)) }
 {
     match number_alone(term, env, cells) {
         Some(number) => Some(number),
@@ -95,7 +107,9 @@ fn right_number<C: Cells>(term: &Term, env: &Env, cells: &C) -> Option<i64>
 // Whether a right operand is true: at once where it is read off or compares two that are.
 #[cycle(truths)]
 fn truth_of<C: Cells>(term: &Term, env: &Env, cells: &C) -> Option<bool>
-    ensures { IfSome result (λ t. value (term_tree term.now) (scope env.now) (C.values cells.now) ≡ Just (Scalar.Bool t)) }
+    ensures { IfSome result
+        (λ t. value (term_tree term.now) (scope env.now) (C.values cells.now)
+        ≡ Just (Scalar.Bool t)) }
 {
     match truth_at_once(term, env, cells) {
         Some(truth) => Some(truth),
@@ -107,7 +121,9 @@ fn truth_of<C: Cells>(term: &Term, env: &Env, cells: &C) -> Option<bool>
 #[inline(never)]
 #[cycle(truths)]
 pub(crate) fn truth_worked_out<C: Cells>(term: &Term, env: &Env, cells: &C) -> Option<bool>
-    ensures { IfSome result (λ t. value (term_tree term.now) (scope env.now) (C.values cells.now) ≡ Just (Scalar.Bool t)) }
+    ensures { IfSome result
+        (λ t. value (term_tree term.now) (scope env.now) (C.values cells.now)
+        ≡ Just (Scalar.Bool t)) }
 {
     let links = term.links.as_slice();
     match first_truth(&term.first, env, cells) {
@@ -122,7 +138,9 @@ pub(crate) fn truth_worked_out<C: Cells>(term: &Term, env: &Env, cells: &C) -> O
 #[inline(always)]
 #[cycle(truths)]
 fn first_truth<C: Cells>(operand: &Operand, env: &Env, cells: &C) -> Option<bool>
-    ensures { IfSome result (λ t. value (operand_tree operand.now) (scope env.now) (C.values cells.now) ≡ Just (Scalar.Bool t)) }
+    ensures { IfSome result
+        (λ t. value (operand_tree operand.now) (scope env.now) (C.values cells.now)
+        ≡ Just (Scalar.Bool t)) }
 {
     match scalar_at(operand, env, cells) {
         Some(scalar) => as_truth(scalar),
@@ -133,7 +151,9 @@ fn first_truth<C: Cells>(operand: &Operand, env: &Env, cells: &C) -> Option<bool
 #[inline(never)]
 #[cycle(truths)]
 fn truth_made<C: Cells>(operand: &Operand, env: &Env, cells: &C) -> Option<bool>
-    ensures { IfSome result (λ t. value (operand_tree operand.now) (scope env.now) (C.values cells.now) ≡ Just (Scalar.Bool t)) }
+    ensures { IfSome result
+        (λ t. value (operand_tree operand.now) (scope env.now) (C.values cells.now)
+        ≡ Just (Scalar.Bool t)) }
 {
     match operand {
         Operand::Not(a) => unary::inverse_truth(truth_of(a, env, cells)),
@@ -153,7 +173,9 @@ fn truths_on<C: Cells>(
     env: &Env,
     cells: &C,
 ) -> Option<bool>
-    ensures { IfSome result (λ t. values_on (map link_tree links.now) (scope env.now) (C.values cells.now) (so_far first first_truth) ≡ Just (Scalar.Bool t)) }
+    ensures { IfSome result
+        (λ t. values_on (map link_tree links.now) (scope env.now) (C.values cells.now)
+        (so_far first first_truth) ≡ Just (Scalar.Bool t)) }
 {
     let mut number = first;
     let mut truth = first_truth;
@@ -173,7 +195,9 @@ fn truths_on<C: Cells>(
 // What a link makes of a number: another one, or a truth value.
 #[inline(always)]
 fn linked_on<C: Cells>(left: i64, link: &Link, env: &Env, cells: &C) -> Option<(i64, Option<bool>)>
-    ensures { IfSome result (λ made. value_on (link_tree link.now) (scope env.now) (C.values cells.now) (Just (Scalar.Int left)) ≡ so_far made.0 made.1) }
+    ensures { IfSome result
+        (λ made. value_on (link_tree link.now) (scope env.now) (C.values cells.now)
+        (Just (Scalar.Int left)) ≡ so_far made.0 made.1) }
 {
     match link {
         Link::Operator(operator, right) => {
@@ -186,7 +210,9 @@ fn linked_on<C: Cells>(left: i64, link: &Link, env: &Env, cells: &C) -> Option<(
 
 #[inline(always)]
 fn made_of(operator: Operator, left: i64, right: i64) -> Option<(i64, Option<bool>)>
-    ensures { IfSome result (λ made. Just (combined operator (Just (Scalar.Int left)) (Just (Scalar.Int right))) ≡ so_far made.0 made.1) }
+    ensures { IfSome result
+        (λ made. Just (combined operator (Just (Scalar.Int left)) (Just (Scalar.Int right)))
+        ≡ so_far made.0 made.1) }
 {
     match compared(operator, left, right) {
         Some(truth) => Some((left, Some(truth))),
@@ -196,21 +222,27 @@ fn made_of(operator: Operator, left: i64, right: i64) -> Option<(i64, Option<boo
 
 #[inline(always)]
 fn same_truth(left: bool, found: Option<bool>) -> Option<bool>
-    ensures { (d : Datum) → IfSome found (λ t. d ≡ Just (Scalar.Bool t)) → IfSome result (λ t. Just (combined Operator.Same (Just (Scalar.Bool left)) d) ≡ Just (Scalar.Bool t)) }
+    ensures { (d : Datum) → IfSome found (λ t. d ≡ Just (Scalar.Bool t))
+        → IfSome result
+        (λ t. Just (combined Operator.Same (Just (Scalar.Bool left)) d) ≡ Just (Scalar.Bool t)) }
 {
     Some(left == found?)
 }
 
 #[inline(always)]
 fn other_truth(left: bool, found: Option<bool>) -> Option<bool>
-    ensures { (d : Datum) → IfSome found (λ t. d ≡ Just (Scalar.Bool t)) → IfSome result (λ t. Just (combined Operator.Differs (Just (Scalar.Bool left)) d) ≡ Just (Scalar.Bool t)) }
+    ensures { (d : Datum) → IfSome found (λ t. d ≡ Just (Scalar.Bool t))
+        → IfSome result
+        (λ t. Just (combined Operator.Differs (Just (Scalar.Bool left)) d) ≡ Just (Scalar.Bool t)) }
 {
     Some(left != found?)
 }
 
 #[cycle(truths)]
 fn truth_on<C: Cells>(left: bool, link: &Link, env: &Env, cells: &C) -> Option<bool>
-    ensures { IfSome result (λ t. value_on (link_tree link.now) (scope env.now) (C.values cells.now) (Just (Scalar.Bool left)) ≡ Just (Scalar.Bool t)) }
+    ensures { IfSome result
+        (λ t. value_on (link_tree link.now) (scope env.now) (C.values cells.now)
+        (Just (Scalar.Bool left)) ≡ Just (Scalar.Bool t)) }
 {
     match link {
         Link::Operator(operator, right) => match operator {

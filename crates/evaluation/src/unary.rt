@@ -11,28 +11,32 @@ use terms::{Scalar, Value};
 
 #[inline(always)]
 pub(crate) fn inverse(found: Option<Scalar>) -> Option<Scalar>
-    ensures { (d : Datum) → IfSome found (λ s. d ≡ Just s) → IfSome result (λ s. Just (Scalar.Bool (not (truth d))) ≡ Just s) }
+    ensures { (d : Datum) → IfSome found (λ s. d ≡ Just s)
+        → IfSome result (λ s. Just (Scalar.Bool (not (truth d))) ≡ Just s) }
 {
     Some(Scalar::Bool(!truth_in(found?)))
 }
 
 #[inline(always)]
 pub(crate) fn negative(found: Option<Scalar>) -> Option<Scalar>
-    ensures { (d : Datum) → IfSome found (λ s. d ≡ Just s) → IfSome result (λ s. Just (Scalar.Int (whole (neg_ℤ (number d)))) ≡ Just s) }
+    ensures { (d : Datum) → IfSome found (λ s. d ≡ Just s)
+        → IfSome result (λ s. Just (Scalar.Int (whole (neg_ℤ (number d)))) ≡ Just s) }
 {
     Some(Scalar::Int(number::negative(number_in(found?))))
 }
 
 #[inline(always)]
 pub(crate) fn inverse_truth(found: Option<bool>) -> Option<bool>
-    ensures { (d : Datum) → IfSome found (λ t. d ≡ Just (Scalar.Bool t)) → IfSome result (λ t. Just (Scalar.Bool (not (truth d))) ≡ Just (Scalar.Bool t)) }
+    ensures { (d : Datum) → IfSome found (λ t. d ≡ Just (Scalar.Bool t))
+        → IfSome result (λ t. Just (Scalar.Bool (not (truth d))) ≡ Just (Scalar.Bool t)) }
 {
     Some(!found?)
 }
 
 #[inline(always)]
 pub(crate) fn negative_number(found: Option<i64>) -> Option<i64>
-    ensures { (d : Datum) → IfSome found (λ n. d ≡ Just (Scalar.Int n)) → IfSome result (λ n. Just (Scalar.Int (whole (neg_ℤ (number d)))) ≡ Just (Scalar.Int n)) }
+    ensures { (d : Datum) → IfSome found (λ n. d ≡ Just (Scalar.Int n))
+        → IfSome result (λ n. Just (Scalar.Int (whole (neg_ℤ (number d)))) ≡ Just (Scalar.Int n)) }
 {
     Some(number::negative(found?))
 }
@@ -40,7 +44,8 @@ pub(crate) fn negative_number(found: Option<i64>) -> Option<i64>
 /// How many items there are.
 #[inline(always)]
 pub(crate) fn length_of(found: Option<&[Value]>) -> Option<i64>
-    ensures { (d : Datum) → IfSome found.entry (λ items. items_of d ≡ items.now) → IfSome result (λ n. Just (Scalar.Int (pos (length (items_of d)))) ≡ Just (Scalar.Int n)) }
+    ensures { (d : Datum) → IfSome found.entry (λ items. items_of d ≡ items.now)
+        → IfSome result (λ n. Just (Scalar.Int (pos (length (items_of d)))) ≡ Just (Scalar.Int n)) }
 {
     Some(found?.len() as i64)
 }
@@ -48,14 +53,16 @@ pub(crate) fn length_of(found: Option<&[Value]>) -> Option<i64>
 /// The item at a place.
 #[inline(always)]
 pub(crate) fn item_at(found: Option<&[Value]>, at: usize) -> Option<&Value>
-    ensures { (d other : Datum) → IfSome found.entry (λ items. items_of d ≡ items.now) → IfSome result (λ v. get_or (items_of d) at other ≡ v.now) }
+    ensures { (d other : Datum) → IfSome found.entry (λ items. items_of d ≡ items.now)
+        → IfSome result (λ v. get_or (items_of d) at other ≡ v.now) }
 {
     found?.get(at)
 }
 
 #[inline(always)]
 pub(crate) fn items_there(found: Option<&Value>) -> Option<&[Value]>
-    ensures { (d : Datum) → IfSome found.entry (λ v. d ≡ v.now) → IfSome result (λ items. items_of d ≡ items.now) }
+    ensures { (d : Datum) → IfSome found.entry (λ v. d ≡ v.now)
+        → IfSome result (λ items. items_of d ≡ items.now) }
 {
     Some(found?.items())
 }
@@ -69,14 +76,16 @@ pub(crate) fn scalar_there(found: Option<&Value>) -> Option<Scalar>
 
 #[inline(always)]
 pub(crate) fn number_there(found: Option<&Value>) -> Option<i64>
-    ensures { (d : Datum) → IfSome found.entry (λ v. d ≡ v.now) → IfSome result (λ n. d ≡ Just (Scalar.Int n)) }
+    ensures { (d : Datum) → IfSome found.entry (λ v. d ≡ v.now)
+        → IfSome result (λ n. d ≡ Just (Scalar.Int n)) }
 {
     found?.as_number()
 }
 
 #[inline(always)]
 pub(crate) fn truth_there(found: Option<&Value>) -> Option<bool>
-    ensures { (d : Datum) → IfSome found.entry (λ v. d ≡ v.now) → IfSome result (λ t. d ≡ Just (Scalar.Bool t)) }
+    ensures { (d : Datum) → IfSome found.entry (λ v. d ≡ v.now)
+        → IfSome result (λ t. d ≡ Just (Scalar.Bool t)) }
 {
     found?.as_truth()
 }

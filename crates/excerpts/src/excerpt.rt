@@ -33,7 +33,8 @@ fn put_address(out: &mut Vec<u8>, text: &[u8], at: usize) -> Result<(), NoMemory
 }
 
 fn put_sentence(out: &mut Vec<u8>, sentence: &str) -> Result<(), NoMemory>
-    ensures { OnOk result (out.new.items ≡ out.old.items ++ (codes ": " ++ (sentence.now ++ codes "\n"))) }
+    ensures { OnOk result (out.new.items ≡ out.old.items
+        ++ (codes ": " ++ (sentence.now ++ codes "\n"))) }
 {
     put(out, b": ")?;
     put_line(out, sentence.as_bytes())
@@ -71,7 +72,8 @@ fn put_excerpt(
     advice: &[u8],
 ) -> Result<(), NoMemory>
     requires { at ≤ length text.now }
-    ensures { OnOk result (out.new.items ≡ out.old.items ++ ((quoted text.now at ++ carets text.now at width) ++ (advice.now ++ codes "\n"))) }
+    ensures { OnOk result (out.new.items ≡ out.old.items
+        ++ ((quoted text.now at ++ carets text.now at width) ++ (advice.now ++ codes "\n"))) }
 {
     put_quoted(out, text, at)?;
     put_carets(out, text, at, width)?;
@@ -95,7 +97,8 @@ fn put_placed(
 
 // What is told where no place is known.
 fn put_bare(out: &mut Vec<u8>, told: Told) -> Result<(), NoMemory>
-    ensures { OnOk result (out.new.items ≡ out.old.items ++ (reason told.entry ++ closing told.entry)) }
+    ensures { OnOk result (out.new.items ≡ out.old.items
+        ++ (reason told.entry ++ closing told.entry)) }
 {
     put_reason(out, told)?;
     put_line(out, told.advice)

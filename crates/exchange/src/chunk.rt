@@ -45,7 +45,8 @@ impl<T: Turns> Exchange<T> {
     ///
     /// Nothing in the whole world that the exchange and its leases stand for changes.
     pub fn take_chunk(&mut self) -> Chunk
-        ensures chunk { HasGiven T.turn_of self.old result.first (turns_of result.turns.after) self.new }
+        ensures chunk { HasGiven T.turn_of self.old result.first
+            (turns_of result.turns.after) self.new }
         ensures front { result.turns.before ≡ [] }
         ensures first { result.first ≡ self.old.given }
         ensures rest { self.new ≡ record self.old { held = self.new.held; given = self.new.given } }
@@ -56,7 +57,8 @@ impl<T: Turns> Exchange<T> {
     }
 
     fn give(&mut self) -> Chunk
-        ensures chunk { HasGiven T.turn_of self.old result.first (turns_of result.turns.after) self.new }
+        ensures chunk { HasGiven T.turn_of self.old result.first
+            (turns_of result.turns.after) self.new }
         ensures front { result.turns.before ≡ [] }
         ensures first { result.first ≡ self.old.given }
         ensures rest { self.new ≡ record self.old { held = self.new.held; given = self.new.given } }

@@ -69,11 +69,40 @@ impl<T: Turns> Model for Exchange<T> {
 
     ghost Value = { ExchangeView (Setup T) };
 
-    ghost coded = { Prim.hlevel (codes, shape.the_row.coded, term.the_row.coded, effect.the_row.coded, datum_code) };
+    ghost coded = { Prim.hlevel
+        (codes, shape.the_row.coded, term.the_row.coded, effect.the_row.coded, datum_code) };
 
-    ghost view = { λ e. record { setup = arc_value e.setup; stubs = e.stubs.items; bound = e.bound; held = e.held.items; given = e.given; window = e.window } };
+    ghost view = { λ e.
+        record {
+          setup = arc_value e.setup;
+          stubs = e.stubs.items;
+          bound = e.bound;
+          held = e.held.items;
+          given = e.given;
+          window = e.window;
+        } };
 
-    ghost invariant = { λ e. (length e.walks.items ≡ length (composition (plan_of (arc_value e.setup)))) × IsValidExchange (system T.turn_of (arc_value e.setup)) (record { setup = arc_value e.setup; stubs = e.stubs.items; bound = e.bound; held = e.held.items; given = e.given; window = e.window }) × HasWindow (machine (system T.turn_of (arc_value e.setup))) (length (composition (plan_of (arc_value e.setup)))) (record { setup = arc_value e.setup; stubs = e.stubs.items; bound = e.bound; held = e.held.items; given = e.given; window = e.window }) };
+    ghost invariant = { λ e. (length e.walks.items
+        ≡ length (composition (plan_of (arc_value e.setup))))
+        × IsValidExchange (system T.turn_of (arc_value e.setup))
+        (record {
+          setup = arc_value e.setup;
+          stubs = e.stubs.items;
+          bound = e.bound;
+          held = e.held.items;
+          given = e.given;
+          window = e.window;
+        })
+        × HasWindow (machine (system T.turn_of (arc_value e.setup)))
+        (length (composition (plan_of (arc_value e.setup))))
+        (record {
+          setup = arc_value e.setup;
+          stubs = e.stubs.items;
+          bound = e.bound;
+          held = e.held.items;
+          given = e.given;
+          window = e.window;
+        }) };
 }
 
 impl<T: Turns> Exchange<T> {
@@ -157,9 +186,12 @@ impl<T: Turns> Exchange<T> {
     /// It is one commit of the whole world that the exchange and its leases stand for, wherever these are.
     pub fn commit(&mut self) -> u64
         ensures commit { HasCommitted T.turn_of self.old self.new }
-        ensures rest { self.new ≡ record self.old { bound = self.new.bound; stubs = self.new.stubs } }
-        ensures stubs { HavePassed (system T.turn_of self.old.setup) self.new.bound self.old.stubs self.new.stubs }
-        ensures count { result ≡ length (reference_below (machine_of T.turn_of self.old.setup) (rank_of_bound self.new.bound)) }
+        ensures rest { self.new
+            ≡ record self.old { bound = self.new.bound; stubs = self.new.stubs } }
+        ensures stubs { HavePassed
+            (system T.turn_of self.old.setup) self.new.bound self.old.stubs self.new.stubs }
+        ensures count { result ≡ length
+            (reference_below (machine_of T.turn_of self.old.setup) (rank_of_bound self.new.bound)) }
         ensures core { IsOneCommit T.turn_of self.old self.new }
     {
         machine_is_lawful(self.setup());
@@ -170,9 +202,12 @@ impl<T: Turns> Exchange<T> {
 
     fn raise_bound(&mut self) -> u64
         ensures commit { HasCommitted T.turn_of self.old self.new }
-        ensures rest { self.new ≡ record self.old { bound = self.new.bound; stubs = self.new.stubs } }
-        ensures stubs { HavePassed (system T.turn_of self.old.setup) self.new.bound self.old.stubs self.new.stubs }
-        ensures count { result ≡ length (reference_below (machine_of T.turn_of self.old.setup) (rank_of_bound self.new.bound)) }
+        ensures rest { self.new
+            ≡ record self.old { bound = self.new.bound; stubs = self.new.stubs } }
+        ensures stubs { HavePassed
+            (system T.turn_of self.old.setup) self.new.bound self.old.stubs self.new.stubs }
+        ensures count { result ≡ length
+            (reference_below (machine_of T.turn_of self.old.setup) (rank_of_bound self.new.bound)) }
     {
         machine_is_lawful(&self.setup);
         exchange_is_sound::<State, Action>();
@@ -229,7 +264,8 @@ fn pass_all<T: Turns>(setup: &Setup<T>, stubs: &mut [Stub], walks: &mut [Walk], 
     ensures stubs { HavePassed (system T.turn_of setup.now) bound stubs.old stubs.new }
     ensures many { length stubs.new ≡ length stubs.old }
     ensures passed { ArePassing (system T.turn_of setup.now) bound stubs.new }
-    ensures count { result ≡ turns_of (point (machine_of T.turn_of setup.now) (rank_of_bound bound)) (length (composition (plan_of setup.now))) }
+    ensures count { result ≡ turns_of (point (machine_of T.turn_of setup.now) (rank_of_bound bound))
+        (length (composition (plan_of setup.now))) }
 {
     machine_is_lawful(setup);
     reference_is_counted::<State, Action>();

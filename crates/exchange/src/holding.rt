@@ -56,11 +56,29 @@ impl<T: Turns> Model for Holding<T> {
 
     ghost Value = { LeaseView (Setup T) };
 
-    ghost coded = { Prim.hlevel (codes, shape.the_row.coded, term.the_row.coded, effect.the_row.coded, datum_code) };
+    ghost coded = { Prim.hlevel
+        (codes, shape.the_row.coded, term.the_row.coded, effect.the_row.coded, datum_code) };
 
-    ghost view = { λ l. record { component = l.component; tray = l.tray; out = l.out; copies = l.copies; floor = l.floor; window = l.window } };
+    ghost view = { λ l.
+        record {
+          component = l.component;
+          tray = l.tray;
+          out = l.out;
+          copies = l.copies;
+          floor = l.floor;
+          window = l.window;
+        } };
 
-    ghost invariant = { λ l. IsValidLease (machine_of T.turn_of l.component.setup) (length (composition (plan_of l.component.setup))) (record { component = l.component; tray = l.tray; out = l.out; copies = l.copies; floor = l.floor; window = l.window }) };
+    ghost invariant = { λ l. IsValidLease (machine_of T.turn_of l.component.setup)
+        (length (composition (plan_of l.component.setup)))
+        (record {
+          component = l.component;
+          tray = l.tray;
+          out = l.out;
+          copies = l.copies;
+          floor = l.floor;
+          window = l.window;
+        }) };
 }
 
 impl<T: Turns> Holding<T> {

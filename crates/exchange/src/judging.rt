@@ -58,7 +58,8 @@ fn is_same_bound(a: Bound, b: Bound) -> bool
 
 // Whether what is kept of a component is what the lease has.
 fn is_known<T: Turns>(stub: &Stub, lease: &Holding<T>) -> bool
-    ensures { (result ≡ true) ↔ IsKnown (machine_of T.turn_of lease.now.component.setup) stub.now lease.now }
+    ensures { (result ≡ true)
+        ↔ IsKnown (machine_of T.turn_of lease.now.component.setup) stub.now lease.now }
 {
     if !is_same_bound(lease.component.base(), stub.base) {
         return false;
@@ -76,8 +77,11 @@ impl<T: Turns> Exchange<T> {
     /// Whether a lease can meet the exchange: exactly where its setup and window are the exchange's (else 40), and base, floor, taken messages
     /// and standing sends are those that are kept of its component (else 41).
     pub fn judge(&self, lease: &Lease<T>) -> Result<(), MeetRefused>
-        ensures ok { IsOk result ↔ ((is_own ⟦<Setup<T> as PartialEq>⟧.eq self.now lease.now ≡ true) × Knows T.turn_of self.now lease.now) }
-        ensures other { IsErrOf result MeetRefused.OtherSetup ↔ (is_own ⟦<Setup<T> as PartialEq>⟧.eq self.now lease.now ≡ false) }
+        ensures ok { IsOk result ↔
+            ((is_own ⟦<Setup<T> as PartialEq>⟧.eq self.now lease.now ≡ true)
+            × Knows T.turn_of self.now lease.now) }
+        ensures other { IsErrOf result MeetRefused.OtherSetup
+            ↔ (is_own ⟦<Setup<T> as PartialEq>⟧.eq self.now lease.now ≡ false) }
     {
         if !self.is_own(lease) {
             return Err(MeetRefused::OtherSetup);
@@ -88,7 +92,8 @@ impl<T: Turns> Exchange<T> {
     // Whether a lease's setup and window are the exchange's; then both setups mean the same.
     pub(crate) fn is_own(&self, lease: &Lease<T>) -> bool
         ensures answer { result ≡ is_own ⟦<Setup<T> as PartialEq>⟧.eq self.now lease.now }
-        ensures same { result ≡ true → system T.turn_of self.now.setup ≡ system T.turn_of lease.now.component.setup }
+        ensures same { result ≡ true
+            → system T.turn_of self.now.setup ≡ system T.turn_of lease.now.component.setup }
         ensures window { result ≡ true → self.now.window ≡ lease.now.window }
     {
         if !self.has_setup(&lease.holding) {
@@ -111,7 +116,8 @@ impl<T: Turns> Exchange<T> {
 
     // The same of a lease whose setup means what the exchange's does, and whose window is the exchange's.
     pub(crate) fn judge_own(&self, lease: &Lease<T>) -> Result<(), MeetRefused>
-        requires same { system T.turn_of self.now.setup ≡ system T.turn_of lease.now.component.setup }
+        requires same { system T.turn_of self.now.setup
+            ≡ system T.turn_of lease.now.component.setup }
         ensures ok { IsOk result ↔ Knows T.turn_of self.now lease.now }
         ensures stranger { IfErr result (λ refused. refused ≡ MeetRefused.Stranger) }
     {

@@ -14,13 +14,15 @@ use task_seed::{Setup, Turns};
 
 /// Two leases are equal exactly where their components are, and their trays, outgoing messages, floors and windows are the same.
 pub fn equal_lease_law<T: Turns>(a: &Lease<T>, b: &Lease<T>)
-    ensures { (⟦<Lease<T> as PartialEq>⟧.eq a.now b.now ≡ true) ↔ AreEqualLeases ⟦<Component<T> as PartialEq>⟧.eq a.now b.now }
+    ensures { (⟦<Lease<T> as PartialEq>⟧.eq a.now b.now ≡ true)
+        ↔ AreEqualLeases ⟦<Component<T> as PartialEq>⟧.eq a.now b.now }
 {}
 
 /// Two exchanges are equal exactly where their setups are, and their windows, bounds, the turns held, the numbers given, and what is compared
 /// of their stubs are the same.
 pub fn equal_exchange_law<T: Turns>(a: &Exchange<T>, b: &Exchange<T>)
-    ensures { (⟦<Exchange<T> as PartialEq>⟧.eq a.now b.now ≡ true) ↔ AreEqualExchanges ⟦<Setup<T> as PartialEq>⟧.eq a.now b.now }
+    ensures { (⟦<Exchange<T> as PartialEq>⟧.eq a.now b.now ≡ true)
+        ↔ AreEqualExchanges ⟦<Setup<T> as PartialEq>⟧.eq a.now b.now }
 {}
 
 /// What exchanges hold of each component follows from what they hold in all, of which `meet` tells: where that is the same, so is this.

@@ -73,11 +73,13 @@ impl<T: Turns> Model for Lease<T> {
 
     ghost Value = { LeaseView (Setup T) };
 
-    ghost coded = { Prim.hlevel (codes, shape.the_row.coded, term.the_row.coded, effect.the_row.coded, datum_code) };
+    ghost coded = { Prim.hlevel
+        (codes, shape.the_row.coded, term.the_row.coded, effect.the_row.coded, datum_code) };
 
     ghost view = { λ l. l.holding };
 
-    ghost invariant = { λ l. KeepsToWindow (machine_of T.turn_of l.holding.component.setup) (length (composition (plan_of l.holding.component.setup))) l.holding };
+    ghost invariant = { λ l. KeepsToWindow (machine_of T.turn_of l.holding.component.setup)
+        (length (composition (plan_of l.holding.component.setup))) l.holding };
 }
 
 // So leases can wait in a pool.
@@ -118,7 +120,9 @@ impl<T: Turns> Lease<T> {
 
     /// The key of the entry that is done next, or the end where there is none.
     pub fn next(&self) -> Bound
-        ensures { rank_of_bound result ≡ next_key (machine_of T.turn_of self.now.component.setup) (next_entry T.turn_of self.now.component) }
+        ensures { rank_of_bound result
+            ≡ next_key (machine_of T.turn_of self.now.component.setup)
+            (next_entry T.turn_of self.now.component) }
     {
         self.holding.component.next()
     }
@@ -156,7 +160,9 @@ impl<T: Turns> Lease<T> {
     /// Where it has a window, at most so many own turns are done, and at most as many messages of each other component are done or pending.
     /// The call does nothing.
     pub fn soundness_law(&self)
-        ensures lease { IsLease (machine_of T.turn_of self.now.component.setup) self.now.component.number (lease_of self.now) }
+        ensures lease { IsLease
+            (machine_of T.turn_of self.now.component.setup) self.now.component.number
+            (lease_of self.now) }
         ensures holding { IsSoundLease T.turn_of self.now }
         ensures within { KeepsToWindow (machine_of T.turn_of self.now.component.setup)
             (length (composition (plan_of self.now.component.setup))) self.now }
@@ -183,13 +189,17 @@ impl<T: Turns> Lease<T> {
     /// left, before an own turn for which its window has no room, and where memory is refused, as [`Lease::run_and_tell`] says; that is an
     /// error only where the first entry was refused, and then nothing has changed.
     pub fn run_ahead(&mut self, alloc: Global, budget: u32) -> Result<u32, NoMemory>
-        ensures ahead { IfOk result (λ count. IsAhead (machine_of T.turn_of self.old.component.setup) self.old self.new count) }
+        ensures ahead { IfOk result (λ count. IsAhead
+            (machine_of T.turn_of self.old.component.setup) self.old self.new count) }
         ensures most { IfOk result (λ count. count ≤ budget) }
         ensures none { IfOk result (λ count. count ≡ 0 → (budget ≡ 0)
             ⊎ ((next_entry T.turn_of self.old.component ≡ None)
             ⊎ (may_go_on T.turn_of self.old ≡ false))) }
-        ensures moves { IfOk result (λ count. MovesBy T.turn_of self.old (replicate count (Process self.old.component.number)) self.new) }
-        ensures known { StaysKnown (machine_of T.turn_of self.old.component.setup) self.old.component.number (lease_of self.old) (lease_of self.new) }
+        ensures moves { IfOk result (λ count. MovesBy T.turn_of self.old
+            (replicate count (Process self.old.component.number)) self.new) }
+        ensures known { StaysKnown
+            (machine_of T.turn_of self.old.component.setup) self.old.component.number
+            (lease_of self.old) (lease_of self.new) }
         ensures few { StaysInWindow self.new }
         ensures kept { OnErr result (self.new ≡ self.old) }
     {
@@ -202,11 +212,15 @@ impl<T: Turns> Lease<T> {
 
     /// Does the same as `run_ahead`, and tells why it stopped too. Where memory was refused, what was processed before stays.
     pub fn run_and_tell(&mut self, alloc: Global, budget: u32) -> Ran
-        ensures ahead { IsAhead (machine_of T.turn_of self.old.component.setup) self.old self.new result.count }
+        ensures ahead { IsAhead
+            (machine_of T.turn_of self.old.component.setup) self.old self.new result.count }
         ensures most { result.count ≤ budget }
         ensures stop { HasStopped T.turn_of budget result.count result.stop self.new }
-        ensures moves { MovesBy T.turn_of self.old (replicate result.count (Process self.old.component.number)) self.new }
-        ensures known { StaysKnown (machine_of T.turn_of self.old.component.setup) self.old.component.number (lease_of self.old) (lease_of self.new) }
+        ensures moves { MovesBy T.turn_of self.old
+            (replicate result.count (Process self.old.component.number)) self.new }
+        ensures known { StaysKnown
+            (machine_of T.turn_of self.old.component.setup) self.old.component.number
+            (lease_of self.old) (lease_of self.new) }
         ensures few { StaysInWindow self.new }
         ensures kept { result.count ≡ 0 → self.new ≡ self.old }
     {
@@ -218,11 +232,15 @@ impl<T: Turns> Lease<T> {
     /// Delivers the whole tray, from the least message on, and answers how many messages that were, or the greatest `u64` where
     /// there were more. It takes no memory.
     pub fn settle(&mut self) -> u64
-        ensures delivered { AllDelivered (machine_of T.turn_of self.old.component.setup) self.old self.old.tray self.new }
+        ensures delivered { AllDelivered
+            (machine_of T.turn_of self.old.component.setup) self.old self.old.tray self.new }
         ensures tray { self.new.tray ≡ [] }
         ensures count { result ≡ min (length self.old.tray) (2 ^ 64 - 1) }
-        ensures moves { MovesBy T.turn_of self.old (deliveries self.old.component.number self.old.tray) self.new }
-        ensures known { StaysKnown (machine_of T.turn_of self.old.component.setup) self.old.component.number (lease_of self.old) (lease_of self.new) }
+        ensures moves { MovesBy T.turn_of self.old
+            (deliveries self.old.component.number self.old.tray) self.new }
+        ensures known { StaysKnown
+            (machine_of T.turn_of self.old.component.setup) self.old.component.number
+            (lease_of self.old) (lease_of self.new) }
         ensures few { StaysInWindow self.new }
     {
         machine_is_lawful(self.holding.setup());

@@ -171,7 +171,8 @@ fn bring(stubs: &mut [Stub], to: u16, came: Bag, copies: Bag) -> u64
 // All that is outgoing comes to the stubs, each message to its receiver's. Only the receivers are gone through, not all stubs.
 fn spread(stubs: &mut [Stub], out: &mut Bag, copies: &mut Bag, notes: &mut Notes)
     ensures many { length stubs.new ≡ length stubs.old }
-    ensures each { (j : ℕ) (stub : StubValue) → slice_get stubs.new j ≡ Some stub → IsReached out.old copies.old stubs.old j stub }
+    ensures each { (j : ℕ) (stub : StubValue) → slice_get stubs.new j ≡ Some stub
+        → IsReached out.old copies.old stubs.old j stub }
     ensures out { out.new ≡ [] }
     ensures copies { copies.new ≡ [] }
 {
@@ -209,7 +210,8 @@ fn pass_on<T: Turns>(
     requires many { length stubs.old ≡ length (composition (plan_of component.now.setup)) }
     requires arrived { Each (λ x. x.message.to ≡ component.now.number) tray.old }
     requires inbox { HasOwnInbox component.now.number stubs.old }
-    ensures passed { HasPassedOn component.now.number bound result out.old copies.old tray.old tray.new stubs.old stubs.new }
+    ensures passed { HasPassedOn component.now.number bound result out.old copies.old tray.old
+        tray.new stubs.old stubs.new }
     ensures arrived { Each (λ x. x.message.to ≡ component.now.number) tray.new }
     ensures floor { IsFloorOf T.turn_of component.now tray.new result }
     ensures out { out.new ≡ [] }
@@ -239,8 +241,11 @@ impl<T: Turns> Exchange<T> {
     /// In the whole world that the exchange and its leases stand for, wherever these are, messages meet their antimessages, and nothing else
     /// happens.
     pub fn meet(&mut self, lease: &mut Lease<T>) -> Result<Bound, MeetRefused>
-        ensures ok { IsOk result ↔ ((is_own ⟦<Setup<T> as PartialEq>⟧.eq self.old lease.old ≡ true) × Knows T.turn_of self.old lease.old) }
-        ensures other { IsErrOf result MeetRefused.OtherSetup ↔ (is_own ⟦<Setup<T> as PartialEq>⟧.eq self.old lease.old ≡ false) }
+        ensures ok { IsOk result ↔
+            ((is_own ⟦<Setup<T> as PartialEq>⟧.eq self.old lease.old ≡ true)
+            × Knows T.turn_of self.old lease.old) }
+        ensures other { IsErrOf result MeetRefused.OtherSetup
+            ↔ (is_own ⟦<Setup<T> as PartialEq>⟧.eq self.old lease.old ≡ false) }
         ensures bound { IfOk result (λ bound. bound ≡ self.old.bound) }
         ensures met { OnOk result (HaveMet T.turn_of self.old lease.old self.new lease.new) }
         ensures core { OnOk result (OnlyMeets T.turn_of self.old lease.old self.new lease.new) }
@@ -279,7 +284,8 @@ impl<T: Turns> Exchange<T> {
     /// so that the time doesn't grow with them. It is refused exactly where the windows differ (40), or base, floor, taken messages and standing
     /// sends aren't those that are kept of the lease's component (41); a refusal changes neither. It takes no memory.
     pub fn meet_own(&mut self, lease: &mut Lease<T>) -> Result<Bound, MeetRefused>
-        requires own { system T.turn_of self.old.setup ≡ system T.turn_of lease.old.component.setup }
+        requires own { system T.turn_of self.old.setup
+            ≡ system T.turn_of lease.old.component.setup }
         ensures ok { IsOk result ↔ ((same_window self.old.window lease.old.window ≡ true)
             × Knows T.turn_of self.old lease.old) }
         ensures other { IsErrOf result MeetRefused.OtherSetup
@@ -320,7 +326,8 @@ impl<T: Turns> Exchange<T> {
     /// met the exchange is, and stays it while it waits, whatever other leases do. Nothing is compared, so that the time grows only with what
     /// moves. It takes no memory.
     pub fn meet_known(&mut self, lease: &mut Lease<T>) -> Bound
-        requires own { system T.turn_of self.old.setup ≡ system T.turn_of lease.old.component.setup }
+        requires own { system T.turn_of self.old.setup
+            ≡ system T.turn_of lease.old.component.setup }
         requires window { self.old.window ≡ lease.old.window }
         requires known { Knows T.turn_of self.old lease.old }
         ensures bound { result ≡ self.old.bound }
@@ -338,7 +345,8 @@ impl<T: Turns> Exchange<T> {
 
     // The meeting. The cells of messages that are kept no longer serve the lease again.
     fn accept(&mut self, lease: &mut Lease<T>) -> Bound
-        requires same { system T.turn_of self.old.setup ≡ system T.turn_of lease.old.component.setup }
+        requires same { system T.turn_of self.old.setup
+            ≡ system T.turn_of lease.old.component.setup }
         requires window { self.old.window ≡ lease.old.window }
         requires matches { Knows T.turn_of self.old lease.old }
         ensures bound { result ≡ self.old.bound }
@@ -376,7 +384,8 @@ impl<T: Turns> Exchange<T> {
 
     // The same, where these are the cells.
     fn join(&mut self, lease: &mut Holding<T>, cells: &mut EventList<Signed>) -> Bound
-        requires same { system T.turn_of self.old.setup ≡ system T.turn_of lease.old.component.setup }
+        requires same { system T.turn_of self.old.setup
+            ≡ system T.turn_of lease.old.component.setup }
         requires window { self.old.window ≡ lease.old.window }
         requires within { IsInWindow (length (composition (plan_of lease.old.component.setup)))
             lease.old }

@@ -106,8 +106,15 @@ fn is_first_below(held: &EventList<Turned>, bound: Bound) -> bool
 fn pass_below(held: &mut EventList<Turned>, bound: Bound) -> Passed
     requires front { held.old.before ≡ [] }
     requires few { length (first_below (rank_of_bound bound) held.old.after) < 2 ^ 64 }
-    ensures rest { held.new ≡ record { before = []; after = first_from (rank_of_bound bound) held.old.after } }
-    ensures turns { result.turns ≡ record { before = onto (first_below (rank_of_bound bound) held.old.after) []; after = [] } }
+    ensures rest { held.new ≡ record {
+      before = [];
+      after = first_from (rank_of_bound bound) held.old.after;
+    } }
+    ensures turns { result.turns
+        ≡ record {
+          before = onto (first_below (rank_of_bound bound) held.old.after) [];
+          after = [];
+        } }
     ensures count { result.count ≡ length (first_below (rank_of_bound bound) held.old.after) }
 {
     let mut passed = Passed {

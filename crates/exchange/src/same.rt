@@ -16,7 +16,8 @@ use task_seed::{Setup, Turns};
 impl<T: Turns> PartialEq for Holding<T> {
     ghost eq = { same_lease ⟦<Component<T> as PartialEq>⟧.eq };
 
-    ghost laws = { partial_equiv_from_equiv (same_lease_equiv (same_held_equiv (setup_equiv T.Eq.laws))) };
+    ghost laws = { partial_equiv_from_equiv
+        (same_lease_equiv (same_held_equiv (setup_equiv T.Eq.laws))) };
 
     fn eq(&self, other: &Holding<T>) -> bool {
         self.component == other.component
@@ -32,7 +33,8 @@ impl<T: Turns> PartialEq for Holding<T> {
 impl<T: Turns> PartialEq for Lease<T> {
     ghost eq = { same_lease ⟦<Component<T> as PartialEq>⟧.eq };
 
-    ghost laws = { partial_equiv_from_equiv (same_lease_equiv (same_held_equiv (setup_equiv T.Eq.laws))) };
+    ghost laws = { partial_equiv_from_equiv
+        (same_lease_equiv (same_held_equiv (setup_equiv T.Eq.laws))) };
 
     fn eq(&self, other: &Lease<T>) -> bool {
         self.holding == other.holding

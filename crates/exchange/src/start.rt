@@ -108,9 +108,12 @@ impl<T: Turns> Exchange<T> {
         setup: Arc<Setup<T>>,
     ) -> Result<(Exchange<T>, Vec<Lease<T>>), NoMemory>
         ensures exchange { IfOk result (λ both. both.0 ≡ start_shared T.turn_of (arc_value setup)) }
-        ensures leases { IfOk result (λ both. both.1.items ≡ start_leases T.turn_of (arc_value setup)) }
-        ensures numbers { IfOk result (λ both. map number_of both.1.items ≡ numbers (arc_value setup)) }
-        ensures start { IfOk result (λ both. StandForStart T.turn_of (arc_value setup) both.0 both.1.items) }
+        ensures leases { IfOk result (λ both. both.1.items
+            ≡ start_leases T.turn_of (arc_value setup)) }
+        ensures numbers { IfOk result (λ both. map number_of both.1.items
+            ≡ numbers (arc_value setup)) }
+        ensures start { IfOk result (λ both. StandForStart T.turn_of
+            (arc_value setup) both.0 both.1.items) }
     {
         machine_is_lawful(&setup);
         exchange_is_core::<State, Action>();

@@ -68,13 +68,17 @@ impl Stub {
         requires ahead { self.old.ahead ≡ key_of (system T.turn_of setup.now) i self.old.passed }
         requires small { IfSome self.old.ahead (λ key. key.number < 4294967296) }
         requires few { self.old.passed ≤ 4294967296 }
-        requires before { (n : ℕ) → n < self.old.passed → turn_rank (system T.turn_of setup.now) i n < rank_of_bound bound }
-        ensures rest { self.new ≡ record self.old { passed = self.new.passed; ahead = self.new.ahead } }
+        requires before { (n : ℕ) → n < self.old.passed
+            → turn_rank (system T.turn_of setup.now) i n < rank_of_bound bound }
+        ensures rest { self.new
+            ≡ record self.old { passed = self.new.passed; ahead = self.new.ahead } }
         ensures ahead { self.new.ahead ≡ key_of (system T.turn_of setup.now) i self.new.passed }
         ensures small { IfSome self.new.ahead (λ key. key.number < 4294967296) }
         ensures few { self.new.passed ≤ 4294967296 }
-        ensures before { (n : ℕ) → n < self.new.passed → turn_rank (system T.turn_of setup.now) i n < rank_of_bound bound }
-        ensures from { rank_of_bound bound ≤ end_rank → rank_of_bound bound ≤ turn_rank (system T.turn_of setup.now) i self.new.passed }
+        ensures before { (n : ℕ) → n < self.new.passed
+            → turn_rank (system T.turn_of setup.now) i n < rank_of_bound bound }
+        ensures from { rank_of_bound bound ≤ end_rank
+            → rank_of_bound bound ≤ turn_rank (system T.turn_of setup.now) i self.new.passed }
     {
         while self.is_ahead_below(bound) {
             let Some(key) = self.ahead else {

@@ -2,7 +2,7 @@
 ghost use Rattle.std.specs.Prelude.{◌≡◌, IfOk};
 ghost use Rattle.explain.specs.Explanations.{IsLineExplanation};
 
-use crate::advice::{Advice, nearest};
+use crate::advice::Advice;
 use crate::marks::line_mark;
 use crate::texts::sentence;
 use excerpts::{Told, explanation, line_of};
@@ -39,35 +39,38 @@ pub fn explain_line(
         Some(mark) => line_of(bytes, mark.at.min(bytes.len())),
         None => bytes,
     };
-    let advice = advise_line(alloc, plan, kind, number, text)?;
+    let mut advice = Advice::new(alloc);
+    advise_line(plan, kind, number, text, &mut advice)?;
     let told = Told {
         number,
         sentence: sentence(number),
-        advice: advice.as_slice(),
+        advice: advice.as_bytes(),
     };
     explanation(alloc, name, bytes, mark, told)
 }
 
 fn advise_line(
-    alloc: Global,
     plan: &Plan,
     kind: FileKind,
     number: u8,
     line: &[u8],
-) -> Result<Vec<u8>, NoMemory> {
-    let mut advice = Advice::new(alloc);
+    advice: &mut Advice,
+) -> Result<(), NoMemory> {
     match number {
-        26 => advice.say("the last tick is at most 4294967296")?,
-        27 => advice.say("the second number of a row, the gap, is 0 to 65535")?,
-        28 => advise_task(plan, line, &mut advice)?,
-        30 => advise_component(plan, &mut advice)?,
-        51 => advise_action(alloc, plan, line, &mut advice)?,
+        26 => advice.say("the last tick is at most 4294967296"),
+        27 => advice.say("the second number of a row, the gap, is 0 to 65535"),
+        28 => advise_task(plan, line, advice),
+        30 => advice.count(
+            "how many components there are: ",
+            usize::from(plan.components()),
+            "; they are counted from 0",
+        ),
+        51 => advise_action(plan, line, advice),
         52 => advice.say(
             "turns stand in the order of their keys: tick, then component, then number",
-        )?,
-        _ => advice.say(form_of(kind))?,
+        ),
+        _ => advice.say(form_of(kind)),
     }
-    Ok(advice.into_bytes())
 }
 
 fn form_of(kind: FileKind) -> &'static str {
@@ -96,42 +99,36 @@ fn first_number(line: &[u8]) -> Option<u16> {
 
 fn advise_task(plan: &Plan, line: &[u8], advice: &mut Advice) -> Result<(), NoMemory> {
     let component = first_number(line).unwrap_or(0);
-    advice.say("how many tasks component ")?;
-    advice.count(usize::from(component))?;
-    advice.say(" has: ")?;
     let tasks = if component < plan.components() {
         plan.tasks(component).max(1)
     } else {
         1
     };
-    advice.count(tasks as usize)?;
-    advice.say("; they are counted from 0")
-}
-
-fn advise_component(plan: &Plan, advice: &mut Advice) -> Result<(), NoMemory> {
-    advice.say("how many components there are: ")?;
-    advice.count(usize::from(plan.components()))?;
-    advice.say("; they are counted from 0")
+    advice.count(
+        "how many tasks component ",
+        usize::from(component),
+        " has: ",
+    )?;
+    advice.count("", tasks as usize, "; they are counted from 0")
 }
 
 // The actions whose names are nearest to the last word of a line.
-fn advise_action(
-    alloc: Global,
-    plan: &Plan,
-    line: &[u8],
-    advice: &mut Advice,
-) -> Result<(), NoMemory> {
-    let mut names: Vec<&str> = Vec::new(alloc);
+fn advise_action(plan: &Plan, line: &[u8], advice: &mut Advice) -> Result<(), NoMemory> {
+    let names = action_names(advice.alloc, plan)?;
+    advice.say("the actions are ")?;
+    advice.list_nearest(action_in(line), names.as_slice(), false)?;
+    advice.say(", with their arguments as the source declares them")
+}
+
+fn action_names(alloc: Global, plan: &Plan) -> Result<Vec<&str>, NoMemory> {
+    let mut names = Vec::new(alloc);
     for number in 0..u16::MAX {
         match plan.action_name(number) {
             Some(name) => names.push(name.text.as_str())?,
             None => break,
         }
     }
-    let near = nearest(alloc, action_in(line), names.as_slice())?;
-    advice.say("the actions are ")?;
-    advice.list(near.as_slice(), " and ")?;
-    advice.say(", with their arguments as the source declares them")
+    Ok(names)
 }
 
 // The name of the action at the end of a line.

@@ -5,11 +5,13 @@ use std::alloc::Global;
 use terms::NoMemory;
 
 /// What a name is declared as.
-#[derive(Clone, Copy, Debug, PartialEq, Eq)]
+#[derive(Clone, Copy, PartialEq, Eq)]
 pub(crate) enum Sort {
     Type,
     Member,
     Automaton,
+    /// The composed automaton.
+    Composition,
     Formal,
     Parameter,
     Variable,
@@ -18,10 +20,12 @@ pub(crate) enum Sort {
     Output,
     Internal,
     Component,
+    /// A hidden name.
+    Hidden,
 }
 
 /// A name where it is declared.
-#[derive(Clone, Copy, Debug)]
+#[derive(Clone, Copy)]
 pub(crate) struct Declared<'a> {
     pub name: &'a str,
     pub sort: Sort,
@@ -31,7 +35,7 @@ pub(crate) struct Declared<'a> {
 }
 
 /// The parts of a source.
-#[derive(Clone, Copy, Debug, PartialEq, Eq)]
+#[derive(Clone, Copy, PartialEq, Eq)]
 pub(crate) enum Part {
     Types,
     Members,
@@ -45,7 +49,7 @@ pub(crate) enum Part {
 }
 
 /// Where a token stands: in which part, of which automaton and which entry or transition, both counted from 1.
-#[derive(Clone, Copy, Debug)]
+#[derive(Clone, Copy)]
 pub(crate) struct Spot {
     pub part: Part,
     pub automaton: usize,
@@ -53,7 +57,7 @@ pub(crate) struct Spot {
 }
 
 impl Spot {
-    fn start() -> Spot {
+    pub(crate) fn start() -> Spot {
         Spot {
             part: Part::Types,
             automaton: 0,
@@ -61,7 +65,7 @@ impl Spot {
         }
     }
 
-    fn in_part(self, part: Part) -> Spot {
+    pub(crate) fn in_part(self, part: Part) -> Spot {
         Spot {
             part,
             automaton: self.automaton,
@@ -120,6 +124,14 @@ pub(crate) fn name_at<'a>(tokens: &[Token<'a>], at: usize) -> Option<&'a str> {
     }
 }
 
+/// The name at a number, or else nothing.
+pub(crate) fn spelling_at<'a>(tokens: &[Token<'a>], at: usize) -> &'a str {
+    match name_at(tokens, at) {
+        Some(name) => name,
+        None => "",
+    }
+}
+
 /// Where a token stands.
 pub(crate) fn spot_at(tokens: &[Token], at: usize) -> Spot {
     let mut spot = Spot::start();
@@ -163,18 +175,34 @@ pub(crate) fn outline<'a>(
 // What the name at a number is declared as, if it is.
 fn sort_at(tokens: &[Token], at: usize, part: Part) -> Option<Sort> {
     let before = word_before(tokens, at);
-    let is_typed = word_after(tokens, at) == Some(Word::Colon);
+    let after = word_after(tokens, at);
     match part {
         Part::Types if before == Some(Word::Type) => Some(Sort::Type),
         Part::Members => Some(Sort::Member),
-        Part::Head if before == Some(Word::Automaton) => Some(Sort::Automaton),
-        Part::Head if is_typed => Some(Sort::Formal),
-        Part::Signature if is_typed => Some(Sort::Parameter),
-        Part::Signature => entry_sort(before),
-        Part::States if is_typed => Some(Sort::Variable),
-        Part::Transitions if is_typed && before == Some(Word::For) => Some(Sort::Loop),
-        Part::Transitions if is_typed => Some(Sort::Parameter),
-        Part::Components if is_typed => Some(Sort::Component),
+        Part::Head if before == Some(Word::Automaton) => Some(automaton_sort(after)),
+        Part::Signature if after != Some(Word::Colon) => entry_sort(before),
+        Part::Hidden => Some(Sort::Hidden),
+        _ if after == Some(Word::Colon) => typed_sort(part, before),
+        _ => None,
+    }
+}
+
+fn automaton_sort(after: Option<Word>) -> Sort {
+    match after {
+        Some(Word::Components) => Sort::Composition,
+        _ => Sort::Automaton,
+    }
+}
+
+// What a name before a colon is declared as.
+fn typed_sort(part: Part, before: Option<Word>) -> Option<Sort> {
+    match part {
+        Part::Head => Some(Sort::Formal),
+        Part::Signature => Some(Sort::Parameter),
+        Part::States => Some(Sort::Variable),
+        Part::Transitions if before == Some(Word::For) => Some(Sort::Loop),
+        Part::Transitions => Some(Sort::Parameter),
+        Part::Components => Some(Sort::Component),
         _ => None,
     }
 }
@@ -189,49 +217,39 @@ pub(crate) fn entry_sort(before: Option<Word>) -> Option<Sort> {
     }
 }
 
-/// The token that is marked where components can't be composed: the name of the component, or the hidden name.
-pub(crate) fn marked_token(tokens: &[Token], number: u8, place: Option<usize>) -> Option<usize> {
-    let place = place?;
-    if number == 36 {
-        hidden_token(tokens, place)
+/// The token of the first of an automaton's names of one sort that is spelled so or has this place among them, and how many of them
+/// stand before it.
+pub(crate) fn find_own(
+    declared: &[Declared],
+    sort: Sort,
+    automaton: usize,
+    name: &str,
+    place: usize,
+) -> (Option<usize>, usize) {
+    let mut count: usize = 0;
+    for known in declared {
+        if known.sort == sort && known.spot.automaton == automaton {
+            if count == place || known.name == name {
+                return (Some(known.at), count);
+            }
+            count = count.saturating_add(1);
+        }
+    }
+    (None, count)
+}
+
+/// The token that is marked where components can't be composed: the name of the component, or the hidden name. They are those of the
+/// last automaton.
+pub(crate) fn marked_token(
+    declared: &[Declared],
+    number: u8,
+    place: Option<usize>,
+) -> Option<usize> {
+    let last = declared.last()?.spot.automaton;
+    let sort = if number == 36 {
+        Sort::Hidden
     } else {
-        component_token(tokens, place)
-    }
-}
-
-/// The token of a component's name.
-pub(crate) fn component_token(tokens: &[Token], component: usize) -> Option<usize> {
-    let mut left = component;
-    let mut spot = Spot::start();
-    for (at, token) in tokens.iter().enumerate() {
-        if let Kind::Word(word) = token.kind {
-            spot = spot.after(word);
-        }
-        if spot.part == Part::Components && word_after(tokens, at) == Some(Word::Colon) {
-            if left == 0 {
-                return Some(at);
-            }
-            left -= 1;
-        }
-    }
-    None
-}
-
-// The token of a hidden name.
-fn hidden_token(tokens: &[Token], place: usize) -> Option<usize> {
-    let mut left = place;
-    let mut spot = Spot::start();
-    for (at, token) in tokens.iter().enumerate() {
-        match token.kind {
-            Kind::Word(word) => spot = spot.after(word),
-            Kind::Name(_) if spot.part == Part::Hidden => {
-                if left == 0 {
-                    return Some(at);
-                }
-                left -= 1;
-            }
-            _ => {}
-        }
-    }
-    None
+        Sort::Component
+    };
+    find_own(declared, sort, last, "", place?).0
 }

@@ -18,7 +18,8 @@ impl Published {
     pub fn new(alloc: Global, seats: u16) -> Result<(Published, Vec<Seat>), NoMemory>
         requires { 0 < seats }
         ensures count { IfOk result (λ both. length both.1.items ≡ seats) }
-        ensures seats { IfOk result (λ both. All (λ seat. IsSeatOf both.0 seat × (knowledge seat ≡ known 0 0)) both.1.items) }
+        ensures seats { IfOk result (λ both. All
+            (λ seat. IsSeatOf both.0 seat × (knowledge seat ≡ known 0 0)) both.1.items) }
     {
         let mut places = Vec::with_capacity(alloc, usize::from(seats))?;
         let (table, mut first) = Table::of_words(alloc, &[0], &())?;
@@ -34,7 +35,8 @@ impl Published {
     pub fn publish(&self, seat: &mut Seat, count: u64)
         requires { IsSeatOf self.now seat.old }
         ensures seat { IsSeatOf self.now seat.new }
-        ensures raised { knowledge seat.new ≡ known (max (knowledge seat.old).published count) (knowledge seat.old).read }
+        ensures raised { knowledge seat.new
+            ≡ known (max (knowledge seat.old).published count) (knowledge seat.old).read }
     {
         self.table
             .shared

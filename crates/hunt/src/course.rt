@@ -1,7 +1,7 @@
 //! How turns are drawn from a seed.
 
 /// How the turns of a seed are drawn, and how far they go.
-#[derive(Clone, Copy, Debug, PartialEq, Eq)]
+#[derive(Clone, Copy)]
 pub struct Course {
     /// The stream of component 0; component i has this one plus i, modulo 2^64.
     pub stream: u64,

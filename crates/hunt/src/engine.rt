@@ -11,7 +11,7 @@ use crate::course::Course;
 use crate::fault::HuntFault;
 use crate::looks::Looks;
 use crate::searching::search;
-use itoa::Buffer;
+use crate::seeds::number_line;
 use std::alloc::{AllocError, Global};
 use std::io::Write;
 use std::thread::Threads;
@@ -21,10 +21,7 @@ use trace::{Counted, write_text};
 fn count_text(alloc: Global, count: u64) -> Result<Vec<u8>, AllocError>
     ensures { IfOk result (λ text. text.items ≡ decimal count ++ codes "\n") }
 {
-    let mut text = Vec::new(alloc);
-    text.extend_from_slice(Buffer::new().format(count).as_bytes())?;
-    text.push(b'\n')?;
-    Ok(text)
+    number_line(alloc, b"", count)
 }
 
 /// Looks through the seeds from `first` on and below `end` for the least one whose schedule has an action, and writes the line `seed N`
@@ -51,8 +48,10 @@ pub fn hunt<W: Write, R: Threads + Sync, L: Looks + Sync>(
     out: &mut Counted<W>,
 ) -> Result<bool, HuntFault>
     ensures answered { IfOk result (λ found. MatchBool found
-        (IsTold (hunted source.now action.now course) first end (IsWritten W.contents out.old out.new))
-        (IsNone (hunted source.now action.now course) first end (IsWritten W.contents out.old out.new))) }
+        (IsTold (hunted source.now action.now course) first end
+        (IsWritten W.contents out.old out.new))
+        (IsNone (hunted source.now action.now course) first end
+        (IsWritten W.contents out.old out.new))) }
     ensures err { IfErr result (IsUnhunted (hunted source.now action.now course) (out.new ≡ out.old)
         (λ failed. IsAnswered (hunted source.now action.now course) first end
         (λ text. IsStopped W.contents out.old out.new text (written_of failed)))) }

@@ -10,7 +10,7 @@ use thiserror::Error;
 use trace::{TraceError, WriteFault};
 
 /// Why a hunt ends before all is said.
-#[derive(Clone, Copy, Debug, PartialEq, Eq, Error)]
+#[derive(Clone, Copy, Debug, Error)]
 pub enum HuntFault {
     #[error("out of memory")]
     NoMemory,

@@ -4,7 +4,7 @@ ghost use Rattle.hunt.specs.Hunts.{IsPart};
 ghost use Rattle.hunt.specs.Seeds.{Hunted};
 
 /// A seed whose schedule has the action.
-#[derive(Debug, Drop)]
+#[derive(Drop)]
 pub(crate) struct Find {
     pub(crate) seed: u64,
     /// The line of the seed, and those of its turns up to the first that did the action.
@@ -12,7 +12,7 @@ pub(crate) struct Find {
 }
 
 /// What is asked of a range of seeds.
-#[derive(Clone, Copy, Debug, PartialEq, Eq)]
+#[derive(Clone, Copy)]
 pub(crate) enum Aim {
     /// The least seed whose schedule has the action.
     Least,
@@ -21,7 +21,7 @@ pub(crate) enum Aim {
 }
 
 /// What a look at a range of seeds came to.
-#[derive(Debug, Drop)]
+#[derive(Drop)]
 pub(crate) enum Part {
     /// The least of them whose schedule has the action.
     Found(Find),
@@ -34,7 +34,7 @@ pub(crate) enum Part {
 }
 
 /// A part of a range that a worker took, and what came of it.
-#[derive(Debug, Drop)]
+#[derive(Drop)]
 pub(crate) struct Taken {
     pub(crate) from: u64,
     pub(crate) end: u64,

@@ -7,7 +7,7 @@ pub trait Looks {
 }
 
 /// Nobody is told.
-#[derive(Clone, Copy, Debug)]
+#[derive(Clone, Copy)]
 pub struct Unwatched;
 
 impl Looks for Unwatched {

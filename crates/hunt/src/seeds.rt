@@ -1,9 +1,10 @@
 //! One seed: what a source means with its turns, and whether the action comes.
-ghost use Rattle.std.specs.Prelude.{◌≡◌, ◌++◌, ℕ, List, IfErr, IfNone, IfOk, IfSome, codes, decimal};
+ghost use Rattle.std.specs.Prelude.{◌≡◌, ◌++◌, [], ℕ, List, IfErr, IfNone, IfOk, IfSome, codes, decimal};
 ghost use Rattle.compose.specs.Composed.{IsComposed};
 ghost use Rattle.task_seed.specs.Drawn.{drawn_turn, seed_turn};
 ghost use Rattle.task_seed.specs.Setups.{plan_of, system};
 ghost use Rattle.hunt.specs.Faults.{IsBadGap, IsUnseen};
+ghost use Rattle.hunt.specs.Known.{IsKnown};
 ghost use Rattle.hunt.specs.Seeds.{HasText, IsSown, Lacks, hunted, least_gap};
 ghost use Rattle.hunt.specs.Sightings.{IsShown, NeverOccurs, seed_text};
 ghost use Rattle.hunt.specs.Wanted.{IsWanted};
@@ -79,15 +80,23 @@ fn named(alloc: Global, plan: &Plan, action: &str) -> Result<Wanted, HuntFault>
     }
 }
 
+/// The line that a text and a number behind it make.
+#[tactic(auto, using(std::proofs::lemmas::List::append_assoc))]
+pub(crate) fn number_line(alloc: Global, head: &[u8], number: u64) -> Result<Vec<u8>, AllocError>
+    ensures { IfOk result (λ text. text.items ≡ head.now ++ decimal number ++ codes "\n") }
+{
+    let mut text = Vec::new(alloc);
+    text.extend_from_slice(head)?;
+    text.extend_from_slice(Buffer::new().format(number).as_bytes())?;
+    text.push(b'\n')?;
+    Ok(text)
+}
+
 // The line of a seed.
 fn seed_line(alloc: Global, seed: u64) -> Result<Vec<u8>, AllocError>
     ensures { IfOk result (λ text. text.items ≡ codes "seed " ++ decimal seed ++ codes "\n") }
 {
-    let mut text = Vec::new(alloc);
-    text.extend_from_slice(b"seed ")?;
-    text.extend_from_slice(Buffer::new().format(seed).as_bytes())?;
-    text.push(b'\n')?;
-    Ok(text)
+    number_line(alloc, b"seed ", seed)
 }
 
 // The line of a seed, and those of turns.
@@ -102,7 +111,36 @@ fn text_of(alloc: Global, plan: &Plan, seed: u64, turns: &[Turned]) -> Result<Ve
     }
 }
 
-// The text of a simulator's turns up to the first that does what is wanted, if one does.
+// The text of a simulator's turns up to the first that does what is wanted, if one does. It has taken
+// none.
+fn show(
+    alloc: Global,
+    reference: &mut Reference<SeedTurns>,
+    wanted: &Wanted,
+    seed: u64,
+) -> Result<Option<Vec<u8>>, HuntFault>
+    requires known { IsKnown
+        (plan_of reference.old.setup) (system seed_turn reference.old.setup) }
+    requires start { reference.old.taken ≡ [] }
+    ensures shown { IfOk result (λ found. IfSome found (λ text. IsShown
+        (plan_of reference.old.setup)
+        (system seed_turn reference.old.setup) wanted.now seed text.items)) }
+    ensures never { IfOk result (λ found. IfNone found (NeverOccurs
+        (plan_of reference.old.setup) (system seed_turn reference.old.setup) wanted.now)) }
+    ensures err { IfErr result (λ fault. fault ≡ HuntFault.NoMemory) }
+{
+    let found = seek(alloc, reference, wanted)?;
+    match found {
+        Some(turns) => {
+            let plan = reference.setup().plan();
+            let text = text_of(alloc, plan, seed, turns.as_slice())?;
+            Ok(Some(text))
+        }
+        None => Ok(None),
+    }
+}
+
+// The same of a setup.
 fn watch(
     alloc: Global,
     setup: Setup<SeedTurns>,
@@ -118,15 +156,7 @@ fn watch(
     known_law(&setup);
     let shared = Arc::new(alloc, setup)?;
     let mut reference = Reference::new(alloc, shared)?;
-    let found = seek(alloc, &mut reference, wanted)?;
-    match found {
-        Some(turns) => {
-            let plan = reference.setup().plan();
-            let text = text_of(alloc, plan, seed, turns.as_slice())?;
-            Ok(Some(text))
-        }
-        None => Ok(None),
-    }
+    show(alloc, &mut reference, wanted, seed)
 }
 
 /// The text of a seed's turns up to the first that did the action, if its schedule has it.
@@ -149,11 +179,19 @@ pub(crate) fn look(
     };
     let wanted = match named(alloc, &plan, action) {
         Ok(wanted) => wanted,
-        Err(fault) => return Err(fault),
+        Err(fault) => {
+            drop(plan);
+            return Err(fault);
+        }
     };
     let setup = match sow(plan, course, seed) {
         Ok(setup) => setup,
-        Err(fault) => return Err(fault),
+        Err(fault) => {
+            drop(wanted);
+            return Err(fault);
+        }
     };
-    watch(alloc, setup, &wanted, seed)
+    let found = watch(alloc, setup, &wanted, seed);
+    drop(wanted);
+    found
 }

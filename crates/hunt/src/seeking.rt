@@ -34,7 +34,8 @@ pub(crate) fn seek<T: Turns>(
     requires known { IsKnown (plan_of reference.old.setup) (system T.turn_of reference.old.setup) }
     requires start { reference.old.taken ≡ [] }
     ensures setup { reference.new.setup ≡ reference.old.setup }
-    ensures found { IfOk result (λ found. IfSome found (λ turns. Occurs (plan_of reference.old.setup)
+    ensures found { IfOk result (λ found. IfSome found
+        (λ turns. Occurs (plan_of reference.old.setup)
         (system T.turn_of reference.old.setup) wanted.now turns.items)) }
     ensures none { IfOk result (λ found. IfNone found (NeverOccurs (plan_of reference.old.setup)
         (system T.turn_of reference.old.setup) wanted.now)) }

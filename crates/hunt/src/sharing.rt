@@ -65,7 +65,8 @@ fn take_parts<L: Looks>(
     least: &AtomicU64,
     looks: &L,
 ) -> Result<Vec<Taken>, HuntFault>
-    ensures are { IfOk result (λ parts. AreTaken (hunted source.now action.now course) parts.items) }
+    ensures are { IfOk result (λ parts. AreTaken
+        (hunted source.now action.now course) parts.items) }
     ensures err { IfErr result (IsUnseen (hunted source.now action.now course)) }
 {
     let mut parts = Vec::new(alloc);
@@ -127,7 +128,8 @@ fn share<R: Threads + Sync, L: Looks + Sync>(
     least: &AtomicU64,
     looks: &L,
 ) -> Result<Vec<Taken>, HuntFault>
-    ensures are { IfOk result (λ parts. AreTaken (hunted source.now action.now course) parts.items) }
+    ensures are { IfOk result (λ parts. AreTaken
+        (hunted source.now action.now course) parts.items) }
     ensures err { IfErr result (IsUnseen (hunted source.now action.now course)) }
 {
     if workers < 2 {
@@ -273,7 +275,10 @@ pub(crate) fn look_through<R: Threads + Sync, L: Looks + Sync>(
             rt, alloc, source, action, course, aim, at, stop, piece, workers, looks,
         ) {
             Ok(part) => all = merged(all, part),
-            Err(fault) => return Err(fault),
+            Err(fault) => {
+                drop(all);
+                return Err(fault);
+            }
         }
         at = stop;
         if all.is_over() {

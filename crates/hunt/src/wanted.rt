@@ -12,7 +12,7 @@ use terms::Action;
 use trace::{TraceError, read_trace};
 
 /// What is hunted for.
-#[derive(Debug, Drop)]
+#[derive(Drop)]
 pub enum Wanted {
     /// Any action with the name of this number.
     Name(u16),

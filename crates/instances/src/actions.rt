@@ -58,7 +58,8 @@ fn place_of(actions: &[ActionName], name: &str) -> Result<usize, usize>
     requires { IsRising (map text_of actions.now) }
     ensures found { IfOk result (λ i. i ≡ place_in (map text_of actions.now) name.now) }
     ensures bound { IfOk result (λ i. i < length actions.now) }
-    ensures absent { OnErr result (place_in (map text_of actions.now) name.now ≡ length actions.now) }
+    ensures absent { OnErr result
+        (place_in (map text_of actions.now) name.now ≡ length actions.now) }
 {
     actions.binary_search_by(|action| action.text.as_str().cmp(name))
 }

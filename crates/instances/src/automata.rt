@@ -18,7 +18,8 @@ use std::alloc::{AllocError, Global};
 use terms::Term;
 
 fn starts(alloc: Global, variables: Vec<Variable>) -> Result<Vec<Term>, AllocError>
-    ensures { IfOk result (λ ts. map term_tree ts.items ≡ map term_or_true (map (λ v. core_tree (Some v.start)) variables.items)) }
+    ensures { IfOk result (λ ts. map term_tree ts.items
+        ≡ map term_or_true (map (λ v. core_tree (Some v.start)) variables.items)) }
 {
     let mut found = Vec::new(alloc);
     for variable in variables {
@@ -35,7 +36,8 @@ fn automaton(
     requires few { length actions.now < 2 ^ 16 }
     requires rising { IsRising (map text_of actions.now) }
     requires few_tasks { length (automaton_meaning one).tasks < 2 ^ 32 }
-    ensures { IfOk result (λ a. with_formals [] a ≡ built (map text_of actions.now) [] (Some (automaton_meaning one))) }
+    ensures { IfOk result (λ a. with_formals [] a
+        ≡ built (map text_of actions.now) [] (Some (automaton_meaning one))) }
 {
     let entries = entries(alloc, actions, one.transitions)?;
     let start = starts(alloc, one.variables)?;
@@ -66,7 +68,9 @@ fn made(
     requires few { length actions.now < 2 ^ 16 }
     requires rising { IsRising (map text_of actions.now) }
     requires few_tasks { length (automaton_meaning one).tasks < 2 ^ 32 }
-    ensures { IfOk result (λ a. with_formals [] a ≡ (if is_used then built (map text_of actions.now) [] (Some (automaton_meaning one)) else absent)) }
+    ensures { IfOk result (λ a. with_formals [] a
+        ≡ (if is_used then built (map text_of actions.now) []
+        (Some (automaton_meaning one)) else absent)) }
 {
     if is_used {
         automaton(alloc, actions, one)
@@ -85,7 +89,8 @@ pub fn automata(
     requires few { length actions.now < 2 ^ 16 }
     requires rising { IsRising (map text_of actions.now) }
     requires few_tasks { All (λ a. length a.tasks < 2 ^ 32) (map automaton_meaning all.items) }
-    ensures { IfOk result (λ xs. map (with_formals []) xs.items ≡ converted (map text_of actions.now) used.now 0 (map automaton_meaning all.items)) }
+    ensures { IfOk result (λ xs. map (with_formals []) xs.items
+        ≡ converted (map text_of actions.now) used.now 0 (map automaton_meaning all.items)) }
 {
     let mut found = Vec::new(alloc);
     for one in all {

@@ -24,7 +24,8 @@ fn value_of(alloc: Global, term: &Term) -> Result<Scalar, NoMemory>
 }
 
 fn values_of(alloc: Global, terms: &[Term]) -> Result<Vec<Scalar>, NoMemory>
-    ensures { IfOk result (λ ss. ss.items ≡ map argument (map (λ t. core_tree (Some t)) terms.now)) }
+    ensures { IfOk result (λ ss. ss.items
+        ≡ map argument (map (λ t. core_tree (Some t)) terms.now)) }
 {
     let mut values = Vec::new(alloc);
     for term in terms {
@@ -50,7 +51,8 @@ pub fn components(
     beyond: usize,
     all: &[Component],
 ) -> Result<Vec<plans::Component>, NoMemory>
-    ensures { IfOk result (λ cs. map parts_in cs.items ≡ map (meant_parts beyond) (map component_meaning all.now)) }
+    ensures { IfOk result (λ cs. map parts_in cs.items
+        ≡ map (meant_parts beyond) (map component_meaning all.now)) }
 {
     let mut found = Vec::new(alloc);
     for one in all {

@@ -65,7 +65,8 @@ fn param(slot: &Slot) -> Param
 }
 
 fn params(alloc: Global, slots: &[Slot]) -> Result<Vec<Param>, AllocError>
-    ensures { IfOk result (λ ps. ps.items ≡ map param_of (map (λ p. slot_tree (Some p)) slots.now)) }
+    ensures { IfOk result (λ ps. ps.items
+        ≡ map param_of (map (λ p. slot_tree (Some p)) slots.now)) }
 {
     let mut found = Vec::new(alloc);
     for slot in slots {
@@ -77,7 +78,8 @@ fn params(alloc: Global, slots: &[Slot]) -> Result<Vec<Param>, AllocError>
 fn entry(alloc: Global, actions: &[ActionName], one: Transition) -> Result<Entry, AllocError>
     requires few { length actions.now < 2 ^ 16 }
     requires rising { IsRising (map text_of actions.now) }
-    ensures { IfOk result (λ e. transition_of e ≡ transition (map text_of actions.now) (transition_meaning one)) }
+    ensures { IfOk result (λ e. transition_of e
+        ≡ transition (map text_of actions.now) (transition_meaning one)) }
 {
     let name = number_of(actions, one.name.as_str());
     let params = match params(alloc, one.parameters.as_slice()) {
@@ -104,7 +106,8 @@ pub fn entries(
 ) -> Result<Vec<Entry>, AllocError>
     requires few { length actions.now < 2 ^ 16 }
     requires rising { IsRising (map text_of actions.now) }
-    ensures { IfOk result (λ es. map transition_of es.items ≡ map (transition (map text_of actions.now)) (map transition_meaning transitions.items)) }
+    ensures { IfOk result (λ es. map transition_of es.items
+        ≡ map (transition (map text_of actions.now)) (map transition_meaning transitions.items)) }
 {
     let mut found = Vec::new(alloc);
     for one in transitions {

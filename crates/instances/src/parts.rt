@@ -29,7 +29,8 @@ pub struct Parts {
 }
 
 fn table_in(alloc: Global, resolved: &Resolved) -> Result<Table, NoMemory>
-    ensures { IfOk result (λ t. IsTable (meaning resolved.now).automata (meaning resolved.now).components (table t.names) t.used.items) }
+    ensures { IfOk result (λ t. IsTable (meaning resolved.now).automata
+        (meaning resolved.now).components (table t.names) t.used.items) }
 {
     let automata = resolved.automata.as_slice();
     let components = resolved.components.as_slice();
@@ -37,7 +38,9 @@ fn table_in(alloc: Global, resolved: &Resolved) -> Result<Table, NoMemory>
 }
 
 fn components_in(alloc: Global, resolved: &Resolved) -> Result<Vec<Component>, NoMemory>
-    ensures { IfOk result (λ cs. map parts_in cs.items ≡ map (meant_parts (length (meaning resolved.now).automata)) (meaning resolved.now).components) }
+    ensures { IfOk result (λ cs. map parts_in cs.items
+        ≡ map (meant_parts (length (meaning resolved.now).automata))
+        (meaning resolved.now).components) }
 {
     let beyond = resolved.automata.len();
     let all = resolved.components.as_slice();
@@ -65,12 +68,16 @@ fn actions_in(
 pub fn parts_of(alloc: Global, resolved: Resolved) -> Result<Parts, NoMemory>
     requires few { All (λ a. length a.tasks < 2 ^ 32) (meaning resolved).automata }
     requires few_entries { entries_in (meaning resolved).automata < 2 ^ 16 }
-    ensures names { IfOk result (λ parts. AreNames (map text_of parts.actions.items) (meaning resolved)) }
-    ensures composition { IfOk result (λ parts. composed parts.automata.items parts.components.items ≡ instances (map text_of parts.actions.items) (meaning resolved)) }
-    ensures types { IfOk result (λ parts. map types_of parts.actions.items ≡ map (first_types (meaning resolved)) (map text_of parts.actions.items)) }
+    ensures names { IfOk result (λ parts. AreNames (map text_of parts.actions.items)
+        (meaning resolved)) }
+    ensures composition { IfOk result (λ parts. composed parts.automata.items parts.components.items
+        ≡ instances (map text_of parts.actions.items) (meaning resolved)) }
+    ensures types { IfOk result (λ parts. map types_of parts.actions.items
+        ≡ map (first_types (meaning resolved)) (map text_of parts.actions.items)) }
     ensures marks { IfOk result (λ parts. map mark_of parts.actions.items
         ≡ map (is_hidden (meaning resolved)) (map text_of parts.actions.items)) }
-    ensures members { IfOk result (λ parts. map string_bytes parts.members.items ≡ (meaning resolved).members) }
+    ensures members { IfOk result (λ parts. map string_bytes parts.members.items
+        ≡ (meaning resolved).members) }
 {
     let table = table_in(alloc, &resolved)?;
     let components = components_in(alloc, &resolved)?;

@@ -24,7 +24,8 @@ pub struct Table {
 }
 
 fn type_of(alloc: Global, formals: &[Kind], slot: &Slot) -> Result<Shape, AllocError>
-    ensures { IfOk result (λ s. shape_tree s ≡ type_in (map (λ k. option_tree (Some k)) formals.now) (slot_tree (Some slot.now))) }
+    ensures { IfOk result (λ s. shape_tree s
+        ≡ type_in (map (λ k. option_tree (Some k)) formals.now) (slot_tree (Some slot.now))) }
 {
     match slot {
         Slot::Free(kind) => item_shape(alloc, kind),
@@ -36,7 +37,9 @@ fn type_of(alloc: Global, formals: &[Kind], slot: &Slot) -> Result<Shape, AllocE
 }
 
 fn types_of(alloc: Global, formals: &[Kind], slots: &[Slot]) -> Result<Vec<Shape>, AllocError>
-    ensures { IfOk result (λ ss. map shape_tree ss.items ≡ map (type_in (map (λ k. option_tree (Some k)) formals.now)) (map (λ p. slot_tree (Some p)) slots.now)) }
+    ensures { IfOk result (λ ss. map shape_tree ss.items
+        ≡ map (type_in (map (λ k. option_tree (Some k)) formals.now))
+        (map (λ p. slot_tree (Some p)) slots.now)) }
 {
     let mut types = Vec::new(alloc);
     for slot in slots {
@@ -52,7 +55,9 @@ fn note(
     formals: &[Kind],
     transition: &Transition,
 ) -> Result<(), AllocError>
-    ensures adds { OnOk result (Adds (table names.new) (table names.old) (signature_of (map (λ k. option_tree (Some k)) formals.now) (transition_meaning transition.now) ∷ [])) }
+    ensures adds { OnOk result (Adds (table names.new) (table names.old)
+        (signature_of (map (λ k. option_tree (Some k)) formals.now)
+        (transition_meaning transition.now) ∷ [])) }
     ensures few { OnOk result (length (table names.new) ≤ length (table names.old) + 1) }
 {
     if names.contains_key(transition.name.as_str()) {
@@ -68,8 +73,10 @@ fn note_all(
     names: &mut BTreeMap<String, Vec<Shape>>,
     automaton: &Automaton,
 ) -> Result<(), AllocError>
-    ensures adds { OnOk result (Adds (table names.new) (table names.old) (signatures_in (Some (automaton_meaning automaton.now)))) }
-    ensures few { OnOk result (length (table names.new) ≤ length (table names.old) + length (automaton_meaning automaton.now).entries) }
+    ensures adds { OnOk result (Adds (table names.new) (table names.old)
+        (signatures_in (Some (automaton_meaning automaton.now)))) }
+    ensures few { OnOk result (length (table names.new) ≤ length (table names.old)
+        + length (automaton_meaning automaton.now).entries) }
 {
     for transition in &automaton.transitions {
         note(alloc, names, automaton.formals.as_slice(), transition)?;
@@ -111,7 +118,10 @@ fn visit(
     automata: &[Automaton],
     component: &Component,
 ) -> Result<(), AllocError>
-    ensures { OnOk result ((seen : List MeantComponent) → IsTable (map automaton_meaning automata.now) seen (table names.old) used.old.items → IsTable (map automaton_meaning automata.now) (seen ++ component_meaning component.now ∷ []) (table names.new) used.new.items) }
+    ensures { OnOk result ((seen : List MeantComponent)
+        → IsTable (map automaton_meaning automata.now) seen (table names.old) used.old.items
+        → IsTable (map automaton_meaning automata.now)
+        (seen ++ component_meaning component.now ∷ []) (table names.new) used.new.items) }
 {
     let Some(number) = component.automaton else {
         return Ok(());
@@ -133,7 +143,8 @@ pub fn table_of(
     automata: &[Automaton],
     components: &[Component],
 ) -> Result<Table, AllocError>
-    ensures { IfOk result (λ t. IsTable (map automaton_meaning automata.now) (map component_meaning components.now) (table t.names) t.used.items) }
+    ensures { IfOk result (λ t. IsTable (map automaton_meaning automata.now)
+        (map component_meaning components.now) (table t.names) t.used.items) }
 {
     let mut names = BTreeMap::new(alloc);
     let mut used = unmarked(alloc, automata.len())?;

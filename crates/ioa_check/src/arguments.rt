@@ -41,8 +41,12 @@ fn check_argument(
 ) -> Result<Option<Term>, AllocError>
     requires room { progress.old.at + size (view argument.now) < 2 ^ 32 }
     ensures at { OnOk result (progress.new.at ≡ progress.old.at + size (view argument.now)) }
-    ensures faults { OnOk result (AreNoted progress.old progress.new (part.argument_faults (names_tree names.now) (place_kind kind.entry) progress.old.at (view argument.now))) }
-    ensures value { IfOk result (λ t. core_tree t ≡ source.placed_argument (names_tree names.now) (place_kind kind.entry) (view argument.now)) }
+    ensures faults { OnOk result (AreNoted progress.old progress.new
+        (part.argument_faults (names_tree names.now) (place_kind kind.entry) progress.old.at
+        (view argument.now))) }
+    ensures value { IfOk result (λ t. core_tree t
+        ≡ source.placed_argument (names_tree names.now) (place_kind kind.entry)
+        (view argument.now)) }
 {
     let at = progress.at;
     let typed = check_term(alloc, names, argument, progress)?;
@@ -84,9 +88,14 @@ fn check_arguments(
     progress: &mut Progress,
 ) -> Result<Vec<Option<Term>>, AllocError>
     requires room { progress.old.at + listed_size size (map view arguments.now) < 2 ^ 32 }
-    ensures at { OnOk result (progress.new.at ≡ progress.old.at + listed_size size (map view arguments.now)) }
-    ensures faults { OnOk result (AreNoted progress.old progress.new (part.fitted_faults (names_tree names.now) (map option_tree formals.now) progress.old.at (map view arguments.now))) }
-    ensures values { IfOk result (λ vs. map core_tree vs.items ≡ source.placed_arguments (names_tree names.now) (map option_tree formals.now) (map view arguments.now)) }
+    ensures at { OnOk result (progress.new.at ≡ progress.old.at
+        + listed_size size (map view arguments.now)) }
+    ensures faults { OnOk result (AreNoted progress.old progress.new
+        (part.fitted_faults (names_tree names.now) (map option_tree formals.now) progress.old.at
+        (map view arguments.now))) }
+    ensures values { IfOk result (λ vs. map core_tree vs.items
+        ≡ source.placed_arguments (names_tree names.now) (map option_tree formals.now)
+        (map view arguments.now)) }
 {
     let mut values = Vec::new(alloc);
     let mut is_first = true;
@@ -120,9 +129,16 @@ fn check_bracketed(
     progress: &mut Progress,
 ) -> Result<Vec<Option<Term>>, AllocError>
     requires room { progress.old.at + bracketed_size size (map view arguments.now) < 2 ^ 32 }
-    ensures at { OnOk result (progress.new.at ≡ progress.old.at + bracketed_size size (map view arguments.now)) }
-    ensures faults { OnOk result (AreNoted progress.old progress.new (source.arguments_faults (names_tree names.now) (progress.old.at + 1) (map view arguments.now) ++ source.misfit_arguments (names_tree names.now) (map option_tree formals.now) (progress.old.at + 1) (map view arguments.now))) }
-    ensures values { IfOk result (λ vs. map core_tree vs.items ≡ source.placed_arguments (names_tree names.now) (map option_tree formals.now) (map view arguments.now)) }
+    ensures at { OnOk result (progress.new.at ≡ progress.old.at
+        + bracketed_size size (map view arguments.now)) }
+    ensures faults { OnOk result (AreNoted progress.old progress.new
+        (source.arguments_faults (names_tree names.now) (progress.old.at + 1)
+        (map view arguments.now)
+        ++ source.misfit_arguments (names_tree names.now) (map option_tree formals.now)
+        (progress.old.at + 1) (map view arguments.now))) }
+    ensures values { IfOk result (λ vs. map core_tree vs.items
+        ≡ source.placed_arguments (names_tree names.now) (map option_tree formals.now)
+        (map view arguments.now)) }
 {
     progress.at += bracket(arguments);
     let values = check_arguments(alloc, names, formals, arguments, progress)?;
@@ -135,7 +151,8 @@ fn formals_at<'a>(
     table: &'a [MeantAutomaton],
     automaton: Option<usize>,
 ) -> Option<&'a [Option<Kind>]>
-    ensures { option_map (λ ks. map option_tree ks.now) result ≡ source.formals_at (map automaton_tree table.now) automaton }
+    ensures { option_map (λ ks. map option_tree ks.now) result
+        ≡ source.formals_at (map automaton_tree table.now) automaton }
 {
     let automaton = table.get(automaton?)?;
     Some(automaton.formals.as_slice())
@@ -150,9 +167,14 @@ fn check_counted(
     progress: &mut Progress,
 ) -> Result<Vec<Option<Term>>, AllocError>
     requires room { progress.old.at + 1 + bracketed_size size (map view arguments.now) < 2 ^ 32 }
-    ensures at { OnOk result (progress.new.at ≡ progress.old.at + 1 + bracketed_size size (map view arguments.now)) }
-    ensures faults { OnOk result (AreNoted progress.old progress.new (part.placing_faults (names_tree names.now) (Some (map option_tree formals.now)) progress.old.at (map view arguments.now))) }
-    ensures values { IfOk result (λ vs. map core_tree vs.items ≡ source.placed_arguments (names_tree names.now) (map option_tree formals.now) (map view arguments.now)) }
+    ensures at { OnOk result (progress.new.at ≡ progress.old.at + 1
+        + bracketed_size size (map view arguments.now)) }
+    ensures faults { OnOk result (AreNoted progress.old progress.new
+        (part.placing_faults (names_tree names.now)
+        (Some (map option_tree formals.now)) progress.old.at (map view arguments.now))) }
+    ensures values { IfOk result (λ vs. map core_tree vs.items
+        ≡ source.placed_arguments (names_tree names.now) (map option_tree formals.now)
+        (map view arguments.now)) }
 {
     progress.note_if(
         formals.len() != arguments.len(),
@@ -172,8 +194,11 @@ fn check_alone(
     progress: &mut Progress,
 ) -> Result<Vec<Option<Term>>, AllocError>
     requires room { progress.old.at + 1 + bracketed_size size (map view arguments.now) < 2 ^ 32 }
-    ensures at { OnOk result (progress.new.at ≡ progress.old.at + 1 + bracketed_size size (map view arguments.now)) }
-    ensures faults { OnOk result (AreNoted progress.old progress.new (part.placing_faults (names_tree names.now) None progress.old.at (map view arguments.now))) }
+    ensures at { OnOk result (progress.new.at ≡ progress.old.at + 1
+        + bracketed_size size (map view arguments.now)) }
+    ensures faults { OnOk result (AreNoted progress.old progress.new
+        (part.placing_faults (names_tree names.now) None progress.old.at
+        (map view arguments.now))) }
     ensures values { IfOk result (λ vs. map core_tree vs.items ≡ []) }
 {
     progress.at += 1;
@@ -192,9 +217,15 @@ pub(crate) fn check_placing(
     progress: &mut Progress,
 ) -> Result<Vec<Option<Term>>, AllocError>
     requires room { progress.old.at + 1 + bracketed_size size (map view arguments.now) < 2 ^ 32 }
-    ensures at { OnOk result (progress.new.at ≡ progress.old.at + 1 + bracketed_size size (map view arguments.now)) }
-    ensures faults { OnOk result (AreNoted progress.old progress.new (part.placing_faults (names_tree names.now) (source.formals_at (map automaton_tree table.now) automaton) progress.old.at (map view arguments.now))) }
-    ensures values { IfOk result (λ vs. map core_tree vs.items ≡ source.arguments_of (names_tree names.now) (source.formals_at (map automaton_tree table.now) automaton) (map view arguments.now)) }
+    ensures at { OnOk result (progress.new.at ≡ progress.old.at + 1
+        + bracketed_size size (map view arguments.now)) }
+    ensures faults { OnOk result (AreNoted progress.old progress.new
+        (part.placing_faults (names_tree names.now)
+        (source.formals_at (map automaton_tree table.now) automaton) progress.old.at
+        (map view arguments.now))) }
+    ensures values { IfOk result (λ vs. map core_tree vs.items
+        ≡ source.arguments_of (names_tree names.now)
+        (source.formals_at (map automaton_tree table.now) automaton) (map view arguments.now)) }
 {
     match formals_at(table, automaton) {
         None => {

@@ -31,11 +31,19 @@ fn check_automaton(
     progress: &mut Progress,
 ) -> Result<MeantAutomaton, AllocError>
     requires room { progress.old.at + automaton_size (view_automaton automaton.now) < 2 ^ 32 }
-    ensures at { OnOk result (progress.new.at ≡ progress.old.at + automaton_size (view_automaton automaton.now)) }
-    ensures names { OnOk result (names_tree names.new ≡ source.with_automaton (names_tree names.old) number (view_automaton automaton.now)) }
-    ensures used { OnOk result (Adds (used_names used.new) (locals (view_automaton automaton.now)) (used_names used.old)) }
-    ensures faults { OnOk result (AreNoted progress.old progress.new (body.automaton_faults (names_tree names.old) (used_names used.old) number progress.old.at (view_automaton automaton.now))) }
-    ensures meant { IfOk result (λ m. automaton_tree m ≡ meaning_of (source.with_automaton (names_tree names.old) number (view_automaton automaton.now)) (view_automaton automaton.now)) }
+    ensures at { OnOk result (progress.new.at ≡ progress.old.at
+        + automaton_size (view_automaton automaton.now)) }
+    ensures names { OnOk result (names_tree names.new
+        ≡ source.with_automaton (names_tree names.old) number (view_automaton automaton.now)) }
+    ensures used { OnOk result (Adds (used_names used.new) (locals (view_automaton automaton.now))
+        (used_names used.old)) }
+    ensures faults { OnOk result (AreNoted progress.old progress.new
+        (body.automaton_faults (names_tree names.old) (used_names used.old) number progress.old.at
+        (view_automaton automaton.now))) }
+    ensures meant { IfOk result (λ m. automaton_tree m
+        ≡ meaning_of
+        (source.with_automaton (names_tree names.old) number (view_automaton automaton.now))
+        (view_automaton automaton.now)) }
 {
     let taken = is_taken(names, used, automaton.name.as_str());
     progress.note_if(taken, progress.at + 1, FaultKind::DoubleName);
@@ -54,12 +62,20 @@ pub fn check_automata(
     automata: &[Automaton],
     progress: &mut Progress,
 ) -> Result<Vec<MeantAutomaton>, AllocError>
-    requires room { progress.old.at + source.automata_size (map view_automaton automata.now) < 2 ^ 32 }
-    ensures at { OnOk result (progress.new.at ≡ progress.old.at + source.automata_size (map view_automaton automata.now)) }
-    ensures names { OnOk result (names_tree names.new ≡ source.with_automata (names_tree names.old) 0 (map view_automaton automata.now)) }
-    ensures used { OnOk result (Adds (used_names used.new) (source.all_locals (map view_automaton automata.now)) (used_names used.old)) }
-    ensures faults { OnOk result ((L : List Bytes) → AreNames (used_names used.old) L → AreNoted progress.old progress.new (source.automata_faults (names_tree names.old) L 0 progress.old.at (map view_automaton automata.now))) }
-    ensures meant { IfOk result (λ ms. map automaton_tree ms.items ≡ source.meanings_of (names_tree names.old) 0 (map view_automaton automata.now)) }
+    requires room { progress.old.at + source.automata_size (map view_automaton automata.now)
+        < 2 ^ 32 }
+    ensures at { OnOk result (progress.new.at ≡ progress.old.at
+        + source.automata_size (map view_automaton automata.now)) }
+    ensures names { OnOk result (names_tree names.new
+        ≡ source.with_automata (names_tree names.old) 0 (map view_automaton automata.now)) }
+    ensures used { OnOk result (Adds (used_names used.new)
+        (source.all_locals (map view_automaton automata.now)) (used_names used.old)) }
+    ensures faults { OnOk result ((L : List Bytes) → AreNames (used_names used.old) L
+        → AreNoted progress.old progress.new
+        (source.automata_faults (names_tree names.old) L 0 progress.old.at
+        (map view_automaton automata.now))) }
+    ensures meant { IfOk result (λ ms. map automaton_tree ms.items
+        ≡ source.meanings_of (names_tree names.old) 0 (map view_automaton automata.now)) }
 {
     let mut meant = Vec::new(alloc);
     for automaton in automata {

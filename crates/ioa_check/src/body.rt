@@ -49,11 +49,17 @@ fn check_bracketed(
     formals: &[Declared],
     progress: &mut Progress,
 ) -> Result<Vec<Option<Kind>>, AllocError>
-    requires room { progress.old.at + bracketed_size declared_size (map view_declared formals.now) < 2 ^ 32 }
-    ensures at { OnOk result (progress.new.at ≡ progress.old.at + bracketed_size declared_size (map view_declared formals.now)) }
-    ensures names { OnOk result (names_tree names.new ≡ rule.with_formals (names_tree names.old) 0 (map view_declared formals.now)) }
-    ensures faults { OnOk result (AreNoted progress.old progress.new (rule.formals_faults (names_tree names.old) 0 (progress.old.at + 1) (map view_declared formals.now))) }
-    ensures kinds { IfOk result (λ ks. map option_tree ks.items ≡ rule.formal_kinds (names_tree names.old) 0 (map view_declared formals.now)) }
+    requires room { progress.old.at + bracketed_size declared_size (map view_declared formals.now)
+        < 2 ^ 32 }
+    ensures at { OnOk result (progress.new.at ≡ progress.old.at
+        + bracketed_size declared_size (map view_declared formals.now)) }
+    ensures names { OnOk result (names_tree names.new
+        ≡ rule.with_formals (names_tree names.old) 0 (map view_declared formals.now)) }
+    ensures faults { OnOk result (AreNoted progress.old progress.new
+        (rule.formals_faults (names_tree names.old) 0 (progress.old.at + 1)
+        (map view_declared formals.now))) }
+    ensures kinds { IfOk result (λ ks. map option_tree ks.items
+        ≡ rule.formal_kinds (names_tree names.old) 0 (map view_declared formals.now)) }
 {
     let bracket = word(formals);
     progress.at += bracket;
@@ -70,10 +76,14 @@ fn check_front(
     progress: &mut Progress,
 ) -> Result<Vec<Option<Kind>>, AllocError>
     requires room { rule.states_at progress.old.at (view_automaton automaton.now) < 2 ^ 32 }
-    ensures at { OnOk result (progress.new.at ≡ rule.states_at progress.old.at (view_automaton automaton.now)) }
-    ensures names { OnOk result (names_tree names.new ≡ rule.inside (names_tree names.old) (view_automaton automaton.now)) }
-    ensures faults { OnOk result (AreNoted progress.old progress.new (body.front_faults (names_tree names.old) progress.old.at (view_automaton automaton.now))) }
-    ensures kinds { IfOk result (λ ks. map option_tree ks.items ≡ rule.formal_kinds (names_tree names.old) 0 (view_automaton automaton.now).formals) }
+    ensures at { OnOk result (progress.new.at
+        ≡ rule.states_at progress.old.at (view_automaton automaton.now)) }
+    ensures names { OnOk result (names_tree names.new
+        ≡ rule.inside (names_tree names.old) (view_automaton automaton.now)) }
+    ensures faults { OnOk result (AreNoted progress.old progress.new
+        (body.front_faults (names_tree names.old) progress.old.at (view_automaton automaton.now))) }
+    ensures kinds { IfOk result (λ ks. map option_tree ks.items
+        ≡ rule.formal_kinds (names_tree names.old) 0 (view_automaton automaton.now).formals) }
 {
     let formals = automaton.formals.as_slice();
     let entries = automaton.entries.as_slice();
@@ -96,11 +106,18 @@ fn check_states(
     progress: &mut Progress,
 ) -> Result<Vec<Cell>, AllocError>
     requires room { progress.old.at + body.states_size (view_automaton automaton.now) < 2 ^ 32 }
-    ensures at { OnOk result (progress.new.at ≡ progress.old.at + body.states_size (view_automaton automaton.now)) }
-    ensures names { OnOk result (names_tree names.new ≡ rule.with_variables (names_tree names.old) (names_tree names.old) 0 (view_automaton automaton.now).variables) }
-    ensures faults { OnOk result (AreNoted progress.old progress.new (body.states_faults (names_tree names.old) progress.old.at (view_automaton automaton.now))) }
-    ensures kinds { IfOk result (λ cs. map cell_kind cs.items ≡ map (part.kind_in (names_tree names.old)) (view_automaton automaton.now).variables) }
-    ensures starts { IfOk result (λ cs. map cell_start cs.items ≡ map (part.start_in (names_tree names.old)) (view_automaton automaton.now).variables) }
+    ensures at { OnOk result (progress.new.at ≡ progress.old.at
+        + body.states_size (view_automaton automaton.now)) }
+    ensures names { OnOk result (names_tree names.new
+        ≡ rule.with_variables (names_tree names.old) (names_tree names.old) 0
+        (view_automaton automaton.now).variables) }
+    ensures faults { OnOk result (AreNoted progress.old progress.new
+        (body.states_faults (names_tree names.old) progress.old.at
+        (view_automaton automaton.now))) }
+    ensures kinds { IfOk result (λ cs. map cell_kind cs.items
+        ≡ map (part.kind_in (names_tree names.old)) (view_automaton automaton.now).variables) }
+    ensures starts { IfOk result (λ cs. map cell_start cs.items
+        ≡ map (part.start_in (names_tree names.old)) (view_automaton automaton.now).variables) }
 {
     let entries = automaton.entries.as_slice();
     let variables = automaton.variables.as_slice();
@@ -122,10 +139,14 @@ fn check_actions(
     progress: &mut Progress,
 ) -> Result<Vec<Meant>, AllocError>
     requires room { progress.old.at + body.actions_size (view_automaton automaton.now) < 2 ^ 32 }
-    ensures at { OnOk result (progress.new.at ≡ progress.old.at + body.actions_size (view_automaton automaton.now)) }
+    ensures at { OnOk result (progress.new.at ≡ progress.old.at
+        + body.actions_size (view_automaton automaton.now)) }
     ensures names { OnOk result (names_tree names.new ≡ names_tree names.old) }
-    ensures faults { OnOk result (AreNoted progress.old progress.new (body.actions_faults (names_tree names.old) progress.old.at (view_automaton automaton.now))) }
-    ensures meant { IfOk result (λ ms. map meant_tree ms.items ≡ map (meant_by (names_tree names.old)) (view_automaton automaton.now).transitions) }
+    ensures faults { OnOk result (AreNoted progress.old progress.new
+        (body.actions_faults (names_tree names.old) progress.old.at
+        (view_automaton automaton.now))) }
+    ensures meant { IfOk result (λ ms. map meant_tree ms.items
+        ≡ map (meant_by (names_tree names.old)) (view_automaton automaton.now).transitions) }
 {
     let entries = automaton.entries.as_slice();
     let transitions = automaton.transitions.as_slice();
@@ -146,10 +167,14 @@ fn check_body(
     progress: &mut Progress,
 ) -> Result<MeantAutomaton, AllocError>
     requires room { progress.old.at + automaton_size (view_automaton automaton.now) < 2 ^ 32 }
-    ensures at { OnOk result (progress.new.at ≡ progress.old.at + automaton_size (view_automaton automaton.now)) }
-    ensures names { OnOk result (names_tree names.new ≡ rule.around (names_tree names.old) (view_automaton automaton.now)) }
-    ensures faults { OnOk result (AreNoted progress.old progress.new (rule.body_faults (names_tree names.old) progress.old.at (view_automaton automaton.now))) }
-    ensures meant { IfOk result (λ m. automaton_tree m ≡ rule.meaning_of (names_tree names.old) (view_automaton automaton.now)) }
+    ensures at { OnOk result (progress.new.at ≡ progress.old.at
+        + automaton_size (view_automaton automaton.now)) }
+    ensures names { OnOk result (names_tree names.new
+        ≡ rule.around (names_tree names.old) (view_automaton automaton.now)) }
+    ensures faults { OnOk result (AreNoted progress.old progress.new
+        (rule.body_faults (names_tree names.old) progress.old.at (view_automaton automaton.now))) }
+    ensures meant { IfOk result (λ m. automaton_tree m
+        ≡ rule.meaning_of (names_tree names.old) (view_automaton automaton.now)) }
 {
     let formals = check_front(alloc, names, automaton, progress)?;
     let cells = check_states(alloc, names, automaton, progress)?;
@@ -175,10 +200,13 @@ pub(crate) fn check_inside(
     progress: &mut Progress,
 ) -> Result<MeantAutomaton, AllocError>
     requires room { progress.old.at + automaton_size (view_automaton automaton.now) < 2 ^ 32 }
-    ensures at { OnOk result (progress.new.at ≡ progress.old.at + automaton_size (view_automaton automaton.now)) }
+    ensures at { OnOk result (progress.new.at ≡ progress.old.at
+        + automaton_size (view_automaton automaton.now)) }
     ensures names { OnOk result (names_tree names.new ≡ names_tree names.old) }
-    ensures faults { OnOk result (AreNoted progress.old progress.new (rule.body_faults (names_tree names.old) progress.old.at (view_automaton automaton.now))) }
-    ensures meant { IfOk result (λ m. automaton_tree m ≡ rule.meaning_of (names_tree names.old) (view_automaton automaton.now)) }
+    ensures faults { OnOk result (AreNoted progress.old progress.new
+        (rule.body_faults (names_tree names.old) progress.old.at (view_automaton automaton.now))) }
+    ensures meant { IfOk result (λ m. automaton_tree m
+        ≡ rule.meaning_of (names_tree names.old) (view_automaton automaton.now)) }
 {
     let len = names.len();
     let meant = check_body(alloc, names, automaton, progress)?;

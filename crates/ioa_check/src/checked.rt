@@ -23,7 +23,8 @@ impl Model for Checked {
 
     ghost Value = { Resolved };
 
-    ghost coded = { Prim.hlevel (codes, kind.the_row.coded, term.the_row.coded, effect.the_row.coded) };
+    ghost coded = { Prim.hlevel
+        (codes, kind.the_row.coded, term.the_row.coded, effect.the_row.coded) };
 
     ghost view = { λ c. c.resolved };
 

@@ -26,9 +26,11 @@ use std::alloc::{AllocError, Global};
 
 // What a tree means, and its least fault.
 fn judge(alloc: Global, tree: &SourceTree) -> Result<(MeantSource, Option<Fault>), AllocError>
-    requires room { composed_at (view_source tree.now) + composed_size (view_source tree.now).composed ≤ 65536 }
+    requires room { composed_at (view_source tree.now)
+        + composed_size (view_source tree.now).composed ≤ 65536 }
     ensures meant { IfOk result (λ x. source_tree x.0 ≡ source_meaning (view_source tree.now)) }
-    ensures least { IfOk result (λ x. least_tree x.1 ≡ keep None (source_faults (view_source tree.now))) }
+    ensures least { IfOk result (λ x. least_tree x.1
+        ≡ keep None (source_faults (view_source tree.now))) }
 {
     let mut names = Names::new(alloc);
     let mut used = Used::new(alloc);

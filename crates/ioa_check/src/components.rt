@@ -35,8 +35,12 @@ fn automaton_named(names: &Names, name: &str) -> Option<usize>
 // Checks a component's name, and puts it among the names of components.
 fn check_name(used: &mut Used, name: &String, progress: &mut Progress) -> Result<(), AllocError>
     ensures at { OnOk result (progress.new.at ≡ progress.old.at) }
-    ensures names { OnOk result ((q : Bytes) → list_any (bytes_eq q) (used_names used.new) ≡ (bytes_eq q (string_bytes name.now) || list_any (bytes_eq q) (used_names used.old))) }
-    ensures faults { OnOk result (AreNoted progress.old progress.new (where_wrong (list_any (bytes_eq (string_bytes name.now)) (used_names used.old)) progress.old.at 11)) }
+    ensures names { OnOk result ((q : Bytes)
+        → list_any (bytes_eq q) (used_names used.new)
+        ≡ (bytes_eq q (string_bytes name.now) || list_any (bytes_eq q) (used_names used.old))) }
+    ensures faults { OnOk result (AreNoted progress.old progress.new
+        (where_wrong
+        (list_any (bytes_eq (string_bytes name.now)) (used_names used.old)) progress.old.at 11)) }
 {
     progress.note_if(
         used.contains(name.as_str()),
@@ -56,10 +60,18 @@ fn check_component(
     progress: &mut Progress,
 ) -> Result<MeantComponent, AllocError>
     requires room { progress.old.at + component_size (view_component component.now) < 2 ^ 32 }
-    ensures at { OnOk result (progress.new.at ≡ progress.old.at + component_size (view_component component.now)) }
-    ensures names { OnOk result ((q : Bytes) → list_any (bytes_eq q) (used_names used.new) ≡ (bytes_eq q (string_bytes component.now.name) || list_any (bytes_eq q) (used_names used.old))) }
-    ensures faults { OnOk result (AreNoted progress.old progress.new (source.component_faults (names_tree names.now) (map automaton_tree table.now) (used_names used.old) progress.old.at (view_component component.now))) }
-    ensures meant { IfOk result (λ c. component_tree c ≡ source.component_of (names_tree names.now) (map automaton_tree table.now) (view_component component.now)) }
+    ensures at { OnOk result (progress.new.at ≡ progress.old.at
+        + component_size (view_component component.now)) }
+    ensures names { OnOk result ((q : Bytes)
+        → list_any (bytes_eq q) (used_names used.new)
+        ≡ (bytes_eq q (string_bytes component.now.name)
+        || list_any (bytes_eq q) (used_names used.old))) }
+    ensures faults { OnOk result (AreNoted progress.old progress.new
+        (source.component_faults (names_tree names.now) (map automaton_tree table.now)
+        (used_names used.old) progress.old.at (view_component component.now))) }
+    ensures meant { IfOk result (λ c. component_tree c
+        ≡ source.component_of (names_tree names.now) (map automaton_tree table.now)
+        (view_component component.now)) }
 {
     check_name(used, &component.name, progress)?;
     progress.at += 2;
@@ -82,10 +94,16 @@ pub(crate) fn check_components(
     components: &[ComponentTree],
     progress: &mut Progress,
 ) -> Result<Vec<MeantComponent>, AllocError>
-    requires room { progress.old.at + listed_size component_size (map view_component components.now) < 2 ^ 32 }
-    ensures at { OnOk result (progress.new.at ≡ progress.old.at + listed_size component_size (map view_component components.now)) }
-    ensures faults { OnOk result (AreNoted progress.old progress.new (source.components_faults (names_tree names.now) (map automaton_tree table.now) [] progress.old.at (map view_component components.now))) }
-    ensures meant { IfOk result (λ cs. map component_tree cs.items ≡ source.components_of (names_tree names.now) (map automaton_tree table.now) (map view_component components.now)) }
+    requires room { progress.old.at + listed_size component_size (map view_component components.now)
+        < 2 ^ 32 }
+    ensures at { OnOk result (progress.new.at ≡ progress.old.at
+        + listed_size component_size (map view_component components.now)) }
+    ensures faults { OnOk result (AreNoted progress.old progress.new
+        (source.components_faults (names_tree names.now)
+        (map automaton_tree table.now) [] progress.old.at (map view_component components.now))) }
+    ensures meant { IfOk result (λ cs. map component_tree cs.items
+        ≡ source.components_of (names_tree names.now) (map automaton_tree table.now)
+        (map view_component components.now)) }
 {
     let mut meant = Vec::new(alloc);
     let mut used = Used::new(alloc);

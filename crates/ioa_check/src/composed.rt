@@ -24,7 +24,8 @@ use std::alloc::{AllocError, Global};
 
 // Whether a name stands in scope, or was used before.
 fn is_taken(names: &Names, used: &Used, name: &str) -> bool
-    ensures { result ≡ (is_some (named name.now (names_tree names.now)) || list_any (bytes_eq name.now) (used_names used.now)) }
+    ensures { result ≡ (is_some (named name.now (names_tree names.now))
+        || list_any (bytes_eq name.now) (used_names used.now)) }
 {
     names.get(name).is_some() || used.contains(name)
 }
@@ -33,7 +34,8 @@ fn is_taken(names: &Names, used: &Used, name: &str) -> bool
 fn check_name(names: &Names, used: &Used, name: &str, progress: &mut Progress)
     requires room { progress.old.at + 1 < 2 ^ 32 }
     ensures at { progress.new.at ≡ progress.old.at }
-    ensures faults { AreNoted progress.old progress.new (taken_before (names_tree names.now) (used_names used.now) (progress.old.at + 1) name.now) }
+    ensures faults { AreNoted progress.old progress.new
+        (taken_before (names_tree names.now) (used_names used.now) (progress.old.at + 1) name.now) }
 {
     progress.note_if(
         is_taken(names, used, name),
@@ -53,10 +55,17 @@ pub fn check_composed(
     progress: &mut Progress,
 ) -> Result<MeantComposed, AllocError>
     requires room { progress.old.at + composed_size (view_composed composed.now) < 2 ^ 32 }
-    ensures at { OnOk result (progress.new.at ≡ progress.old.at + composed_size (view_composed composed.now)) }
-    ensures faults { OnOk result ((L : List Bytes) → AreNames (used_names used.now) L → AreNoted progress.old progress.new (source.composed_faults (names_tree names.now) L (map automaton_tree table.now) progress.old.at (view_composed composed.now))) }
-    ensures components { IfOk result (λ m. map component_tree m.components.items ≡ source.components_of (names_tree names.now) (map automaton_tree table.now) (map view_component composed.now.components.items)) }
-    ensures hidden { IfOk result (λ m. map string_bytes m.hidden.items ≡ map string_bytes composed.now.hidden.items) }
+    ensures at { OnOk result (progress.new.at ≡ progress.old.at
+        + composed_size (view_composed composed.now)) }
+    ensures faults { OnOk result ((L : List Bytes) → AreNames (used_names used.now) L
+        → AreNoted progress.old progress.new
+        (source.composed_faults (names_tree names.now) L
+        (map automaton_tree table.now) progress.old.at (view_composed composed.now))) }
+    ensures components { IfOk result (λ m. map component_tree m.components.items
+        ≡ source.components_of (names_tree names.now) (map automaton_tree table.now)
+        (map view_component composed.now.components.items)) }
+    ensures hidden { IfOk result (λ m. map string_bytes m.hidden.items
+        ≡ map string_bytes composed.now.hidden.items) }
 {
     check_name(names, used, composed.name.as_str(), progress);
     progress.at += 3;

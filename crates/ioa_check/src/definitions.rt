@@ -22,11 +22,17 @@ fn check_members(
     members: &[String],
     progress: &mut Progress,
 ) -> Result<(), AllocError>
-    requires room { progress.old.at + listed_size name_size (map string_bytes members.now) < 2 ^ 32 }
+    requires room { progress.old.at + listed_size name_size (map string_bytes members.now)
+        < 2 ^ 32 }
     requires few { first + length members.now < 2 ^ 16 }
-    ensures at { OnOk result (progress.new.at ≡ progress.old.at + listed_size name_size (map string_bytes members.now)) }
-    ensures names { OnOk result (names_tree names.new ≡ rule.with_members (names_tree names.old) first (length members.now) first (map string_bytes members.now)) }
-    ensures faults { OnOk result (AreNoted progress.old progress.new (rule.members_faults (names_tree names.old) first (length members.now) first progress.old.at (map string_bytes members.now))) }
+    ensures at { OnOk result (progress.new.at ≡ progress.old.at
+        + listed_size name_size (map string_bytes members.now)) }
+    ensures names { OnOk result (names_tree names.new
+        ≡ rule.with_members (names_tree names.old) first (length members.now) first
+        (map string_bytes members.now)) }
+    ensures faults { OnOk result (AreNoted progress.old progress.new
+        (rule.members_faults (names_tree names.old) first (length members.now) first progress.old.at
+        (map string_bytes members.now))) }
 {
     let count = members.len() as u16;
     let mut member = first;
@@ -61,11 +67,25 @@ fn check_enumeration(
     members: &[String],
     progress: &mut Progress,
 ) -> Result<(), AllocError>
-    requires room { progress.old.at + (part.enumeration_words (map string_bytes members.now) + listed_size name_size (map string_bytes members.now)) < 2 ^ 32 }
+    requires room { progress.old.at
+        + (part.enumeration_words (map string_bytes members.now)
+        + listed_size name_size (map string_bytes members.now)) < 2 ^ 32 }
     requires few { first + length members.now < 2 ^ 16 }
-    ensures at { OnOk result (progress.new.at ≡ progress.old.at + (part.enumeration_words (map string_bytes members.now) + listed_size name_size (map string_bytes members.now))) }
-    ensures names { OnOk result (names_tree names.new ≡ rule.with_members (scopes.declare (string_bytes name.now) (scopes.OfType (Some (kinds.Enum first (length members.now)))) (names_tree names.old)) first (length members.now) first (map string_bytes members.now)) }
-    ensures faults { OnOk result (AreNoted progress.old progress.new (rule.members_faults (scopes.declare (string_bytes name.now) (scopes.OfType (Some (kinds.Enum first (length members.now)))) (names_tree names.old)) first (length members.now) first (progress.old.at + part.enumeration_words (map string_bytes members.now)) (map string_bytes members.now))) }
+    ensures at { OnOk result (progress.new.at ≡ progress.old.at
+        + (part.enumeration_words (map string_bytes members.now)
+        + listed_size name_size (map string_bytes members.now))) }
+    ensures names { OnOk result (names_tree names.new
+        ≡ rule.with_members
+        (scopes.declare (string_bytes name.now)
+        (scopes.OfType (Some (kinds.Enum first (length members.now)))) (names_tree names.old)) first
+        (length members.now) first (map string_bytes members.now)) }
+    ensures faults { OnOk result (AreNoted progress.old progress.new
+        (rule.members_faults
+        (scopes.declare (string_bytes name.now)
+        (scopes.OfType (Some (kinds.Enum first (length members.now)))) (names_tree names.old)) first
+        (length members.now) first
+        (progress.old.at + part.enumeration_words (map string_bytes members.now))
+        (map string_bytes members.now))) }
 {
     progress.at += enumeration_words(members);
     let count = members.len() as u16;
@@ -83,8 +103,12 @@ fn check_alias(
 ) -> Result<(), AllocError>
     requires room { progress.old.at + type_size (view_type tree.now) < 2 ^ 32 }
     ensures at { OnOk result (progress.new.at ≡ progress.old.at + type_size (view_type tree.now)) }
-    ensures names { OnOk result (names_tree names.new ≡ scopes.declare (string_bytes name.now) (scopes.OfType (kind_of (names_tree names.old) (view_type tree.now))) (names_tree names.old)) }
-    ensures faults { OnOk result (AreNoted progress.old progress.new (type_faults (names_tree names.old) progress.old.at (view_type tree.now))) }
+    ensures names { OnOk result (names_tree names.new
+        ≡ scopes.declare (string_bytes name.now)
+        (scopes.OfType (kind_of (names_tree names.old) (view_type tree.now)))
+        (names_tree names.old)) }
+    ensures faults { OnOk result (AreNoted progress.old progress.new
+        (type_faults (names_tree names.old) progress.old.at (view_type tree.now))) }
 {
     let kind = check_type(alloc, names, tree, progress)?;
     names.declare(name, Meaning::Type(kind))?;
@@ -99,11 +123,16 @@ fn check_definition(
     definition: &TypeDefinition,
     progress: &mut Progress,
 ) -> Result<(), AllocError>
-    requires room { progress.old.at + definition_size (view_type_definition definition.now) < 2 ^ 32 }
+    requires room { progress.old.at + definition_size (view_type_definition definition.now)
+        < 2 ^ 32 }
     requires few { first + length (rule.members_in (view_type_body definition.now.body)) < 2 ^ 16 }
-    ensures at { OnOk result (progress.new.at ≡ progress.old.at + definition_size (view_type_definition definition.now)) }
-    ensures names { OnOk result (names_tree names.new ≡ rule.with_definition (names_tree names.old) first (view_type_definition definition.now)) }
-    ensures faults { OnOk result (AreNoted progress.old progress.new (rule.definition_faults (names_tree names.old) first progress.old.at (view_type_definition definition.now))) }
+    ensures at { OnOk result (progress.new.at ≡ progress.old.at
+        + definition_size (view_type_definition definition.now)) }
+    ensures names { OnOk result (names_tree names.new
+        ≡ rule.with_definition (names_tree names.old) first (view_type_definition definition.now)) }
+    ensures faults { OnOk result (AreNoted progress.old progress.new
+        (rule.definition_faults (names_tree names.old) first progress.old.at
+        (view_type_definition definition.now))) }
 {
     progress.at += 1;
     let at = progress.at;
@@ -127,7 +156,8 @@ fn check_definition(
 
 // The members that a definition defines, after those before it.
 fn push_members(members: &mut Vec<String>, body: &TypeBody) -> Result<(), AllocError>
-    ensures { OnOk result (map string_bytes members.new.items ≡ map string_bytes members.old.items ++ rule.members_in (view_type_body body.now)) }
+    ensures { OnOk result (map string_bytes members.new.items ≡ map string_bytes members.old.items
+        ++ rule.members_in (view_type_body body.now)) }
 {
     match body {
         TypeBody::Same(_) => Ok(()),
@@ -139,7 +169,8 @@ fn push_members(members: &mut Vec<String>, body: &TypeBody) -> Result<(), AllocE
 }
 
 fn push_names(members: &mut Vec<String>, names: &[String]) -> Result<(), AllocError>
-    ensures { OnOk result (map string_bytes members.new.items ≡ map string_bytes members.old.items ++ map string_bytes names.now) }
+    ensures { OnOk result (map string_bytes members.new.items ≡ map string_bytes members.old.items
+        ++ map string_bytes names.now) }
 {
     for name in names {
         members.push(name.clone()?)?;
@@ -154,11 +185,18 @@ pub(crate) fn check_definitions(
     definitions: &[TypeDefinition],
     progress: &mut Progress,
 ) -> Result<Vec<String>, AllocError>
-    requires room { progress.old.at + rule.definitions_size (map view_type_definition definitions.now) ≤ 65536 }
-    ensures at { OnOk result (progress.new.at ≡ progress.old.at + rule.definitions_size (map view_type_definition definitions.now)) }
-    ensures names { OnOk result (names_tree names.new ≡ rule.with_definitions (names_tree names.old) 0 (map view_type_definition definitions.now)) }
-    ensures faults { OnOk result (AreNoted progress.old progress.new (rule.definitions_faults (names_tree names.old) 0 progress.old.at (map view_type_definition definitions.now))) }
-    ensures members { IfOk result (λ ms. map string_bytes ms.items ≡ rule.all_members (map view_type_definition definitions.now)) }
+    requires room { progress.old.at
+        + rule.definitions_size (map view_type_definition definitions.now) ≤ 65536 }
+    ensures at { OnOk result (progress.new.at ≡ progress.old.at
+        + rule.definitions_size (map view_type_definition definitions.now)) }
+    ensures names { OnOk result (names_tree names.new
+        ≡ rule.with_definitions (names_tree names.old) 0
+        (map view_type_definition definitions.now)) }
+    ensures faults { OnOk result (AreNoted progress.old progress.new
+        (rule.definitions_faults (names_tree names.old) 0 progress.old.at
+        (map view_type_definition definitions.now))) }
+    ensures members { IfOk result (λ ms. map string_bytes ms.items
+        ≡ rule.all_members (map view_type_definition definitions.now)) }
 {
     let mut members = Vec::new(alloc);
     let mut first = 0;

@@ -39,10 +39,14 @@ fn check_formal(
     progress: &mut Progress,
 ) -> Result<Option<Kind>, AllocError>
     requires room { progress.old.at + declared_size (view_declared declared.now) < 2 ^ 32 }
-    ensures at { OnOk result (progress.new.at ≡ progress.old.at + declared_size (view_declared declared.now)) }
-    ensures names { OnOk result (names_tree names.new ≡ part.with_formal (names_tree names.old) number (view_declared declared.now)) }
-    ensures faults { OnOk result (AreNoted progress.old progress.new (part.formal_faults (names_tree names.old) progress.old.at (view_declared declared.now))) }
-    ensures kind { IfOk result (λ k. option_tree k ≡ kind_of (names_tree names.old) (view_type declared.now.of)) }
+    ensures at { OnOk result (progress.new.at ≡ progress.old.at
+        + declared_size (view_declared declared.now)) }
+    ensures names { OnOk result (names_tree names.new
+        ≡ part.with_formal (names_tree names.old) number (view_declared declared.now)) }
+    ensures faults { OnOk result (AreNoted progress.old progress.new
+        (part.formal_faults (names_tree names.old) progress.old.at (view_declared declared.now))) }
+    ensures kind { IfOk result (λ k. option_tree k
+        ≡ kind_of (names_tree names.old) (view_type declared.now.of)) }
 {
     let at = progress.at;
     progress.note_if(
@@ -65,11 +69,17 @@ pub fn check_formals(
     formals: &[Declared],
     progress: &mut Progress,
 ) -> Result<Vec<Option<Kind>>, AllocError>
-    requires room { progress.old.at + listed_size declared_size (map view_declared formals.now) < 2 ^ 32 }
-    ensures at { OnOk result (progress.new.at ≡ progress.old.at + listed_size declared_size (map view_declared formals.now)) }
-    ensures names { OnOk result (names_tree names.new ≡ rule.with_formals (names_tree names.old) 0 (map view_declared formals.now)) }
-    ensures faults { OnOk result (AreNoted progress.old progress.new (rule.formals_faults (names_tree names.old) 0 progress.old.at (map view_declared formals.now))) }
-    ensures kinds { IfOk result (λ ks. map option_tree ks.items ≡ rule.formal_kinds (names_tree names.old) 0 (map view_declared formals.now)) }
+    requires room { progress.old.at + listed_size declared_size (map view_declared formals.now)
+        < 2 ^ 32 }
+    ensures at { OnOk result (progress.new.at ≡ progress.old.at
+        + listed_size declared_size (map view_declared formals.now)) }
+    ensures names { OnOk result (names_tree names.new
+        ≡ rule.with_formals (names_tree names.old) 0 (map view_declared formals.now)) }
+    ensures faults { OnOk result (AreNoted progress.old progress.new
+        (rule.formals_faults (names_tree names.old) 0 progress.old.at
+        (map view_declared formals.now))) }
+    ensures kinds { IfOk result (λ ks. map option_tree ks.items
+        ≡ rule.formal_kinds (names_tree names.old) 0 (map view_declared formals.now)) }
 {
     let mut kinds = Vec::new(alloc);
     let mut is_first = true;

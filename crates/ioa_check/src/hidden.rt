@@ -15,8 +15,10 @@ pub(crate) fn check_hidden(
     progress: &mut Progress,
 ) -> Result<Vec<String>, AllocError>
     requires room { progress.old.at + hidden_size (map string_bytes hidden.now) < 2 ^ 32 }
-    ensures at { OnOk result (progress.new.at ≡ progress.old.at + hidden_size (map string_bytes hidden.now)) }
-    ensures faults { OnOk result (AreNoted progress.old progress.new (hidden_faults [] (progress.old.at + 1) (map string_bytes hidden.now))) }
+    ensures at { OnOk result (progress.new.at ≡ progress.old.at
+        + hidden_size (map string_bytes hidden.now)) }
+    ensures faults { OnOk result (AreNoted progress.old progress.new
+        (hidden_faults [] (progress.old.at + 1) (map string_bytes hidden.now))) }
     ensures meant { IfOk result (λ ns. map string_bytes ns.items ≡ map string_bytes hidden.now) }
 {
     let mut meant = Vec::new(alloc);

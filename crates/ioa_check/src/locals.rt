@@ -14,14 +14,16 @@ use ioa_trees::tree::{
 use std::alloc::AllocError;
 
 fn use_name(used: &mut Used, name: &String) -> Result<(), AllocError>
-    ensures { OnOk result (Adds (used_names used.new) (string_bytes name.now ∷ []) (used_names used.old)) }
+    ensures { OnOk result (Adds (used_names used.new) (string_bytes name.now ∷ [])
+        (used_names used.old)) }
 {
     used.insert(name)?;
     Ok(())
 }
 
 fn use_formals(used: &mut Used, formals: &[Declared]) -> Result<(), AllocError>
-    ensures { OnOk result (Adds (used_names used.new) (part.formal_names (map view_declared formals.now)) (used_names used.old)) }
+    ensures { OnOk result (Adds (used_names used.new)
+        (part.formal_names (map view_declared formals.now)) (used_names used.old)) }
 {
     for declared in formals {
         use_name(used, &declared.name)?;
@@ -30,7 +32,8 @@ fn use_formals(used: &mut Used, formals: &[Declared]) -> Result<(), AllocError>
 }
 
 fn use_variables(used: &mut Used, variables: &[Variable]) -> Result<(), AllocError>
-    ensures { OnOk result (Adds (used_names used.new) (part.variable_names (map view_variable variables.now)) (used_names used.old)) }
+    ensures { OnOk result (Adds (used_names used.new)
+        (part.variable_names (map view_variable variables.now)) (used_names used.old)) }
 {
     for variable in variables {
         use_name(used, &variable.declared.name)?;
@@ -39,7 +42,8 @@ fn use_variables(used: &mut Used, variables: &[Variable]) -> Result<(), AllocErr
 }
 
 fn use_parameter(used: &mut Used, parameter: &Parameter) -> Result<(), AllocError>
-    ensures { OnOk result (Adds (used_names used.new) (rule.typed_names (view_parameter parameter.now ∷ [])) (used_names used.old)) }
+    ensures { OnOk result (Adds (used_names used.new)
+        (rule.typed_names (view_parameter parameter.now ∷ [])) (used_names used.old)) }
 {
     match parameter {
         Parameter::Constant(_) => Ok(()),
@@ -51,7 +55,8 @@ fn use_parameter(used: &mut Used, parameter: &Parameter) -> Result<(), AllocErro
 }
 
 fn use_typed(used: &mut Used, parameters: &[Parameter]) -> Result<(), AllocError>
-    ensures { OnOk result (Adds (used_names used.new) (rule.typed_names (map view_parameter parameters.now)) (used_names used.old)) }
+    ensures { OnOk result (Adds (used_names used.new)
+        (rule.typed_names (map view_parameter parameters.now)) (used_names used.old)) }
 {
     for parameter in parameters {
         use_parameter(used, parameter)?;
@@ -61,7 +66,8 @@ fn use_typed(used: &mut Used, parameters: &[Parameter]) -> Result<(), AllocError
 
 /// Puts the names of the typed parameters of all entries among the names.
 pub fn use_parameters(used: &mut Used, entries: &[Entry]) -> Result<(), AllocError>
-    ensures { OnOk result (Adds (used_names used.new) (rule.entry_names (map view_entry entries.now)) (used_names used.old)) }
+    ensures { OnOk result (Adds (used_names used.new)
+        (rule.entry_names (map view_entry entries.now)) (used_names used.old)) }
 {
     for entry in entries {
         use_typed(used, entry.parameters.as_slice())?;
@@ -71,7 +77,8 @@ pub fn use_parameters(used: &mut Used, entries: &[Entry]) -> Result<(), AllocErr
 
 #[cycle(using_loops)]
 fn use_statement(used: &mut Used, statement: &Statement) -> Result<(), AllocError>
-    ensures { OnOk result (Adds (used_names used.new) (rule.loops_of (view_statement statement.now)) (used_names used.old)) }
+    ensures { OnOk result (Adds (used_names used.new) (rule.loops_of (view_statement statement.now))
+        (used_names used.old)) }
 {
     match statement {
         Statement::Assign(_, _, _) => Ok(()),
@@ -89,7 +96,9 @@ fn use_statement(used: &mut Used, statement: &Statement) -> Result<(), AllocErro
 
 #[cycle(using_loops)]
 fn use_loop(used: &mut Used, declared: &Declared, body: &[Statement]) -> Result<(), AllocError>
-    ensures { OnOk result (Adds (used_names used.new) (rule.loops_of (For (view_declared declared.now) (view_statements body.now))) (used_names used.old)) }
+    ensures { OnOk result (Adds (used_names used.new)
+        (rule.loops_of (For (view_declared declared.now) (view_statements body.now)))
+        (used_names used.old)) }
 {
     use_name(used, &declared.name)?;
     use_loops(used, body)?;
@@ -98,7 +107,8 @@ fn use_loop(used: &mut Used, declared: &Declared, body: &[Statement]) -> Result<
 
 #[cycle(using_loops)]
 fn use_branch(used: &mut Used, branch: &Branch) -> Result<(), AllocError>
-    ensures { OnOk result (Adds (used_names used.new) (rule.all_loops (view_branch branch.now).1) (used_names used.old)) }
+    ensures { OnOk result (Adds (used_names used.new) (rule.all_loops (view_branch branch.now).1)
+        (used_names used.old)) }
 {
     use_loops(used, branch.body.as_slice())?;
     Ok(())
@@ -106,7 +116,8 @@ fn use_branch(used: &mut Used, branch: &Branch) -> Result<(), AllocError>
 
 #[cycle(using_loops)]
 fn use_branches(used: &mut Used, branches: &[Branch]) -> Result<(), AllocError>
-    ensures { OnOk result (Adds (used_names used.new) (rule.loops_in (pack_branches (map view_branch branches.now))) (used_names used.old)) }
+    ensures { OnOk result (Adds (used_names used.new)
+        (rule.loops_in (pack_branches (map view_branch branches.now))) (used_names used.old)) }
 {
     for branch in branches {
         use_branch(used, branch)?;
@@ -117,7 +128,8 @@ fn use_branches(used: &mut Used, branches: &[Branch]) -> Result<(), AllocError>
 // The variables of loops.
 #[cycle(using_loops)]
 fn use_loops(used: &mut Used, statements: &[Statement]) -> Result<(), AllocError>
-    ensures { OnOk result (Adds (used_names used.new) (rule.all_loops (view_statements statements.now)) (used_names used.old)) }
+    ensures { OnOk result (Adds (used_names used.new)
+        (rule.all_loops (view_statements statements.now)) (used_names used.old)) }
 {
     for statement in statements {
         use_statement(used, statement)?;
@@ -126,7 +138,9 @@ fn use_loops(used: &mut Used, statements: &[Statement]) -> Result<(), AllocError
 }
 
 fn use_transitions(used: &mut Used, transitions: &[Transition]) -> Result<(), AllocError>
-    ensures { OnOk result (Adds (used_names used.new) (rule.all_of (λ t. rule.all_loops t.eff) (map view_transition transitions.now)) (used_names used.old)) }
+    ensures { OnOk result (Adds (used_names used.new)
+        (rule.all_of (λ t. rule.all_loops t.eff) (map view_transition transitions.now))
+        (used_names used.old)) }
 {
     for transition in transitions {
         use_loops(used, transition.eff.as_slice())?;
@@ -136,7 +150,8 @@ fn use_transitions(used: &mut Used, transitions: &[Transition]) -> Result<(), Al
 
 /// Puts all names that an automaton declares among the names: formals, typed parameters, state variables and loop variables.
 pub fn use_locals(used: &mut Used, automaton: &Automaton) -> Result<(), AllocError>
-    ensures { OnOk result (Adds (used_names used.new) (rule.locals (view_automaton automaton.now)) (used_names used.old)) }
+    ensures { OnOk result (Adds (used_names used.new) (rule.locals (view_automaton automaton.now))
+        (used_names used.old)) }
 {
     use_formals(used, automaton.formals.as_slice())?;
     use_parameters(used, automaton.entries.as_slice())?;

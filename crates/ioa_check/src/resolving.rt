@@ -88,8 +88,10 @@ fn variable(cell: Cell) -> Variable
 fn variables(alloc: Global, cells: Vec<Cell>) -> Result<Vec<Variable>, AllocError>
     requires kinds { AllSome (map cell_kind cells.items) }
     requires starts { AllSome (map cell_start cells.items) }
-    ensures kinds { IfOk result (λ vs. map (λ v. option_tree (Some v.kind)) vs.items ≡ map cell_kind cells.items) }
-    ensures starts { IfOk result (λ vs. map (λ v. core_tree (Some v.start)) vs.items ≡ map cell_start cells.items) }
+    ensures kinds { IfOk result (λ vs. map (λ v. option_tree (Some v.kind)) vs.items
+        ≡ map cell_kind cells.items) }
+    ensures starts { IfOk result (λ vs. map (λ v. core_tree (Some v.start)) vs.items
+        ≡ map cell_start cells.items) }
 {
     let mut found = Vec::new(alloc);
     for cell in cells {

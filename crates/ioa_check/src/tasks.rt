@@ -51,7 +51,8 @@ fn is_controlled_name(entries: &[Entry], name: &str) -> bool
 
 // Whether a name is none of an output or internal, or stood in a task before.
 fn is_wrong(entries: &[Entry], used: &Used, name: &str) -> bool
-    ensures { result ≡ part.is_wrong_name (map view_entry entries.now) (used_names used.now) name.now }
+    ensures { result ≡ part.is_wrong_name (map view_entry entries.now)
+        (used_names used.now) name.now }
 {
     !is_controlled_name(entries, name) || used.contains(name)
 }
@@ -63,8 +64,13 @@ fn check_name(
     progress: &mut Progress,
 ) -> Result<(), AllocError>
     ensures at { OnOk result (progress.new.at ≡ progress.old.at) }
-    ensures names { OnOk result ((q : Bytes) → list_any (bytes_eq q) (used_names used.new) ≡ (bytes_eq q (string_bytes name.now) || list_any (bytes_eq q) (used_names used.old))) }
-    ensures faults { OnOk result (AreNoted progress.old progress.new (where_wrong (part.is_wrong_name (map view_entry entries.now) (used_names used.old) (string_bytes name.now)) progress.old.at 16)) }
+    ensures names { OnOk result ((q : Bytes)
+        → list_any (bytes_eq q) (used_names used.new)
+        ≡ (bytes_eq q (string_bytes name.now) || list_any (bytes_eq q) (used_names used.old))) }
+    ensures faults { OnOk result (AreNoted progress.old progress.new
+        (where_wrong
+        (part.is_wrong_name (map view_entry entries.now) (used_names used.old)
+        (string_bytes name.now)) progress.old.at 16)) }
 {
     let wrong = is_wrong(entries, used, name.as_str());
     progress.note_if(wrong, progress.at, FaultKind::TasksNotAPartition);
@@ -81,8 +87,11 @@ fn check_names(
 ) -> Result<(), AllocError>
     requires room { progress.old.at + 2 * length task.now < 2 ^ 32 }
     ensures at { OnOk result (progress.new.at ≡ progress.old.at + 2 * length task.now) }
-    ensures names { OnOk result (Adds (used_names used.new) (map string_bytes task.now) (used_names used.old)) }
-    ensures faults { OnOk result (AreNoted progress.old progress.new (rule.task_faults (map view_entry entries.now) (used_names used.old) (progress.old.at + 1) (map string_bytes task.now))) }
+    ensures names { OnOk result (Adds (used_names used.new) (map string_bytes task.now)
+        (used_names used.old)) }
+    ensures faults { OnOk result (AreNoted progress.old progress.new
+        (rule.task_faults (map view_entry entries.now) (used_names used.old) (progress.old.at + 1)
+        (map string_bytes task.now))) }
 {
     for name in task {
         progress.at += 1;
@@ -109,9 +118,13 @@ fn check_task(
     progress: &mut Progress,
 ) -> Result<(), AllocError>
     requires room { progress.old.at + task_size (map string_bytes task.now) < 2 ^ 32 }
-    ensures at { OnOk result (progress.new.at ≡ progress.old.at + task_size (map string_bytes task.now)) }
-    ensures names { OnOk result (Adds (used_names used.new) (map string_bytes task.now) (used_names used.old)) }
-    ensures faults { OnOk result (AreNoted progress.old progress.new (rule.task_faults (map view_entry entries.now) (used_names used.old) (progress.old.at + 1) (map string_bytes task.now))) }
+    ensures at { OnOk result (progress.new.at ≡ progress.old.at
+        + task_size (map string_bytes task.now)) }
+    ensures names { OnOk result (Adds (used_names used.new) (map string_bytes task.now)
+        (used_names used.old)) }
+    ensures faults { OnOk result (AreNoted progress.old progress.new
+        (rule.task_faults (map view_entry entries.now) (used_names used.old) (progress.old.at + 1)
+        (map string_bytes task.now))) }
 {
     check_names(entries, used, task, progress)?;
     progress.at += closing(task);
@@ -126,8 +139,11 @@ pub fn check_tasks(
     progress: &mut Progress,
 ) -> Result<(), AllocError>
     requires room { progress.old.at + row_size task_size (task_names tasks.now) < 2 ^ 32 }
-    ensures at { OnOk result (progress.new.at ≡ progress.old.at + row_size task_size (task_names tasks.now)) }
-    ensures faults { OnOk result (AreNoted progress.old progress.new (rule.tasks_faults (map view_entry entries.now) [] progress.old.at (task_names tasks.now))) }
+    ensures at { OnOk result (progress.new.at ≡ progress.old.at
+        + row_size task_size (task_names tasks.now)) }
+    ensures faults { OnOk result (AreNoted progress.old progress.new
+        (rule.tasks_faults (map view_entry entries.now) [] progress.old.at
+        (task_names tasks.now))) }
 {
     let mut used = Used::new(alloc);
     for task in tasks {
@@ -153,7 +169,9 @@ fn places_of(
     transitions: &[Transition],
     task: &[String],
 ) -> Result<Vec<usize>, AllocError>
-    ensures { IfOk result (λ ns. ns.items ≡ map (λ q. rule.place_of q 0 (map view_transition transitions.now)) (map string_bytes task.now)) }
+    ensures { IfOk result (λ ns. ns.items
+        ≡ map (λ q. rule.place_of q 0 (map view_transition transitions.now))
+        (map string_bytes task.now)) }
 {
     let mut places = Vec::new(alloc);
     for name in task {
@@ -168,7 +186,9 @@ pub fn task_places(
     transitions: &[Transition],
     tasks: &[Vec<String>],
 ) -> Result<Vec<Vec<usize>>, AllocError>
-    ensures { IfOk result (λ ts. place_lists ts.items ≡ map (λ t. map (λ q. rule.place_of q 0 (map view_transition transitions.now)) t) (task_names tasks.now)) }
+    ensures { IfOk result (λ ts. place_lists ts.items
+        ≡ map (λ t. map (λ q. rule.place_of q 0 (map view_transition transitions.now)) t)
+        (task_names tasks.now)) }
 {
     let mut places = Vec::new(alloc);
     for task in tasks {

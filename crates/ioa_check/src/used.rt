@@ -34,8 +34,11 @@ impl Used {
     /// Puts a name among them; says whether it wasn't there. A refusal changes nothing.
     #[tactic(auto, using(crate::proofs::Sets::inserted_in))]
     pub fn insert(&mut self, name: &String) -> Result<bool, AllocError>
-        ensures names { OnOk result ((q : Bytes) → list_any (bytes_eq q) (used_names self.new) ≡ (bytes_eq q (string_bytes name.now) || list_any (bytes_eq q) (used_names self.old))) }
-        ensures fresh { IfOk result (λ b. b ≡ not (list_any (bytes_eq (string_bytes name.now)) (used_names self.old))) }
+        ensures names { OnOk result ((q : Bytes)
+            → list_any (bytes_eq q) (used_names self.new)
+            ≡ (bytes_eq q (string_bytes name.now) || list_any (bytes_eq q) (used_names self.old))) }
+        ensures fresh { IfOk result (λ b. b
+            ≡ not (list_any (bytes_eq (string_bytes name.now)) (used_names self.old))) }
         ensures err { OnErr result (used_names self.new ≡ used_names self.old) }
     {
         if self.contains(name.as_str()) {

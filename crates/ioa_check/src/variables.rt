@@ -62,7 +62,8 @@ fn goes_over(before: u64, kind: &Option<Kind>) -> bool
 
 // Whether a name stands in scope, or was used before.
 pub(crate) fn is_taken(names: &Names, used: &Used, name: &str) -> bool
-    ensures { result ≡ (is_some (named name.now (names_tree names.now)) || list_any (bytes_eq name.now) (used_names used.now)) }
+    ensures { result ≡ (is_some (named name.now (names_tree names.now))
+        || list_any (bytes_eq name.now) (used_names used.now)) }
 {
     names.get(name).is_some() || used.contains(name)
 }
@@ -78,10 +79,17 @@ fn check_head(
     progress: &mut Progress,
 ) -> Result<Option<Kind>, AllocError>
     requires room { progress.old.at + declared_size (view_declared declared.now) < 2 ^ 32 }
-    ensures at { OnOk result (progress.new.at ≡ progress.old.at + declared_size (view_declared declared.now)) }
-    ensures names { OnOk result ((q : Bytes) → list_any (bytes_eq q) (used_names used.new) ≡ (bytes_eq q (string_bytes declared.now.name) || list_any (bytes_eq q) (used_names used.old))) }
-    ensures faults { OnOk result (AreNoted progress.old progress.new (part.head_faults (names_tree names.now) (used_names used.old) before progress.old.at (view_declared declared.now))) }
-    ensures kind { IfOk result (λ k. option_tree k ≡ kind_of (names_tree names.now) (view_type declared.now.of)) }
+    ensures at { OnOk result (progress.new.at ≡ progress.old.at
+        + declared_size (view_declared declared.now)) }
+    ensures names { OnOk result ((q : Bytes)
+        → list_any (bytes_eq q) (used_names used.new)
+        ≡ (bytes_eq q (string_bytes declared.now.name)
+        || list_any (bytes_eq q) (used_names used.old))) }
+    ensures faults { OnOk result (AreNoted progress.old progress.new
+        (part.head_faults (names_tree names.now) (used_names used.old) before progress.old.at
+        (view_declared declared.now))) }
+    ensures kind { IfOk result (λ k. option_tree k
+        ≡ kind_of (names_tree names.now) (view_type declared.now.of)) }
 {
     let at = progress.at;
     let taken = is_taken(names, used, declared.name.as_str());
@@ -122,8 +130,11 @@ fn check_start(
 ) -> Result<Option<Term>, AllocError>
     requires room { progress.old.at + init_size (view_init start.now) < 2 ^ 32 }
     ensures at { OnOk result (progress.new.at ≡ progress.old.at + init_size (view_init start.now)) }
-    ensures faults { OnOk result (AreNoted progress.old progress.new (part.start_faults (names_tree names.now) (option_tree kind.now) progress.old.at (view_init start.now))) }
-    ensures value { IfOk result (λ t. core_tree t ≡ put_in (names_tree names.now) (option_tree kind.now) (view_init start.now)) }
+    ensures faults { OnOk result (AreNoted progress.old progress.new
+        (part.start_faults (names_tree names.now) (option_tree kind.now) progress.old.at
+        (view_init start.now))) }
+    ensures value { IfOk result (λ t. core_tree t
+        ≡ put_in (names_tree names.now) (option_tree kind.now) (view_init start.now)) }
 {
     let put = check_init(alloc, names, place_of(kind), start, progress)?;
     note_misfit(progress, put.misfit);
@@ -139,11 +150,19 @@ fn check_variable(
     progress: &mut Progress,
 ) -> Result<Cell, AllocError>
     requires room { progress.old.at + variable_size (view_variable variable.now) < 2 ^ 32 }
-    ensures at { OnOk result (progress.new.at ≡ progress.old.at + variable_size (view_variable variable.now)) }
-    ensures names { OnOk result ((q : Bytes) → list_any (bytes_eq q) (used_names used.new) ≡ (bytes_eq q (string_bytes variable.now.declared.name) || list_any (bytes_eq q) (used_names used.old))) }
-    ensures faults { OnOk result (AreNoted progress.old progress.new (rule.variable_faults (names_tree names.now) (used_names used.old) before progress.old.at (view_variable variable.now))) }
-    ensures kind { IfOk result (λ c. cell_kind c ≡ part.kind_in (names_tree names.now) (view_variable variable.now)) }
-    ensures start { IfOk result (λ c. cell_start c ≡ part.start_in (names_tree names.now) (view_variable variable.now)) }
+    ensures at { OnOk result (progress.new.at ≡ progress.old.at
+        + variable_size (view_variable variable.now)) }
+    ensures names { OnOk result ((q : Bytes)
+        → list_any (bytes_eq q) (used_names used.new)
+        ≡ (bytes_eq q (string_bytes variable.now.declared.name)
+        || list_any (bytes_eq q) (used_names used.old))) }
+    ensures faults { OnOk result (AreNoted progress.old progress.new
+        (rule.variable_faults (names_tree names.now) (used_names used.old) before progress.old.at
+        (view_variable variable.now))) }
+    ensures kind { IfOk result (λ c. cell_kind c
+        ≡ part.kind_in (names_tree names.now) (view_variable variable.now)) }
+    ensures start { IfOk result (λ c. cell_start c
+        ≡ part.start_in (names_tree names.now) (view_variable variable.now)) }
 {
     let kind = check_head(alloc, names, used, before, &variable.declared, progress)?;
     progress.at += 1;
@@ -160,12 +179,20 @@ pub fn check_variables(
     variables: &[Variable],
     progress: &mut Progress,
 ) -> Result<Vec<Cell>, AllocError>
-    requires room { progress.old.at + listed_size variable_size (map view_variable variables.now) < 2 ^ 32 }
-    ensures at { OnOk result (progress.new.at ≡ progress.old.at + listed_size variable_size (map view_variable variables.now)) }
-    ensures names { OnOk result (Adds (used_names used.new) (part.variable_names (map view_variable variables.now)) (used_names used.old)) }
-    ensures faults { OnOk result ((L : List Bytes) → AreNames (used_names used.old) L → AreNoted progress.old progress.new (rule.variables_faults (names_tree names.now) L 0 progress.old.at (map view_variable variables.now))) }
-    ensures kinds { IfOk result (λ cs. map cell_kind cs.items ≡ map (part.kind_in (names_tree names.now)) (map view_variable variables.now)) }
-    ensures starts { IfOk result (λ cs. map cell_start cs.items ≡ map (part.start_in (names_tree names.now)) (map view_variable variables.now)) }
+    requires room { progress.old.at + listed_size variable_size (map view_variable variables.now)
+        < 2 ^ 32 }
+    ensures at { OnOk result (progress.new.at ≡ progress.old.at
+        + listed_size variable_size (map view_variable variables.now)) }
+    ensures names { OnOk result (Adds (used_names used.new)
+        (part.variable_names (map view_variable variables.now)) (used_names used.old)) }
+    ensures faults { OnOk result ((L : List Bytes) → AreNames (used_names used.old) L
+        → AreNoted progress.old progress.new
+        (rule.variables_faults (names_tree names.now) L 0 progress.old.at
+        (map view_variable variables.now))) }
+    ensures kinds { IfOk result (λ cs. map cell_kind cs.items
+        ≡ map (part.kind_in (names_tree names.now)) (map view_variable variables.now)) }
+    ensures starts { IfOk result (λ cs. map cell_start cs.items
+        ≡ map (part.start_in (names_tree names.now)) (map view_variable variables.now)) }
 {
     let mut cells = Vec::new(alloc);
     let mut total = 0;
@@ -200,7 +227,10 @@ pub fn declare_variables(
     variables: &[Variable],
     cells: &[Cell],
 ) -> Result<(), AllocError>
-    ensures { OnOk result ((s : Scope) → map cell_kind cells.now ≡ map (part.kind_in s) (map view_variable variables.now) → names_tree names.new ≡ rule.with_variables s (names_tree names.old) 0 (map view_variable variables.now)) }
+    ensures { OnOk result ((s : Scope)
+        → map cell_kind cells.now ≡ map (part.kind_in s) (map view_variable variables.now)
+        → names_tree names.new
+        ≡ rule.with_variables s (names_tree names.old) 0 (map view_variable variables.now)) }
 {
     for (place, variable) in variables.iter().enumerate() {
         let kind = kind_at(alloc, cells, place)?;

@@ -55,8 +55,10 @@ fn check_at<'a>(
 ) -> Result<Option<Option<Typed<'a>>>, AllocError>
     requires room { progress.old.at + at_size (option_view index.now) < 2 ^ 32 }
     ensures at { OnOk result (progress.new.at ≡ progress.old.at + at_size (option_view index.now)) }
-    ensures faults { OnOk result (AreNoted progress.old progress.new (rule.at_faults (names_tree names.now) progress.old.at (option_view index.now))) }
-    ensures judged { IfOk result (λ j. judged_at j ≡ option_map (judge (names_tree names.now)) (option_view index.now)) }
+    ensures faults { OnOk result (AreNoted progress.old progress.new
+        (rule.at_faults (names_tree names.now) progress.old.at (option_view index.now))) }
+    ensures judged { IfOk result (λ j. judged_at j
+        ≡ option_map (judge (names_tree names.now)) (option_view index.now)) }
 {
     match index {
         None => Ok(None),
@@ -71,7 +73,8 @@ fn check_at<'a>(
 
 // The kind of the place on the left.
 fn left_kind<'a>(kind: Option<Shape<'a>>, index: &Option<Option<Typed<'_>>>) -> Option<Shape<'a>>
-    ensures { (s : Scope) (i : Option PlainTerm) → judged_at index.now ≡ option_map (judge s) i → place_kind result ≡ rule.left_kind (place_kind kind.entry) i }
+    ensures { (s : Scope) (i : Option PlainTerm) → judged_at index.now ≡ option_map (judge s) i
+        → place_kind result ≡ rule.left_kind (place_kind kind.entry) i }
 {
     match index {
         None => kind,
@@ -89,7 +92,9 @@ fn note_left(
 )
     requires room { at + 2 < 2 ^ 32 }
     ensures at { progress.new.at ≡ progress.old.at }
-    ensures least { (s : Scope) (i : Option PlainTerm) → judged_at index.now ≡ option_map (judge s) i → AreNoted progress.old progress.new (rule.left_faults s at (place_kind kind.entry) i) }
+    ensures least { (s : Scope) (i : Option PlainTerm)
+        → judged_at index.now ≡ option_map (judge s) i
+        → AreNoted progress.old progress.new (rule.left_faults s at (place_kind kind.entry) i) }
 {
     let Some(index) = index else {
         return;
@@ -115,7 +120,9 @@ fn item_assigned(
     index: Typed<'_>,
     value: Term,
 ) -> Option<Effect>
-    ensures { done_tree result ≡ rule.item_assigned slot (shape_tree kind.entry) (typed_tree index.entry) (term_tree value) }
+    ensures { done_tree result
+        ≡ rule.item_assigned slot (shape_tree kind.entry) (typed_tree index.entry)
+        (term_tree value) }
 {
     let Shape::Array(by, _) = kind else {
         drop(index);
@@ -138,7 +145,8 @@ fn assigned_at(
     index: Option<Typed<'_>>,
     value: Option<Term>,
 ) -> Option<Effect>
-    ensures { done_tree result ≡ rule.at_item slot (place_kind kind.entry) (judged_tree index.entry) (core_tree value) }
+    ensures { done_tree result
+        ≡ rule.at_item slot (place_kind kind.entry) (judged_tree index.entry) (core_tree value) }
 {
     let Some(slot) = slot else {
         drop(index);
@@ -178,7 +186,11 @@ fn assignment_of(
     index: Option<Option<Typed<'_>>>,
     value: Option<Term>,
 ) -> Option<Effect>
-    ensures { (s : Scope) (m : Option scopes.Meaning) (i : Option PlainTerm) (v : PlainInit) → slot ≡ rule.cell_of m → place_kind kind.entry ≡ rule.cell_kind m → judged_at index.entry ≡ option_map (judge s) i → core_tree value ≡ put_in s (rule.left_kind (rule.cell_kind m) i) v → done_tree result ≡ rule.assignment_of s m i v }
+    ensures { (s : Scope) (m : Option scopes.Meaning) (i : Option PlainTerm) (v : PlainInit)
+        → slot ≡ rule.cell_of m → place_kind kind.entry ≡ rule.cell_kind m
+        → judged_at index.entry ≡ option_map (judge s) i
+        → core_tree value ≡ put_in s (rule.left_kind (rule.cell_kind m) i) v
+        → done_tree result ≡ rule.assignment_of s m i v }
 {
     match index {
         None => assigned(alloc, slot, value),
@@ -195,10 +207,16 @@ pub(crate) fn check_assignment(
     init: &Init,
     progress: &mut Progress,
 ) -> Result<Option<Effect>, AllocError>
-    requires room { progress.old.at + (at_size (option_view index.now) + init_size (view_init init.now) + 2) < 2 ^ 32 }
-    ensures at { OnOk result (progress.new.at ≡ progress.old.at + (at_size (option_view index.now) + init_size (view_init init.now) + 2)) }
-    ensures faults { OnOk result (AreNoted progress.old progress.new (rule.assignment_faults (names_tree names.now) progress.old.at name.now (option_view index.now) (view_init init.now))) }
-    ensures effect { IfOk result (λ e. done_tree e ≡ rule.assignment_of (names_tree names.now) (named name.now (names_tree names.now)) (option_view index.now) (view_init init.now)) }
+    requires room { progress.old.at
+        + (at_size (option_view index.now) + init_size (view_init init.now) + 2) < 2 ^ 32 }
+    ensures at { OnOk result (progress.new.at ≡ progress.old.at
+        + (at_size (option_view index.now) + init_size (view_init init.now) + 2)) }
+    ensures faults { OnOk result (AreNoted progress.old progress.new
+        (rule.assignment_faults (names_tree names.now) progress.old.at name.now
+        (option_view index.now) (view_init init.now))) }
+    ensures effect { IfOk result (λ e. done_tree e
+        ≡ rule.assignment_of (names_tree names.now) (named name.now (names_tree names.now))
+        (option_view index.now) (view_init init.now)) }
 {
     let at = progress.at;
     let cell = cell_named(names, name);

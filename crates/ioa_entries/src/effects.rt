@@ -22,7 +22,8 @@ pub(crate) struct Arm {
 
 // Parts, one for each effect, before what follows; none where an effect is missing.
 fn parts_of(alloc: Global, effects: Vec<Option<Effect>>) -> Result<Option<Vec<Part>>, AllocError>
-    ensures { IfOk result (λ parts. (rest : Option EffectTree) → led_by parts rest ≡ before (map done_tree effects.items) rest) }
+    ensures { IfOk result (λ parts. (rest : Option EffectTree)
+        → led_by parts rest ≡ before (map done_tree effects.items) rest) }
 {
     let mut parts = Vec::with_capacity(alloc, effects.len())?;
     for effect in effects {
@@ -35,7 +36,8 @@ fn parts_of(alloc: Global, effects: Vec<Option<Effect>>) -> Result<Option<Vec<Pa
 }
 
 fn part_of(effect: Option<Effect>) -> Option<Part>
-    ensures { (rest : Option EffectTree) → led_on result rest ≡ rule.in_order (done_tree effect) rest }
+    ensures { (rest : Option EffectTree)
+        → led_on result rest ≡ rule.in_order (done_tree effect) rest }
 {
     match effect {
         Some(effect) => Some(Part::Before(effect)),
@@ -45,7 +47,8 @@ fn part_of(effect: Option<Effect>) -> Option<Part>
 
 // Parts, one for each branch; none where something is missing in one.
 fn branches_of(alloc: Global, arms: Vec<Arm>) -> Result<Option<Vec<Part>>, AllocError>
-    ensures { IfOk result (λ parts. (rest : Option EffectTree) → led_by parts rest ≡ choice (map arm_tree arms.items) rest) }
+    ensures { IfOk result (λ parts. (rest : Option EffectTree)
+        → led_by parts rest ≡ choice (map arm_tree arms.items) rest) }
 {
     let mut parts = Vec::with_capacity(alloc, arms.len())?;
     for arm in arms {
@@ -58,7 +61,8 @@ fn branches_of(alloc: Global, arms: Vec<Arm>) -> Result<Option<Vec<Part>>, Alloc
 }
 
 fn branch_of(arm: Arm) -> Option<Part>
-    ensures { (rest : Option EffectTree) → led_on result rest ≡ rule.branch_of (core_tree arm.test) (done_tree arm.body) rest }
+    ensures { (rest : Option EffectTree)
+        → led_on result rest ≡ rule.branch_of (core_tree arm.test) (done_tree arm.body) rest }
 {
     let Arm { test, body } = arm;
     let Some(test) = test else {
@@ -114,7 +118,8 @@ pub(crate) fn choose(
     arms: Vec<Arm>,
     otherwise: Option<Effect>,
 ) -> Result<Option<Effect>, AllocError>
-    ensures { IfOk result (λ e. done_tree e ≡ choice (map arm_tree arms.items) (done_tree otherwise)) }
+    ensures { IfOk result (λ e. done_tree e
+        ≡ choice (map arm_tree arms.items) (done_tree otherwise)) }
 {
     match branches_of(alloc, arms) {
         Ok(parts) => behind(parts, otherwise),

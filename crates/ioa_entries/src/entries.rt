@@ -34,11 +34,17 @@ fn check_bracketed(
     parameters: &[Parameter],
     progress: &mut Progress,
 ) -> Result<Option<u64>, AllocError>
-    requires room { progress.old.at + bracketed_size parameter_size (map view_parameter parameters.now) < 2 ^ 32 }
-    ensures at { OnOk result (progress.new.at ≡ progress.old.at + bracketed_size parameter_size (map view_parameter parameters.now)) }
+    requires room { progress.old.at
+        + bracketed_size parameter_size (map view_parameter parameters.now) < 2 ^ 32 }
+    ensures at { OnOk result (progress.new.at ≡ progress.old.at
+        + bracketed_size parameter_size (map view_parameter parameters.now)) }
     ensures names { OnOk result (names_tree names.new ≡ names_tree names.old) }
-    ensures faults { OnOk result (AreNoted progress.old progress.new (rule.parameters_faults (names_tree names.old) controlled 0 (progress.old.at + 1) (map view_parameter parameters.now))) }
-    ensures tuples { IfOk result (λ n. n ≡ option_map capped (rule.tuples (names_tree names.old) 0 (map view_parameter parameters.now))) }
+    ensures faults { OnOk result (AreNoted progress.old progress.new
+        (rule.parameters_faults (names_tree names.old) controlled 0 (progress.old.at + 1)
+        (map view_parameter parameters.now))) }
+    ensures tuples { IfOk result (λ n. n
+        ≡ option_map capped
+        (rule.tuples (names_tree names.old) 0 (map view_parameter parameters.now))) }
 {
     let len = names.len();
     progress.at += bracket(parameters);
@@ -59,14 +65,17 @@ fn is_over(tuples: Option<u64>) -> bool
 
 // Whether an entry has too many parameters, or one of a controlled action too many tuples.
 fn is_large(entry: &Entry, tuples: Option<u64>) -> bool
-    ensures { (s : Scope) → tuples ≡ option_map capped (rule.tuples s 0 (view_entry entry.now).parameters) → result ≡ rule.is_large s (view_entry entry.now) }
+    ensures { (s : Scope) → tuples
+        ≡ option_map capped (rule.tuples s 0 (view_entry entry.now).parameters)
+        → result ≡ rule.is_large s (view_entry entry.now) }
 {
     entry.parameters.len() > 16 || is_controlled(entry.kind) && is_over(tuples)
 }
 
 // Whether an entry of a controlled action has no task.
 fn is_untasked(entry: &Entry, tasks: &[Vec<String>]) -> bool
-    ensures { result ≡ (rule.is_controlled entry.now.kind && not (rule.has_task (task_names tasks.now) (view_entry entry.now).name)) }
+    ensures { result ≡ (rule.is_controlled entry.now.kind
+        && not (rule.has_task (task_names tasks.now) (view_entry entry.now).name)) }
 {
     is_controlled(entry.kind) && !has_task(tasks, entry.name.as_str())
 }
@@ -81,9 +90,13 @@ fn check_entry(
     progress: &mut Progress,
 ) -> Result<(), AllocError>
     requires room { progress.old.at + entry_size (view_entry entry.now) < 2 ^ 32 }
-    ensures at { OnOk result (progress.new.at ≡ progress.old.at + entry_size (view_entry entry.now)) }
+    ensures at { OnOk result (progress.new.at ≡ progress.old.at
+        + entry_size (view_entry entry.now)) }
     ensures names { OnOk result (names_tree names.new ≡ names_tree names.old) }
-    ensures faults { OnOk result (AreNoted progress.old progress.new (rule.entry_faults (names_tree names.old) (map view_entry before.now) (map view_transition transitions.now) (task_names tasks.now) progress.old.at (view_entry entry.now))) }
+    ensures faults { OnOk result (AreNoted progress.old progress.new
+        (rule.entry_faults (names_tree names.old) (map view_entry before.now)
+        (map view_transition transitions.now) (task_names tasks.now) progress.old.at
+        (view_entry entry.now))) }
 {
     let at = progress.at;
     progress.note_if(clashes_before(entry, before), at + 1, FaultKind::DoubleName);
@@ -116,9 +129,12 @@ pub fn check_entries(
     progress: &mut Progress,
 ) -> Result<(), AllocError>
     requires room { progress.old.at + row_size entry_size (map view_entry entries.now) < 2 ^ 32 }
-    ensures at { OnOk result (progress.new.at ≡ progress.old.at + row_size entry_size (map view_entry entries.now)) }
+    ensures at { OnOk result (progress.new.at ≡ progress.old.at
+        + row_size entry_size (map view_entry entries.now)) }
     ensures names { OnOk result (names_tree names.new ≡ names_tree names.old) }
-    ensures faults { OnOk result (AreNoted progress.old progress.new (rule.entries_faults (names_tree names.old) [] (map view_transition transitions.now) (task_names tasks.now) progress.old.at (map view_entry entries.now))) }
+    ensures faults { OnOk result (AreNoted progress.old progress.new
+        (rule.entries_faults (names_tree names.old) [] (map view_transition transitions.now)
+        (task_names tasks.now) progress.old.at (map view_entry entries.now))) }
 {
     for (place, entry) in entries.iter().enumerate() {
         check_entry(

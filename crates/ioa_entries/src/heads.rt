@@ -145,21 +145,24 @@ pub fn same_parameters(a: &[Parameter], b: &[Parameter]) -> bool
 }
 
 fn first_with<'a>(head: &Entry, entries: &'a [Entry]) -> Option<&'a Entry>
-    ensures { option_copied result ≡ find (λ e. rule.agrees (view_entry head.now) (view_entry e)) entries.now }
+    ensures { option_copied result
+        ≡ find (λ e. rule.agrees (view_entry head.now) (view_entry e)) entries.now }
 {
     entries.iter().find(|entry| agrees(head, entry))
 }
 
 /// The first entry with the kind and the name of this one.
 pub fn entry_for<'a>(head: &Entry, entries: &'a [Entry]) -> Option<&'a Entry>
-    ensures { option_map view_entry (option_copied result) ≡ rule.entry_for (view_entry head.now) (map view_entry entries.now) }
+    ensures { option_map view_entry (option_copied result)
+        ≡ rule.entry_for (view_entry head.now) (map view_entry entries.now) }
 {
     first_with(head, entries)
 }
 
 /// Whether a transition has the kind and the name of this entry.
 pub fn has_transition(entry: &Entry, transitions: &[Transition]) -> bool
-    ensures { result ≡ list_any (λ t. rule.agrees (view_entry entry.now) (view_entry t.entry)) transitions.now }
+    ensures { result ≡ list_any
+        (λ t. rule.agrees (view_entry entry.now) (view_entry t.entry)) transitions.now }
 {
     transitions
         .iter()
@@ -168,7 +171,8 @@ pub fn has_transition(entry: &Entry, transitions: &[Transition]) -> bool
 
 /// Whether an earlier entry of the same side has the name of this one.
 pub fn clashes_before(entry: &Entry, before: &[Entry]) -> bool
-    ensures { result ≡ list_any (λ e. rule.clashes (view_entry entry.now) (view_entry e)) before.now }
+    ensures { result ≡ list_any
+        (λ e. rule.clashes (view_entry entry.now) (view_entry e)) before.now }
 {
     before.iter().any(|other| clashes(entry, other))
 }
@@ -180,7 +184,8 @@ fn has_name(task: &[String], name: &str) -> bool
 }
 
 fn some_task(tasks: &[Vec<String>], name: &str) -> bool
-    ensures { result ≡ list_any (λ t. list_any (λ q. bytes_eq name.now (string_bytes q)) t.items) tasks.now }
+    ensures { result ≡ list_any
+        (λ t. list_any (λ q. bytes_eq name.now (string_bytes q)) t.items) tasks.now }
 {
     tasks.iter().any(|task| has_name(task.as_slice(), name))
 }

@@ -25,7 +25,8 @@ fn is_formal(names: &Names, name: &str) -> bool
 // Notes a kind that a parameter may not have.
 fn note_sort(progress: &mut Progress, controlled: bool, place: u32, kind: &Option<Kind>)
     ensures at { progress.new.at ≡ progress.old.at }
-    ensures least { AreNoted progress.old progress.new (rule.sort_faults controlled place (option_tree kind.now)) }
+    ensures least { AreNoted progress.old progress.new
+        (rule.sort_faults controlled place (option_tree kind.now)) }
 {
     if controlled {
         note_unlisted(progress, place, kind);
@@ -73,10 +74,18 @@ fn check_typed(
     progress: &mut Progress,
 ) -> Result<Option<u64>, AllocError>
     requires room { progress.old.at + declared_size (view_declared declared.now) < 2 ^ 32 }
-    ensures at { OnOk result (progress.new.at ≡ progress.old.at + declared_size (view_declared declared.now)) }
-    ensures names { OnOk result (names_tree names.new ≡ rule.with_parameter (names_tree names.old) place (view_declared declared.now)) }
-    ensures faults { OnOk result (AreNoted progress.old progress.new (doubled (names_tree names.old) progress.old.at (view_declared declared.now).name ++ (type_faults (names_tree names.old) (progress.old.at + 2) (view_declared declared.now).of ++ rule.sort_faults controlled (progress.old.at + 2) (kind_of (names_tree names.old) (view_declared declared.now).of)))) }
-    ensures values { IfOk result (λ n. n ≡ option_map capped (rule.members_of (kind_of (names_tree names.old) (view_declared declared.now).of))) }
+    ensures at { OnOk result (progress.new.at ≡ progress.old.at
+        + declared_size (view_declared declared.now)) }
+    ensures names { OnOk result (names_tree names.new
+        ≡ rule.with_parameter (names_tree names.old) place (view_declared declared.now)) }
+    ensures faults { OnOk result (AreNoted progress.old progress.new
+        (doubled (names_tree names.old) progress.old.at (view_declared declared.now).name
+        ++ (type_faults (names_tree names.old) (progress.old.at + 2) (view_declared declared.now).of
+        ++ rule.sort_faults controlled (progress.old.at + 2)
+        (kind_of (names_tree names.old) (view_declared declared.now).of)))) }
+    ensures values { IfOk result (λ n. n
+        ≡ option_map capped
+        (rule.members_of (kind_of (names_tree names.old) (view_declared declared.now).of))) }
 {
     let at = progress.at;
     progress.note_if(
@@ -102,10 +111,16 @@ fn check_parameter(
     progress: &mut Progress,
 ) -> Result<Option<u64>, AllocError>
     requires room { progress.old.at + parameter_size (view_parameter parameter.now) < 2 ^ 32 }
-    ensures at { OnOk result (progress.new.at ≡ progress.old.at + parameter_size (view_parameter parameter.now)) }
-    ensures names { OnOk result (names_tree names.new ≡ part.after_parameter (names_tree names.old) place (view_parameter parameter.now)) }
-    ensures faults { OnOk result (AreNoted progress.old progress.new (part.parameter_faults (names_tree names.old) controlled progress.old.at (view_parameter parameter.now))) }
-    ensures values { IfOk result (λ n. n ≡ option_map capped (part.values_of (names_tree names.old) (view_parameter parameter.now))) }
+    ensures at { OnOk result (progress.new.at ≡ progress.old.at
+        + parameter_size (view_parameter parameter.now)) }
+    ensures names { OnOk result (names_tree names.new
+        ≡ part.after_parameter (names_tree names.old) place (view_parameter parameter.now)) }
+    ensures faults { OnOk result (AreNoted progress.old progress.new
+        (part.parameter_faults (names_tree names.old) controlled progress.old.at
+        (view_parameter parameter.now))) }
+    ensures values { IfOk result (λ n. n
+        ≡ option_map capped
+        (part.values_of (names_tree names.old) (view_parameter parameter.now))) }
 {
     match parameter {
         Parameter::Constant(name) => {
@@ -133,11 +148,18 @@ pub fn check_parameters(
     parameters: &[Parameter],
     progress: &mut Progress,
 ) -> Result<Option<u64>, AllocError>
-    requires room { progress.old.at + listed_size parameter_size (map view_parameter parameters.now) < 2 ^ 32 }
-    ensures at { OnOk result (progress.new.at ≡ progress.old.at + listed_size parameter_size (map view_parameter parameters.now)) }
-    ensures names { OnOk result (names_tree names.new ≡ rule.with_parameters (names_tree names.old) 0 (map view_parameter parameters.now)) }
-    ensures faults { OnOk result (AreNoted progress.old progress.new (rule.parameters_faults (names_tree names.old) controlled 0 progress.old.at (map view_parameter parameters.now))) }
-    ensures tuples { IfOk result (λ n. n ≡ option_map capped (rule.tuples (names_tree names.old) 0 (map view_parameter parameters.now))) }
+    requires room { progress.old.at + listed_size parameter_size (map view_parameter parameters.now)
+        < 2 ^ 32 }
+    ensures at { OnOk result (progress.new.at ≡ progress.old.at
+        + listed_size parameter_size (map view_parameter parameters.now)) }
+    ensures names { OnOk result (names_tree names.new
+        ≡ rule.with_parameters (names_tree names.old) 0 (map view_parameter parameters.now)) }
+    ensures faults { OnOk result (AreNoted progress.old progress.new
+        (rule.parameters_faults (names_tree names.old) controlled 0 progress.old.at
+        (map view_parameter parameters.now))) }
+    ensures tuples { IfOk result (λ n. n
+        ≡ option_map capped
+        (rule.tuples (names_tree names.old) 0 (map view_parameter parameters.now))) }
 {
     let mut tuples = Some(1);
     for (place, parameter) in parameters.iter().enumerate() {

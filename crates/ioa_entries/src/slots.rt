@@ -51,9 +51,12 @@ fn declare_typed(
     progress: &mut Progress,
 ) -> Result<Option<Slot>, AllocError>
     requires room { progress.old.at + declared_size (view_declared declared.now) < 2 ^ 32 }
-    ensures at { OnOk result (progress.new.at ≡ progress.old.at + declared_size (view_declared declared.now)) }
-    ensures names { OnOk result (names_tree names.new ≡ rule.with_parameter (names_tree names.old) place (view_declared declared.now)) }
-    ensures slot { IfOk result (λ t. slot_tree t ≡ rule.free_of (kind_of (names_tree names.old) (view_declared declared.now).of)) }
+    ensures at { OnOk result (progress.new.at ≡ progress.old.at
+        + declared_size (view_declared declared.now)) }
+    ensures names { OnOk result (names_tree names.new
+        ≡ rule.with_parameter (names_tree names.old) place (view_declared declared.now)) }
+    ensures slot { IfOk result (λ t. slot_tree t
+        ≡ rule.free_of (kind_of (names_tree names.old) (view_declared declared.now).of)) }
 {
     progress.at += 2;
     let kind = check_type(alloc, names, &declared.of, progress)?;
@@ -70,9 +73,12 @@ fn declare_parameter(
     progress: &mut Progress,
 ) -> Result<Option<Slot>, AllocError>
     requires room { progress.old.at + parameter_size (view_parameter parameter.now) < 2 ^ 32 }
-    ensures at { OnOk result (progress.new.at ≡ progress.old.at + parameter_size (view_parameter parameter.now)) }
-    ensures names { OnOk result (names_tree names.new ≡ part.after_parameter (names_tree names.old) place (view_parameter parameter.now)) }
-    ensures slot { IfOk result (λ t. slot_tree t ≡ part.slot_of (names_tree names.old) (view_parameter parameter.now)) }
+    ensures at { OnOk result (progress.new.at ≡ progress.old.at
+        + parameter_size (view_parameter parameter.now)) }
+    ensures names { OnOk result (names_tree names.new
+        ≡ part.after_parameter (names_tree names.old) place (view_parameter parameter.now)) }
+    ensures slot { IfOk result (λ t. slot_tree t
+        ≡ part.slot_of (names_tree names.old) (view_parameter parameter.now)) }
 {
     match parameter {
         Parameter::Constant(name) => {
@@ -93,10 +99,14 @@ fn declare_each(
     parameters: &[Parameter],
     progress: &mut Progress,
 ) -> Result<Vec<Option<Slot>>, AllocError>
-    requires room { progress.old.at + listed_size parameter_size (map view_parameter parameters.now) < 2 ^ 32 }
-    ensures at { OnOk result (progress.new.at ≡ progress.old.at + listed_size parameter_size (map view_parameter parameters.now)) }
-    ensures names { OnOk result (names_tree names.new ≡ rule.with_parameters (names_tree names.old) 0 (map view_parameter parameters.now)) }
-    ensures slots { IfOk result (λ ts. map slot_tree ts.items ≡ rule.slots (names_tree names.old) 0 (map view_parameter parameters.now)) }
+    requires room { progress.old.at + listed_size parameter_size (map view_parameter parameters.now)
+        < 2 ^ 32 }
+    ensures at { OnOk result (progress.new.at ≡ progress.old.at
+        + listed_size parameter_size (map view_parameter parameters.now)) }
+    ensures names { OnOk result (names_tree names.new
+        ≡ rule.with_parameters (names_tree names.old) 0 (map view_parameter parameters.now)) }
+    ensures slots { IfOk result (λ ts. map slot_tree ts.items
+        ≡ rule.slots (names_tree names.old) 0 (map view_parameter parameters.now)) }
 {
     let mut slots = Vec::new(alloc);
     for (place, parameter) in parameters.iter().enumerate() {
@@ -114,11 +124,15 @@ pub fn declare_parameters(
     parameters: &[Parameter],
     progress: &mut Progress,
 ) -> Result<Vec<Option<Slot>>, AllocError>
-    requires room { progress.old.at + listed_size parameter_size (map view_parameter parameters.now) < 2 ^ 32 }
-    ensures at { OnOk result (progress.new.at ≡ progress.old.at + listed_size parameter_size (map view_parameter parameters.now)) }
+    requires room { progress.old.at + listed_size parameter_size (map view_parameter parameters.now)
+        < 2 ^ 32 }
+    ensures at { OnOk result (progress.new.at ≡ progress.old.at
+        + listed_size parameter_size (map view_parameter parameters.now)) }
     ensures least { progress.new.least ≡ progress.old.least }
-    ensures names { OnOk result (names_tree names.new ≡ rule.with_parameters (names_tree names.old) 0 (map view_parameter parameters.now)) }
-    ensures slots { IfOk result (λ ts. map slot_tree ts.items ≡ rule.slots (names_tree names.old) 0 (map view_parameter parameters.now)) }
+    ensures names { OnOk result (names_tree names.new
+        ≡ rule.with_parameters (names_tree names.old) 0 (map view_parameter parameters.now)) }
+    ensures slots { IfOk result (λ ts. map slot_tree ts.items
+        ≡ rule.slots (names_tree names.old) 0 (map view_parameter parameters.now)) }
 {
     let mut apart = Progress {
         at: progress.at,

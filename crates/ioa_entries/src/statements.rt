@@ -31,10 +31,15 @@ fn check_head(
     progress: &mut Progress,
 ) -> Result<Option<Listed>, AllocError>
     requires room { progress.old.at + (type_size (view_type declared.now.of) + 4) < 2 ^ 32 }
-    ensures at { OnOk result (progress.new.at ≡ progress.old.at + (type_size (view_type declared.now.of) + 4)) }
-    ensures names { OnOk result (names_tree names.new ≡ rule.in_loop (names_tree names.old) loops (view_declared declared.now)) }
-    ensures faults { OnOk result (AreNoted progress.old progress.new (part.head_faults (names_tree names.old) loops progress.old.at (view_declared declared.now))) }
-    ensures members { IfOk result (λ m. m ≡ members_of (kind_of (names_tree names.old) (view_type declared.now.of))) }
+    ensures at { OnOk result (progress.new.at ≡ progress.old.at
+        + (type_size (view_type declared.now.of) + 4)) }
+    ensures names { OnOk result (names_tree names.new
+        ≡ rule.in_loop (names_tree names.old) loops (view_declared declared.now)) }
+    ensures faults { OnOk result (AreNoted progress.old progress.new
+        (part.head_faults (names_tree names.old) loops progress.old.at
+        (view_declared declared.now))) }
+    ensures members { IfOk result (λ m. m
+        ≡ members_of (kind_of (names_tree names.old) (view_type declared.now.of))) }
 {
     let at = progress.at;
     progress.note_if(loops >= 3, at, FaultKind::OverLimit);
@@ -82,10 +87,14 @@ fn check_statement(
 ) -> Result<Option<Effect>, AllocError>
     requires room { progress.old.at + statement_size (view_statement statement.now) < 2 ^ 32 }
     requires loops { loops ≤ progress.old.at }
-    ensures at { OnOk result (progress.new.at ≡ progress.old.at + statement_size (view_statement statement.now)) }
+    ensures at { OnOk result (progress.new.at ≡ progress.old.at
+        + statement_size (view_statement statement.now)) }
     ensures names { OnOk result (names_tree names.new ≡ names_tree names.old) }
-    ensures faults { OnOk result (AreNoted progress.old progress.new (rule.statement_faults (names_tree names.old) loops progress.old.at (view_statement statement.now))) }
-    ensures effect { IfOk result (λ e. done_tree e ≡ rule.effect_of (names_tree names.old) loops (view_statement statement.now)) }
+    ensures faults { OnOk result (AreNoted progress.old progress.new
+        (rule.statement_faults (names_tree names.old) loops progress.old.at
+        (view_statement statement.now))) }
+    ensures effect { IfOk result (λ e. done_tree e
+        ≡ rule.effect_of (names_tree names.old) loops (view_statement statement.now)) }
 {
     match statement {
         Statement::Assign(name, index, init) => {
@@ -116,12 +125,20 @@ fn check_loop(
     body: &[Statement],
     progress: &mut Progress,
 ) -> Result<Option<Effect>, AllocError>
-    requires room { progress.old.at + (type_size (view_type declared.now.of) + statements_size (view_statements body.now) + 5) < 2 ^ 32 }
+    requires room { progress.old.at
+        + (type_size (view_type declared.now.of) + statements_size (view_statements body.now) + 5)
+        < 2 ^ 32 }
     requires loops { loops ≤ progress.old.at }
-    ensures at { OnOk result (progress.new.at ≡ progress.old.at + (type_size (view_type declared.now.of) + statements_size (view_statements body.now) + 5)) }
+    ensures at { OnOk result (progress.new.at ≡ progress.old.at
+        + (type_size (view_type declared.now.of) + statements_size (view_statements body.now)
+        + 5)) }
     ensures names { OnOk result (names_tree names.new ≡ names_tree names.old) }
-    ensures faults { OnOk result (AreNoted progress.old progress.new (rule.statement_faults (names_tree names.old) loops progress.old.at (For (view_declared declared.now) (view_statements body.now)))) }
-    ensures effect { IfOk result (λ e. done_tree e ≡ rule.effect_of (names_tree names.old) loops (For (view_declared declared.now) (view_statements body.now))) }
+    ensures faults { OnOk result (AreNoted progress.old progress.new
+        (rule.statement_faults (names_tree names.old) loops progress.old.at
+        (For (view_declared declared.now) (view_statements body.now)))) }
+    ensures effect { IfOk result (λ e. done_tree e
+        ≡ rule.effect_of (names_tree names.old) loops
+        (For (view_declared declared.now) (view_statements body.now))) }
 {
     let len = names.len();
     let members = check_head(alloc, names, loops, declared, progress)?;
@@ -144,10 +161,14 @@ pub fn check_statements(
 ) -> Result<Option<Effect>, AllocError>
     requires room { progress.old.at + statements_size (view_statements statements.now) < 2 ^ 32 }
     requires loops { loops ≤ progress.old.at }
-    ensures at { OnOk result (progress.new.at ≡ progress.old.at + statements_size (view_statements statements.now)) }
+    ensures at { OnOk result (progress.new.at ≡ progress.old.at
+        + statements_size (view_statements statements.now)) }
     ensures names { OnOk result (names_tree names.new ≡ names_tree names.old) }
-    ensures faults { OnOk result (AreNoted progress.old progress.new (rule.statements_faults (names_tree names.old) loops progress.old.at (view_statements statements.now))) }
-    ensures effect { IfOk result (λ e. done_tree e ≡ rule.effects_of (names_tree names.old) loops (view_statements statements.now)) }
+    ensures faults { OnOk result (AreNoted progress.old progress.new
+        (rule.statements_faults (names_tree names.old) loops progress.old.at
+        (view_statements statements.now))) }
+    ensures effect { IfOk result (λ e. done_tree e
+        ≡ rule.effects_of (names_tree names.old) loops (view_statements statements.now)) }
 {
     let effects = check_each(alloc, names, loops, statements, progress)?;
     let effect = chain(alloc, effects)?;
@@ -165,10 +186,14 @@ fn check_each(
 ) -> Result<Vec<Option<Effect>>, AllocError>
     requires room { progress.old.at + statements_size (view_statements statements.now) < 2 ^ 32 }
     requires loops { loops ≤ progress.old.at }
-    ensures at { OnOk result (progress.new.at ≡ progress.old.at + statements_size (view_statements statements.now)) }
+    ensures at { OnOk result (progress.new.at ≡ progress.old.at
+        + statements_size (view_statements statements.now)) }
     ensures names { OnOk result (names_tree names.new ≡ names_tree names.old) }
-    ensures faults { OnOk result (AreNoted progress.old progress.new (rule.statements_faults (names_tree names.old) loops progress.old.at (view_statements statements.now))) }
-    ensures effects { IfOk result (λ es. map done_tree es.items ≡ effect_list (names_tree names.old) loops (view_statements statements.now)) }
+    ensures faults { OnOk result (AreNoted progress.old progress.new
+        (rule.statements_faults (names_tree names.old) loops progress.old.at
+        (view_statements statements.now))) }
+    ensures effects { IfOk result (λ es. map done_tree es.items
+        ≡ effect_list (names_tree names.old) loops (view_statements statements.now)) }
 {
     let mut effects = Vec::new(alloc);
     let mut is_first = true;
@@ -190,12 +215,17 @@ fn check_branches(
     branches: &[Branch],
     progress: &mut Progress,
 ) -> Result<Vec<Arm>, AllocError>
-    requires room { progress.old.at + branches_size (pack_branches (map view_branch branches.now)) < 2 ^ 32 }
+    requires room { progress.old.at + branches_size (pack_branches (map view_branch branches.now))
+        < 2 ^ 32 }
     requires loops { loops ≤ progress.old.at }
-    ensures at { OnOk result (progress.new.at ≡ progress.old.at + branches_size (pack_branches (map view_branch branches.now))) }
+    ensures at { OnOk result (progress.new.at ≡ progress.old.at
+        + branches_size (pack_branches (map view_branch branches.now))) }
     ensures names { OnOk result (names_tree names.new ≡ names_tree names.old) }
-    ensures faults { OnOk result (AreNoted progress.old progress.new (rule.branches_faults (names_tree names.old) loops progress.old.at (pack_branches (map view_branch branches.now)))) }
-    ensures arms { IfOk result (λ as'. map arm_tree as'.items ≡ arm_list (names_tree names.old) loops (pack_branches (map view_branch branches.now))) }
+    ensures faults { OnOk result (AreNoted progress.old progress.new
+        (rule.branches_faults (names_tree names.old) loops progress.old.at
+        (pack_branches (map view_branch branches.now)))) }
+    ensures arms { IfOk result (λ as'. map arm_tree as'.items
+        ≡ arm_list (names_tree names.old) loops (pack_branches (map view_branch branches.now))) }
 {
     let mut arms = Vec::new(alloc);
     for branch in branches {
@@ -215,10 +245,14 @@ fn check_branch(
 ) -> Result<Arm, AllocError>
     requires room { progress.old.at + part.branch_size (view_branch branch.now) < 2 ^ 32 }
     requires loops { loops ≤ progress.old.at }
-    ensures at { OnOk result (progress.new.at ≡ progress.old.at + part.branch_size (view_branch branch.now)) }
+    ensures at { OnOk result (progress.new.at ≡ progress.old.at
+        + part.branch_size (view_branch branch.now)) }
     ensures names { OnOk result (names_tree names.new ≡ names_tree names.old) }
-    ensures faults { OnOk result (AreNoted progress.old progress.new (part.branch_faults (names_tree names.old) loops progress.old.at (view_branch branch.now))) }
-    ensures arm { IfOk result (λ a. arm_tree a ≡ part.arm_of (names_tree names.old) loops (view_branch branch.now)) }
+    ensures faults { OnOk result (AreNoted progress.old progress.new
+        (part.branch_faults (names_tree names.old) loops progress.old.at
+        (view_branch branch.now))) }
+    ensures arm { IfOk result (λ a. arm_tree a
+        ≡ part.arm_of (names_tree names.old) loops (view_branch branch.now)) }
 {
     progress.at += 1;
     let place = progress.at;

@@ -36,7 +36,8 @@ pub struct Meant {
 // Notes a head that no entry has, and parameters that aren't those of the entry.
 fn note_head(progress: &mut Progress, place: u32, entries: &[Entry], head: &Entry)
     ensures at { progress.new.at ≡ progress.old.at }
-    ensures least { AreNoted progress.old progress.new (rule.head_faults (map view_entry entries.now) place (view_entry head.now)) }
+    ensures least { AreNoted progress.old progress.new
+        (rule.head_faults (map view_entry entries.now) place (view_entry head.now)) }
 {
     match entry_for(head, entries) {
         None => progress.note_if(true, place, FaultKind::UnknownName),
@@ -54,11 +55,15 @@ fn declare_bracketed(
     parameters: &[Parameter],
     progress: &mut Progress,
 ) -> Result<Vec<Option<Slot>>, AllocError>
-    requires room { progress.old.at + bracketed_size parameter_size (map view_parameter parameters.now) < 2 ^ 32 }
-    ensures at { OnOk result (progress.new.at ≡ progress.old.at + bracketed_size parameter_size (map view_parameter parameters.now)) }
+    requires room { progress.old.at
+        + bracketed_size parameter_size (map view_parameter parameters.now) < 2 ^ 32 }
+    ensures at { OnOk result (progress.new.at ≡ progress.old.at
+        + bracketed_size parameter_size (map view_parameter parameters.now)) }
     ensures least { OnOk result (progress.new.least ≡ progress.old.least) }
-    ensures names { OnOk result (names_tree names.new ≡ rule.with_parameters (names_tree names.old) 0 (map view_parameter parameters.now)) }
-    ensures slots { IfOk result (λ ts. map slot_tree ts.items ≡ rule.slots (names_tree names.old) 0 (map view_parameter parameters.now)) }
+    ensures names { OnOk result (names_tree names.new
+        ≡ rule.with_parameters (names_tree names.old) 0 (map view_parameter parameters.now)) }
+    ensures slots { IfOk result (λ ts. map slot_tree ts.items
+        ≡ rule.slots (names_tree names.old) 0 (map view_parameter parameters.now)) }
 {
     progress.at += bracket(parameters);
     let slots = declare_parameters(alloc, names, parameters, progress)?;
@@ -75,8 +80,12 @@ fn check_truth(
 ) -> Result<Option<Term>, AllocError>
     requires room { progress.old.at + size (view tree.now) < 2 ^ 32 }
     ensures at { OnOk result (progress.new.at ≡ progress.old.at + size (view tree.now)) }
-    ensures faults { OnOk result (AreNoted progress.old progress.new (term.faults (names_tree names.now) progress.old.at (view tree.now) ++ term.wants is_truth progress.old.at (term.judge (names_tree names.now) (view tree.now)))) }
-    ensures truth { IfOk result (λ t. core_tree t ≡ term.truth_of (term.judge (names_tree names.now) (view tree.now))) }
+    ensures faults { OnOk result (AreNoted progress.old progress.new
+        (term.faults (names_tree names.now) progress.old.at (view tree.now)
+        ++ term.wants is_truth progress.old.at
+        (term.judge (names_tree names.now) (view tree.now)))) }
+    ensures truth { IfOk result (λ t. core_tree t
+        ≡ term.truth_of (term.judge (names_tree names.now) (view tree.now))) }
 {
     let place = progress.at;
     let typed = check_term(alloc, names, tree, progress)?;
@@ -95,8 +104,10 @@ fn check_pre(
 ) -> Result<Option<Term>, AllocError>
     requires room { progress.old.at + pre_size (option_view pre.now) < 2 ^ 32 }
     ensures at { OnOk result (progress.new.at ≡ progress.old.at + pre_size (option_view pre.now)) }
-    ensures faults { OnOk result (AreNoted progress.old progress.new (rule.pre_faults (names_tree names.now) kind progress.old.at (option_view pre.now))) }
-    ensures truth { IfOk result (λ t. core_tree t ≡ rule.pre_of (names_tree names.now) (option_view pre.now)) }
+    ensures faults { OnOk result (AreNoted progress.old progress.new
+        (rule.pre_faults (names_tree names.now) kind progress.old.at (option_view pre.now))) }
+    ensures truth { IfOk result (λ t. core_tree t
+        ≡ rule.pre_of (names_tree names.now) (option_view pre.now)) }
 {
     match pre {
         None => Ok(Some(Term::of(alloc, Operand::Known(Scalar::Bool(true))))),
@@ -126,10 +137,14 @@ fn check_eff(
     progress: &mut Progress,
 ) -> Result<Option<Effect>, AllocError>
     requires room { progress.old.at + eff_size (view_statements statements.now) < 2 ^ 32 }
-    ensures at { OnOk result (progress.new.at ≡ progress.old.at + eff_size (view_statements statements.now)) }
+    ensures at { OnOk result (progress.new.at ≡ progress.old.at
+        + eff_size (view_statements statements.now)) }
     ensures names { OnOk result (names_tree names.new ≡ names_tree names.old) }
-    ensures faults { OnOk result (AreNoted progress.old progress.new (statements_faults (names_tree names.old) 0 (progress.old.at + 1) (view_statements statements.now))) }
-    ensures effect { IfOk result (λ e. done_tree e ≡ effects_of (names_tree names.old) 0 (view_statements statements.now)) }
+    ensures faults { OnOk result (AreNoted progress.old progress.new
+        (statements_faults (names_tree names.old) 0 (progress.old.at + 1)
+        (view_statements statements.now))) }
+    ensures effect { IfOk result (λ e. done_tree e
+        ≡ effects_of (names_tree names.old) 0 (view_statements statements.now)) }
 {
     progress.at += eff_word(statements);
     let effect = check_statements(alloc, names, 0, statements, progress)?;
@@ -144,10 +159,18 @@ fn check_inside(
     progress: &mut Progress,
 ) -> Result<Meant, AllocError>
     requires room { progress.old.at + transition_size (view_transition transition.now) < 2 ^ 32 }
-    ensures at { OnOk result (progress.new.at ≡ progress.old.at + transition_size (view_transition transition.now)) }
-    ensures names { OnOk result (names_tree names.new ≡ rule.with_parameters (names_tree names.old) 0 (view_transition transition.now).entry.parameters) }
-    ensures faults { OnOk result (AreNoted progress.old progress.new (part.inside_faults (rule.with_parameters (names_tree names.old) 0 (view_transition transition.now).entry.parameters) progress.old.at (view_transition transition.now))) }
-    ensures meant { IfOk result (λ m. meant_tree m ≡ rule.meant_by (names_tree names.old) (view_transition transition.now)) }
+    ensures at { OnOk result (progress.new.at ≡ progress.old.at
+        + transition_size (view_transition transition.now)) }
+    ensures names { OnOk result (names_tree names.new
+        ≡ rule.with_parameters (names_tree names.old) 0
+        (view_transition transition.now).entry.parameters) }
+    ensures faults { OnOk result (AreNoted progress.old progress.new
+        (part.inside_faults
+        (rule.with_parameters (names_tree names.old) 0
+        (view_transition transition.now).entry.parameters) progress.old.at
+        (view_transition transition.now))) }
+    ensures meant { IfOk result (λ m. meant_tree m
+        ≡ rule.meant_by (names_tree names.old) (view_transition transition.now)) }
 {
     let entry = &transition.entry;
     progress.at += 2;
@@ -179,10 +202,16 @@ fn check_transition(
     progress: &mut Progress,
 ) -> Result<Meant, AllocError>
     requires room { progress.old.at + transition_size (view_transition transition.now) < 2 ^ 32 }
-    ensures at { OnOk result (progress.new.at ≡ progress.old.at + transition_size (view_transition transition.now)) }
+    ensures at { OnOk result (progress.new.at ≡ progress.old.at
+        + transition_size (view_transition transition.now)) }
     ensures names { OnOk result (names_tree names.new ≡ names_tree names.old) }
-    ensures faults { OnOk result (AreNoted progress.old progress.new (rule.transition_faults (rule.with_parameters (names_tree names.old) 0 (view_transition transition.now).entry.parameters) (map view_entry entries.now) (map view_transition before.now) progress.old.at (view_transition transition.now))) }
-    ensures meant { IfOk result (λ m. meant_tree m ≡ rule.meant_by (names_tree names.old) (view_transition transition.now)) }
+    ensures faults { OnOk result (AreNoted progress.old progress.new
+        (rule.transition_faults
+        (rule.with_parameters (names_tree names.old) 0
+        (view_transition transition.now).entry.parameters) (map view_entry entries.now)
+        (map view_transition before.now) progress.old.at (view_transition transition.now))) }
+    ensures meant { IfOk result (λ m. meant_tree m
+        ≡ rule.meant_by (names_tree names.old) (view_transition transition.now)) }
 {
     let at = progress.at;
     note_head(progress, at + 1, entries, &transition.entry);
@@ -205,11 +234,16 @@ pub fn check_transitions(
     transitions: &[Transition],
     progress: &mut Progress,
 ) -> Result<Vec<Meant>, AllocError>
-    requires room { progress.old.at + row_size transition_size (map view_transition transitions.now) < 2 ^ 32 }
-    ensures at { OnOk result (progress.new.at ≡ progress.old.at + row_size transition_size (map view_transition transitions.now)) }
+    requires room { progress.old.at + row_size transition_size (map view_transition transitions.now)
+        < 2 ^ 32 }
+    ensures at { OnOk result (progress.new.at ≡ progress.old.at
+        + row_size transition_size (map view_transition transitions.now)) }
     ensures names { OnOk result (names_tree names.new ≡ names_tree names.old) }
-    ensures faults { OnOk result (AreNoted progress.old progress.new (rule.transitions_faults (names_tree names.old) (map view_entry entries.now) [] progress.old.at (map view_transition transitions.now))) }
-    ensures meant { IfOk result (λ ms. map meant_tree ms.items ≡ map (rule.meant_by (names_tree names.old)) (map view_transition transitions.now)) }
+    ensures faults { OnOk result (AreNoted progress.old progress.new
+        (rule.transitions_faults (names_tree names.old)
+        (map view_entry entries.now) [] progress.old.at (map view_transition transitions.now))) }
+    ensures meant { IfOk result (λ ms. map meant_tree ms.items
+        ≡ map (rule.meant_by (names_tree names.old)) (map view_transition transitions.now)) }
 {
     let mut meant = Vec::new(alloc);
     for (place, transition) in transitions.iter().enumerate() {

@@ -47,8 +47,10 @@ pub(crate) fn item_of(kind: Option<Shape<'_>>) -> Option<Shape<'_>>
 }
 
 fn empty_in(alloc: Global, kind: Option<Shape<'_>>, at: u32) -> Put
-    ensures value { (s : Scope) → core_tree result.value ≡ rule.put_in s (place_kind kind.entry) tree.Empty }
-    ensures misfit { (s : Scope) → misfit_faults result.misfit ≡ rule.misfits s (place_kind kind.entry) at tree.Empty }
+    ensures value { (s : Scope) → core_tree result.value
+        ≡ rule.put_in s (place_kind kind.entry) tree.Empty }
+    ensures misfit { (s : Scope) → misfit_faults result.misfit
+        ≡ rule.misfits s (place_kind kind.entry) at tree.Empty }
 {
     let (value, misfit) = match kind {
         None => (None, None),
@@ -65,7 +67,8 @@ fn empty_in(alloc: Global, kind: Option<Shape<'_>>, at: u32) -> Put
 
 // An array of so many items, all of one value.
 fn filled(alloc: Global, index: &Kind, item: Option<Term>) -> Result<Option<Term>, AllocError>
-    ensures { IfOk result (λ t. core_tree t ≡ on_core (core.Fill (kinds.small (kinds.count (kind_tree index.now)))) (core_tree item)) }
+    ensures { IfOk result (λ t. core_tree t
+        ≡ on_core (core.Fill (kinds.small (kinds.count (kind_tree index.now)))) (core_tree item)) }
 {
     match item {
         None => Ok(None),
@@ -77,8 +80,12 @@ fn filled(alloc: Global, index: &Kind, item: Option<Term>) -> Result<Option<Term
 }
 
 fn fill_in(alloc: Global, kind: Option<Shape<'_>>, item: Put, at: u32) -> Result<Put, AllocError>
-    ensures value { IfOk result (λ p. (s : Scope) (v : PlainInit) → core_tree item.value ≡ rule.put_in s (item_of (place_kind kind.entry)) v → core_tree p.value ≡ rule.put_in s (place_kind kind.entry) (tree.Fill v)) }
-    ensures misfit { IfOk result (λ p. (s : Scope) (v : PlainInit) → misfit_faults item.misfit ≡ rule.misfits s (item_of (place_kind kind.entry)) (at + 2) v → misfit_faults p.misfit ≡ rule.misfits s (place_kind kind.entry) at (tree.Fill v)) }
+    ensures value { IfOk result (λ p. (s : Scope) (v : PlainInit)
+        → core_tree item.value ≡ rule.put_in s (item_of (place_kind kind.entry)) v
+        → core_tree p.value ≡ rule.put_in s (place_kind kind.entry) (tree.Fill v)) }
+    ensures misfit { IfOk result (λ p. (s : Scope) (v : PlainInit)
+        → misfit_faults item.misfit ≡ rule.misfits s (item_of (place_kind kind.entry)) (at + 2) v
+        → misfit_faults p.misfit ≡ rule.misfits s (place_kind kind.entry) at (tree.Fill v)) }
 {
     let Some(kind) = kind else {
         drop(item);
@@ -109,7 +116,8 @@ fn misfit(at: u32) -> Put
 }
 
 fn misfit_of(kind: Option<Shape<'_>>, typed: &Option<Typed<'_>>, at: u32) -> Option<u32>
-    ensures { (s : Scope) (t : PlainTerm) → judged_tree typed.now ≡ judge s t → misfit_faults result ≡ rule.misfits s (place_kind kind.entry) at (tree.Value t) }
+    ensures { (s : Scope) (t : PlainTerm) → judged_tree typed.now ≡ judge s t
+        → misfit_faults result ≡ rule.misfits s (place_kind kind.entry) at (tree.Value t) }
 {
     match (kind, typed) {
         (Some(kind), Some(typed)) => {
@@ -128,7 +136,8 @@ fn value_of(
     kind: Option<Shape<'_>>,
     typed: Option<Typed<'_>>,
 ) -> Result<Option<Term>, AllocError>
-    ensures { IfOk result (λ v. (s : Scope) (t : PlainTerm) → judged_tree typed.entry ≡ judge s t → core_tree v ≡ rule.put_in s (place_kind kind.entry) (tree.Value t)) }
+    ensures { IfOk result (λ v. (s : Scope) (t : PlainTerm) → judged_tree typed.entry ≡ judge s t
+        → core_tree v ≡ rule.put_in s (place_kind kind.entry) (tree.Value t)) }
 {
     match kind {
         None => {
@@ -153,9 +162,13 @@ pub fn check_init(
 ) -> Result<Put, AllocError>
     requires room { progress.old.at + init_size (view_init init.now) < 2 ^ 32 }
     ensures at { OnOk result (progress.new.at ≡ progress.old.at + init_size (view_init init.now)) }
-    ensures faults { OnOk result (AreNoted progress.old progress.new (rule.inner_faults (names_tree names.now) progress.old.at (view_init init.now))) }
-    ensures value { IfOk result (λ p. core_tree p.value ≡ rule.put_in (names_tree names.now) (place_kind kind.entry) (view_init init.now)) }
-    ensures misfit { IfOk result (λ p. misfit_faults p.misfit ≡ rule.misfits (names_tree names.now) (place_kind kind.entry) progress.old.at (view_init init.now)) }
+    ensures faults { OnOk result (AreNoted progress.old progress.new
+        (rule.inner_faults (names_tree names.now) progress.old.at (view_init init.now))) }
+    ensures value { IfOk result (λ p. core_tree p.value
+        ≡ rule.put_in (names_tree names.now) (place_kind kind.entry) (view_init init.now)) }
+    ensures misfit { IfOk result (λ p. misfit_faults p.misfit
+        ≡ rule.misfits (names_tree names.now) (place_kind kind.entry) progress.old.at
+        (view_init init.now)) }
 {
     let at = progress.at;
     match init {

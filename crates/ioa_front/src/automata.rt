@@ -22,7 +22,9 @@ fn read_signature<'a, 'b>(
     alloc: Global,
     tokens: &'b [Token<'a>],
 ) -> Result<(Vec<Entry>, Vec<Variable>, &'b [Token<'a>]), Stop>
-    ensures leads { ReadsParts (λ x. map entry_item x.0.items ++ states_node (map view_variable x.1.items)) (λ x. toks_of x.2.now) basic after_signature after_states (toks_of tokens.now) result }
+    ensures leads { ReadsParts (λ x. map entry_item x.0.items
+        ++ states_node (map view_variable x.1.items))
+        (λ x. toks_of x.2.now) basic after_signature after_states (toks_of tokens.now) result }
     ensures shorter { IfOk result (λ x. length x.2.now ≤ length tokens.now) }
 {
     let (entries, rest) = read_entries(alloc, tokens)?;
@@ -36,7 +38,10 @@ fn read_behaviour<'a, 'b>(
     alloc: Global,
     tokens: &'b [Token<'a>],
 ) -> Result<(Vec<Transition>, Vec<Vec<String>>, &'b [Token<'a>]), Stop>
-    ensures leads { ReadsParts (λ x. key w.Transitions ∷ (map transition_item x.0.items ++ tasks_node (map (λ t. map string_bytes t.items) x.1.items))) (λ x. toks_of x.2.now) basic after_states [] (toks_of tokens.now) result }
+    ensures leads { ReadsParts (λ x. key w.Transitions
+        ∷ (map transition_item x.0.items
+        ++ tasks_node (map (λ t. map string_bytes t.items) x.1.items)))
+        (λ x. toks_of x.2.now) basic after_states [] (toks_of tokens.now) result }
     ensures shorter { IfOk result (λ x. length x.2.now ≤ length tokens.now) }
 {
     let rest = expect(tokens, Word::Transitions)?;
@@ -51,7 +56,8 @@ fn read_basic<'a, 'b>(
     name: String,
     tokens: &'b [Token<'a>],
 ) -> Result<(Automaton, &'b [Token<'a>]), Stop>
-    ensures gives { GivesLow (λ x. basic_node (view_automaton x.0)) (λ x. toks_of x.1.now) (want basic) 0 (toks_of tokens.now) result }
+    ensures gives { GivesLow (λ x. basic_node (view_automaton x.0)) (λ x. toks_of x.1.now)
+        (want basic) 0 (toks_of tokens.now) result }
     ensures named { IfOk result (λ x. string_bytes x.0.name ≡ string_bytes name) }
     ensures shorter { IfOk result (λ x. length x.1.now ≤ length tokens.now) }
 {
@@ -78,7 +84,9 @@ fn read_then<'a, 'b>(
     name: String,
     tokens: &'b [Token<'a>],
 ) -> Result<(Automaton, String, &'b [Token<'a>]), Stop>
-    ensures gives { BasicThen (λ x. basic_node (view_automaton x.0) ∷ (key w.Automaton ∷ (named (string_bytes x.1) ∷ []))) (λ x. toks_of x.2.now) (toks_of tokens.now) result }
+    ensures gives { BasicThen (λ x. basic_node (view_automaton x.0)
+        ∷ (key w.Automaton ∷ (named (string_bytes x.1) ∷ []))) (λ x. toks_of x.2.now)
+        (toks_of tokens.now) result }
     ensures named { IfOk result (λ x. string_bytes x.0.name ≡ string_bytes name) }
     ensures shorter { IfOk result (λ x. length x.2.now + 1 ≤ length tokens.now) }
 {
@@ -94,7 +102,8 @@ fn read_first<'a, 'b>(
     alloc: Global,
     tokens: &'b [Token<'a>],
 ) -> Result<(Automaton, String, &'b [Token<'a>]), Stop>
-    ensures goes { Goes (λ x. automata_nodes (view_automaton x.0 ∷ []) (string_bytes x.1)) (λ x. toks_of x.2.now) automata_parts further_parts (toks_of tokens.now) result }
+    ensures goes { Goes (λ x. automata_nodes (view_automaton x.0 ∷ []) (string_bytes x.1))
+        (λ x. toks_of x.2.now) automata_parts further_parts (toks_of tokens.now) result }
     ensures shorter { IfOk result (λ x. length x.2.now ≤ length tokens.now) }
 {
     let rest = expect(tokens, Word::Automaton)?;
@@ -120,7 +129,8 @@ pub(crate) fn read_automata<'a, 'b>(
     alloc: Global,
     tokens: &'b [Token<'a>],
 ) -> Result<(Vec<Automaton>, String, &'b [Token<'a>]), Stop>
-    ensures goes { Goes (λ x. automata_nodes (map view_automaton x.0.items) (string_bytes x.1)) (λ x. toks_of x.2.now) automata_parts component_parts (toks_of tokens.now) result }
+    ensures goes { Goes (λ x. automata_nodes (map view_automaton x.0.items) (string_bytes x.1))
+        (λ x. toks_of x.2.now) automata_parts component_parts (toks_of tokens.now) result }
     ensures shorter { IfOk result (λ x. length x.2.now ≤ length tokens.now) }
 {
     let (first, mut name, mut rest) = read_first(alloc, tokens)?;

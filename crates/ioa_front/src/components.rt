@@ -20,7 +20,8 @@ fn read_argument_list<'a, 'b>(
     alloc: Global,
     tokens: &'b [Token<'a>],
 ) -> Result<(Vec<Term>, &'b [Token<'a>]), Stop>
-    ensures gives { Gives (λ x. arguments_tree (map view x.0.items)) (λ x. toks_of x.1.now) (λ k. at arguments (key w.Open ∷ []) arguments_parts k) 0 (toks_of tokens.now) result }
+    ensures gives { Gives (λ x. arguments_tree (map view x.0.items)) (λ x. toks_of x.1.now)
+        (λ k. at arguments (key w.Open ∷ []) arguments_parts k) 0 (toks_of tokens.now) result }
     ensures shorter { IfOk result (λ x. length x.1.now ≤ length tokens.now) }
     ensures some { IfOk result (λ x. 0 < length x.0.items) }
 {
@@ -42,7 +43,8 @@ fn read_arguments<'a, 'b>(
     alloc: Global,
     tokens: &'b [Token<'a>],
 ) -> Result<(Vec<Term>, &'b [Token<'a>]), Stop>
-    ensures perhaps { Perhaps (λ x. arguments_node (map view x.0.items)) (λ x. toks_of x.1.now) component arguments outside [] 0 (toks_of tokens.now) result }
+    ensures perhaps { Perhaps (λ x. arguments_node (map view x.0.items))
+        (λ x. toks_of x.1.now) component arguments outside [] 0 (toks_of tokens.now) result }
     ensures shorter { IfOk result (λ x. length x.1.now ≤ length tokens.now) }
 {
     let Some(rest) = past(tokens, Word::Open) else {
@@ -58,7 +60,8 @@ pub(crate) fn read_component<'a, 'b>(
     alloc: Global,
     tokens: &'b [Token<'a>],
 ) -> Result<(ComponentTree, &'b [Token<'a>]), Stop>
-    ensures gives { GivesLow (λ x. component_node (view_component x.0)) (λ x. toks_of x.1.now) (want component) 0 (toks_of tokens.now) result }
+    ensures gives { GivesLow (λ x. component_node (view_component x.0)) (λ x. toks_of x.1.now)
+        (want component) 0 (toks_of tokens.now) result }
     ensures shorter { IfOk result (λ x. length x.1.now ≤ length tokens.now) }
 {
     let (name, rest) = expect_name(alloc, tokens)?;

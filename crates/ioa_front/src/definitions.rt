@@ -20,7 +20,9 @@ fn read_enumeration<'a, 'b>(
     alloc: Global,
     tokens: &'b [Token<'a>],
 ) -> Result<(TypeBody, &'b [Token<'a>]), Stop>
-    ensures gives { GivesLow (λ x. type_body_node (view_type_body x.0)) (λ x. toks_of x.1.now) (λ k. at type_body (key w.Enumeration ∷ []) enumeration_parts k) 0 (toks_of tokens.now) result }
+    ensures gives { GivesLow (λ x. type_body_node (view_type_body x.0)) (λ x. toks_of x.1.now)
+        (λ k. at type_body (key w.Enumeration ∷ []) enumeration_parts k) 0
+        (toks_of tokens.now) result }
     ensures shorter { IfOk result (λ x. length x.1.now ≤ length tokens.now) }
 {
     let rest = expect(tokens, Word::Of)?;
@@ -32,7 +34,8 @@ fn read_same<'a, 'b>(
     alloc: Global,
     tokens: &'b [Token<'a>],
 ) -> Result<(TypeBody, &'b [Token<'a>]), Stop>
-    ensures gives { Gives (λ x. type_body_node (view_type_body x.0)) (λ x. toks_of x.1.now) (want type) 0 (toks_of tokens.now) result }
+    ensures gives { Gives (λ x. type_body_node (view_type_body x.0)) (λ x. toks_of x.1.now)
+        (want type) 0 (toks_of tokens.now) result }
     ensures shorter { IfOk result (λ x. length x.1.now ≤ length tokens.now) }
 {
     let (of, rest) = read_type(alloc, tokens, 0)?;
@@ -44,7 +47,8 @@ fn read_type_body<'a, 'b>(
     alloc: Global,
     tokens: &'b [Token<'a>],
 ) -> Result<(TypeBody, &'b [Token<'a>]), Stop>
-    ensures gives { GivesLow (λ x. type_body_node (view_type_body x.0)) (λ x. toks_of x.1.now) (want type_body) 0 (toks_of tokens.now) result }
+    ensures gives { GivesLow (λ x. type_body_node (view_type_body x.0)) (λ x. toks_of x.1.now)
+        (want type_body) 0 (toks_of tokens.now) result }
     ensures shorter { IfOk result (λ x. length x.1.now ≤ length tokens.now) }
 {
     if let Some(rest) = past(tokens, Word::Enumeration) {
@@ -58,7 +62,9 @@ pub(crate) fn read_definition<'a, 'b>(
     alloc: Global,
     tokens: &'b [Token<'a>],
 ) -> Result<(TypeDefinition, &'b [Token<'a>]), Stop>
-    ensures gives { GivesLow (λ x. type_definition_node (view_type_definition x.0)) (λ x. toks_of x.1.now) (λ k. at type_definition (key w.Type ∷ []) definition_parts k) 0 (toks_of tokens.now) result }
+    ensures gives { GivesLow (λ x. type_definition_node (view_type_definition x.0))
+        (λ x. toks_of x.1.now) (λ k. at type_definition (key w.Type ∷ []) definition_parts k) 0
+        (toks_of tokens.now) result }
     ensures shorter { IfOk result (λ x. length x.1.now ≤ length tokens.now) }
 {
     let (name, rest) = expect_name(alloc, tokens)?;

@@ -29,7 +29,8 @@ pub(crate) fn read_entries<'a, 'b>(
     alloc: Global,
     tokens: &'b [Token<'a>],
 ) -> Result<(Vec<Entry>, &'b [Token<'a>]), Stop>
-    ensures gives { SomeOf (λ x. map entry_item x.0.items) (λ x. toks_of x.1.now) entry (toks_of tokens.now) result }
+    ensures gives { SomeOf (λ x. map entry_item x.0.items) (λ x. toks_of x.1.now) entry
+        (toks_of tokens.now) result }
     ensures shorter { IfOk result (λ x. length x.1.now ≤ length tokens.now) }
 {
     let (first, mut rest) = read_entry(alloc, tokens)?;
@@ -49,7 +50,8 @@ pub(crate) fn read_transitions<'a, 'b>(
     alloc: Global,
     tokens: &'b [Token<'a>],
 ) -> Result<(Vec<Transition>, &'b [Token<'a>]), Stop>
-    ensures gives { SomeOf (λ x. map transition_item x.0.items) (λ x. toks_of x.1.now) transition (toks_of tokens.now) result }
+    ensures gives { SomeOf (λ x. map transition_item x.0.items) (λ x. toks_of x.1.now) transition
+        (toks_of tokens.now) result }
     ensures shorter { IfOk result (λ x. length x.1.now ≤ length tokens.now) }
 {
     let (first, mut rest) = read_transition(alloc, tokens)?;

@@ -31,11 +31,18 @@ impl Model for Source {
 
     ghost Value = { SourceTree };
 
-    ghost coded = { Prim.hlevel (codes, type.the_row.coded, term.the_row.coded, init.the_row.coded, statement.the_row.coded) };
+    ghost coded = { Prim.hlevel (
+      codes,
+      type.the_row.coded,
+      term.the_row.coded,
+      init.the_row.coded,
+      statement.the_row.coded,
+    ) };
 
     ghost view = { λ s. s.tree };
 
-    ghost invariant = { λ s. IsReadable (view_source s.tree) × (length (spell (view_source s.tree)) ≤ most_bytes) };
+    ghost invariant = { λ s. IsReadable (view_source s.tree)
+        × (length (spell (view_source s.tree)) ≤ most_bytes) };
 }
 
 impl Source {

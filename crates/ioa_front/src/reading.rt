@@ -31,8 +31,10 @@ pub fn read(alloc: Global, source: &[u8]) -> Result<Source, ReadError>
     ensures size { IfOk result (λ s. length source.now ≤ most_bytes) }
     ensures spelled { IfOk result (λ s. Spells source.now (view_source s)) }
     ensures readable { IfOk result (λ s. IsReadable (view_source s)) }
-    ensures only { (x : PlainSource) → IsReadable x → Spells source.now x → length source.now ≤ most_bytes → Gets x result }
-    ensures again { (x : PlainSource) → IsReadable x → source.now ≡ layout (spell x) → length source.now ≤ most_bytes → Gets x result }
+    ensures only { (x : PlainSource) → IsReadable x → Spells source.now x
+        → length source.now ≤ most_bytes → Gets x result }
+    ensures again { (x : PlainSource) → IsReadable x → source.now ≡ layout (spell x)
+        → length source.now ≤ most_bytes → Gets x result }
     ensures refused { IfErr result (λ e. IsRefusal source.now e) }
 {
     let tree = read_tree(alloc, source)?;
@@ -44,8 +46,10 @@ fn read_tree(alloc: Global, source: &[u8]) -> Result<SourceTree, ReadError>
     ensures size { IfOk result (λ s. length source.now ≤ most_bytes) }
     ensures spelled { IfOk result (λ s. Spells source.now (view_source s)) }
     ensures readable { IfOk result (λ s. IsReadable (view_source s)) }
-    ensures only { (x : PlainSource) → IsReadable x → Spells source.now x → length source.now ≤ most_bytes → Gets x result }
-    ensures again { (x : PlainSource) → IsReadable x → source.now ≡ layout (spell x) → length source.now ≤ most_bytes → Gets x result }
+    ensures only { (x : PlainSource) → IsReadable x → Spells source.now x
+        → length source.now ≤ most_bytes → Gets x result }
+    ensures again { (x : PlainSource) → IsReadable x → source.now ≡ layout (spell x)
+        → length source.now ≤ most_bytes → Gets x result }
     ensures refused { IfErr result (λ e. IsRefusal source.now e) }
 {
     if source.len() > MOST_BYTES {

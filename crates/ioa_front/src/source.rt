@@ -22,7 +22,8 @@ fn read_some_types<'a, 'b>(
     alloc: Global,
     tokens: &'b [Token<'a>],
 ) -> Result<(Vec<TypeDefinition>, &'b [Token<'a>]), Stop>
-    ensures goes { SomeTypes (λ x. map definition_item x.0.items) (λ x. toks_of x.1.now) (toks_of tokens.now) result }
+    ensures goes { SomeTypes (λ x. map definition_item x.0.items) (λ x. toks_of x.1.now)
+        (toks_of tokens.now) result }
     ensures shorter { IfOk result (λ x. length x.1.now ≤ length tokens.now) }
 {
     let (first, mut rest) = read_definition(alloc, tokens)?;
@@ -42,7 +43,8 @@ fn read_types<'a, 'b>(
     alloc: Global,
     tokens: &'b [Token<'a>],
 ) -> Result<(Vec<TypeDefinition>, &'b [Token<'a>]), Stop>
-    ensures goes { Goes (λ x. map definition_item x.0.items) (λ x. toks_of x.1.now) whole automata_parts (toks_of tokens.now) result }
+    ensures goes { Goes (λ x. map definition_item x.0.items)
+        (λ x. toks_of x.1.now) whole automata_parts (toks_of tokens.now) result }
     ensures shorter { IfOk result (λ x. length x.1.now ≤ length tokens.now) }
 {
     let Some(rest) = past(tokens, Word::Type) else {
@@ -58,7 +60,8 @@ fn read_components<'a, 'b>(
     alloc: Global,
     tokens: &'b [Token<'a>],
 ) -> Result<(Vec<ComponentTree>, &'b [Token<'a>]), Stop>
-    ensures goes { Goes (λ x. key w.Components ∷ components_nodes (map view_component x.0.items)) (λ x. toks_of x.1.now) component_parts hidden_parts (toks_of tokens.now) result }
+    ensures goes { Goes (λ x. key w.Components ∷ components_nodes (map view_component x.0.items))
+        (λ x. toks_of x.1.now) component_parts hidden_parts (toks_of tokens.now) result }
     ensures shorter { IfOk result (λ x. length x.1.now ≤ length tokens.now) }
 {
     let rest = expect(tokens, Word::Components)?;
@@ -79,7 +82,8 @@ fn read_hidden<'a, 'b>(
     alloc: Global,
     tokens: &'b [Token<'a>],
 ) -> Result<(Vec<String>, &'b [Token<'a>]), Stop>
-    ensures goes { Goes (λ x. hidden_node (map string_bytes x.0.items)) (λ x. toks_of x.1.now) hidden_parts [] (toks_of tokens.now) result }
+    ensures goes { Goes (λ x. hidden_node (map string_bytes x.0.items))
+        (λ x. toks_of x.1.now) hidden_parts [] (toks_of tokens.now) result }
     ensures shorter { IfOk result (λ x. length x.1.now ≤ length tokens.now) }
 {
     let Some(rest) = past(tokens, Word::Hidden) else {
@@ -95,7 +99,8 @@ fn read_composed<'a, 'b>(
     name: String,
     tokens: &'b [Token<'a>],
 ) -> Result<(Composed, &'b [Token<'a>]), Stop>
-    ensures goes { Goes (λ x. composed_nodes (view_composed x.0)) (λ x. toks_of x.1.now) component_parts [] (toks_of tokens.now) result }
+    ensures goes { Goes (λ x. composed_nodes (view_composed x.0))
+        (λ x. toks_of x.1.now) component_parts [] (toks_of tokens.now) result }
     ensures named { IfOk result (λ x. string_bytes x.0.name ≡ string_bytes name) }
     ensures shorter { IfOk result (λ x. length x.1.now ≤ length tokens.now) }
 {
@@ -116,7 +121,8 @@ fn read_front<'a, 'b>(
     alloc: Global,
     tokens: &'b [Token<'a>],
 ) -> Result<(SourceTree, &'b [Token<'a>]), Stop>
-    ensures goes { Goes (λ x. source_nodes (view_source x.0)) (λ x. toks_of x.1.now) whole [] (toks_of tokens.now) result }
+    ensures goes { Goes (λ x. source_nodes (view_source x.0)) (λ x. toks_of x.1.now) whole []
+        (toks_of tokens.now) result }
     ensures shorter { IfOk result (λ x. length x.1.now ≤ length tokens.now) }
 {
     let (types, rest) = read_types(alloc, tokens)?;

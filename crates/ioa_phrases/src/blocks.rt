@@ -26,7 +26,8 @@ fn read_shallow_formal<'a, 'b>(
     alloc: Global,
     tokens: &'b [Token<'a>],
 ) -> Result<(Declared, &'b [Token<'a>]), Stop>
-    ensures gives { Gives (λ x. formal_node (view_declared x.0)) (λ x. toks_of x.1.now) (want formal) 1 (toks_of tokens.now) result }
+    ensures gives { Gives (λ x. formal_node (view_declared x.0)) (λ x. toks_of x.1.now)
+        (want formal) 1 (toks_of tokens.now) result }
     ensures shorter { IfOk result (λ x. length x.1.now ≤ length tokens.now) }
 {
     read_formal(alloc, tokens)
@@ -38,7 +39,8 @@ fn read_formal_list<'a, 'b>(
     alloc: Global,
     tokens: &'b [Token<'a>],
 ) -> Result<(Vec<Declared>, &'b [Token<'a>]), Stop>
-    ensures gives { HeadsInside (λ x. formals_nodes (map view_declared x.0.items)) (λ x. toks_of x.1.now) signature_parts (toks_of tokens.now) result }
+    ensures gives { HeadsInside (λ x. formals_nodes (map view_declared x.0.items))
+        (λ x. toks_of x.1.now) signature_parts (toks_of tokens.now) result }
     ensures shorter { IfOk result (λ x. length x.1.now ≤ length tokens.now) }
 {
     let (first, mut rest) = read_shallow_formal(alloc, tokens)?;
@@ -59,7 +61,8 @@ fn read_some_head<'a, 'b>(
     alloc: Global,
     tokens: &'b [Token<'a>],
 ) -> Result<(Vec<Declared>, &'b [Token<'a>]), Stop>
-    ensures gives { HeadsInside (λ x. head_nodes (map view_declared x.0.items)) (λ x. toks_of x.1.now) after_signature (toks_of tokens.now) result }
+    ensures gives { HeadsInside (λ x. head_nodes (map view_declared x.0.items))
+        (λ x. toks_of x.1.now) after_signature (toks_of tokens.now) result }
     ensures shorter { IfOk result (λ x. length x.1.now ≤ length tokens.now) }
 {
     let (formals, rest) = read_formal_list(alloc, tokens)?;
@@ -73,7 +76,8 @@ pub fn read_head<'a, 'b>(
     alloc: Global,
     tokens: &'b [Token<'a>],
 ) -> Result<(Vec<Declared>, &'b [Token<'a>]), Stop>
-    ensures gives { Heads (λ x. head_nodes (map view_declared x.0.items)) (λ x. toks_of x.1.now) (toks_of tokens.now) result }
+    ensures gives { Heads (λ x. head_nodes (map view_declared x.0.items)) (λ x. toks_of x.1.now)
+        (toks_of tokens.now) result }
     ensures shorter { IfOk result (λ x. length x.1.now ≤ length tokens.now) }
 {
     if let Some(rest) = past(tokens, Word::Open) {
@@ -89,7 +93,9 @@ fn read_variable_list<'a, 'b>(
     alloc: Global,
     tokens: &'b [Token<'a>],
 ) -> Result<(Vec<Variable>, &'b [Token<'a>]), Stop>
-    ensures gives { GivesLow (λ x. branch states (key w.States ∷ listed variable_item variable_part_item x.0.items)) (λ x. toks_of x.1.now) (λ k. at states (key w.States ∷ []) variable_parts k) 0 (toks_of tokens.now) result }
+    ensures gives { GivesLow (λ x. branch states
+        (key w.States ∷ listed variable_item variable_part_item x.0.items)) (λ x. toks_of x.1.now)
+        (λ k. at states (key w.States ∷ []) variable_parts k) 0 (toks_of tokens.now) result }
     ensures shorter { IfOk result (λ x. length x.1.now ≤ length tokens.now) }
     ensures some { IfOk result (λ x. 0 < length x.0.items) }
 {
@@ -110,7 +116,8 @@ pub fn read_states<'a, 'b>(
     alloc: Global,
     tokens: &'b [Token<'a>],
 ) -> Result<(Vec<Variable>, &'b [Token<'a>]), Stop>
-    ensures perhaps { Perhaps (λ x. states_node (map view_variable x.0.items)) (λ x. toks_of x.1.now) basic states outside after_states 0 (toks_of tokens.now) result }
+    ensures perhaps { Perhaps (λ x. states_node (map view_variable x.0.items))
+        (λ x. toks_of x.1.now) basic states outside after_states 0 (toks_of tokens.now) result }
     ensures shorter { IfOk result (λ x. length x.1.now ≤ length tokens.now) }
 {
     let Some(rest) = past(tokens, Word::States) else {
@@ -137,7 +144,8 @@ fn read_task_list<'a, 'b>(
     alloc: Global,
     tokens: &'b [Token<'a>],
 ) -> Result<(Vec<Vec<String>>, &'b [Token<'a>]), Stop>
-    ensures gives { SomeOf (λ x. map task_item x.0.items) (λ x. toks_of x.1.now) task (toks_of tokens.now) result }
+    ensures gives { SomeOf (λ x. map task_item x.0.items) (λ x. toks_of x.1.now) task
+        (toks_of tokens.now) result }
     ensures shorter { IfOk result (λ x. length x.1.now ≤ length tokens.now) }
     ensures some { IfOk result (λ x. 0 < length x.0.items) }
 {
@@ -158,7 +166,8 @@ pub fn read_tasks<'a, 'b>(
     alloc: Global,
     tokens: &'b [Token<'a>],
 ) -> Result<(Vec<Vec<String>>, &'b [Token<'a>]), Stop>
-    ensures perhaps { Perhaps (λ x. tasks_node (map (λ t. map string_bytes t.items) x.0.items)) (λ x. toks_of x.1.now) basic tasks outside [] 0 (toks_of tokens.now) result }
+    ensures perhaps { Perhaps (λ x. tasks_node (map (λ t. map string_bytes t.items) x.0.items))
+        (λ x. toks_of x.1.now) basic tasks outside [] 0 (toks_of tokens.now) result }
     ensures shorter { IfOk result (λ x. length x.1.now ≤ length tokens.now) }
 {
     let Some(rest) = past(tokens, Word::Tasks) else {

@@ -18,7 +18,8 @@ use std::alloc::Global;
 
 // The kind of an action at the front and what follows it, if one comes next.
 fn past_kind<'a, 'b>(tokens: &'b [Token<'a>]) -> Option<(EntryKind, &'b [Token<'a>])>
-    ensures cases { MatchOption result (front_starts entry (toks_of tokens.now) ≡ false) (λ x. toks_of tokens.now ≡ Key (word_of_kind x.0) ∷ toks_of x.1.now) }
+    ensures cases { MatchOption result (front_starts entry (toks_of tokens.now) ≡ false)
+        (λ x. toks_of tokens.now ≡ Key (word_of_kind x.0) ∷ toks_of x.1.now) }
     ensures shorter { MatchOption result Unit (λ x. length x.1.now + 1 ≤ length tokens.now) }
 {
     let (first, rest) = tokens.split_first()?;
@@ -35,7 +36,8 @@ fn read_parameter<'a, 'b>(
     alloc: Global,
     tokens: &'b [Token<'a>],
 ) -> Result<(Parameter, &'b [Token<'a>]), Stop>
-    ensures gives { GivesLow (λ x. parameter_node (view_parameter x.0)) (λ x. toks_of x.1.now) (want parameter) 1 (toks_of tokens.now) result }
+    ensures gives { GivesLow (λ x. parameter_node (view_parameter x.0)) (λ x. toks_of x.1.now)
+        (want parameter) 1 (toks_of tokens.now) result }
     ensures shorter { IfOk result (λ x. length x.1.now ≤ length tokens.now) }
 {
     let Some((first, rest)) = tokens.split_first() else {
@@ -61,7 +63,8 @@ fn read_shallow_parameter<'a, 'b>(
     alloc: Global,
     tokens: &'b [Token<'a>],
 ) -> Result<(Parameter, &'b [Token<'a>]), Stop>
-    ensures gives { Gives (λ x. parameter_node (view_parameter x.0)) (λ x. toks_of x.1.now) (want parameter) 1 (toks_of tokens.now) result }
+    ensures gives { Gives (λ x. parameter_node (view_parameter x.0)) (λ x. toks_of x.1.now)
+        (want parameter) 1 (toks_of tokens.now) result }
     ensures shorter { IfOk result (λ x. length x.1.now ≤ length tokens.now) }
 {
     read_parameter(alloc, tokens)
@@ -73,7 +76,9 @@ fn read_parameter_list<'a, 'b>(
     alloc: Global,
     tokens: &'b [Token<'a>],
 ) -> Result<(Vec<Parameter>, &'b [Token<'a>]), Stop>
-    ensures gives { Gives (λ x. parameters_tree (map view_parameter x.0.items)) (λ x. toks_of x.1.now) (λ k. at parameters (key w.Open ∷ []) parameters_parts k) 0 (toks_of tokens.now) result }
+    ensures gives { Gives (λ x. parameters_tree (map view_parameter x.0.items))
+        (λ x. toks_of x.1.now) (λ k. at parameters (key w.Open ∷ []) parameters_parts k) 0
+        (toks_of tokens.now) result }
     ensures shorter { IfOk result (λ x. length x.1.now ≤ length tokens.now) }
     ensures some { IfOk result (λ x. 0 < length x.0.items) }
 {
@@ -95,7 +100,8 @@ fn read_parameters<'a, 'b>(
     alloc: Global,
     tokens: &'b [Token<'a>],
 ) -> Result<(Vec<Parameter>, &'b [Token<'a>]), Stop>
-    ensures perhaps { Perhaps (λ x. parameters_node (map view_parameter x.0.items)) (λ x. toks_of x.1.now) entry parameters outside [] 0 (toks_of tokens.now) result }
+    ensures perhaps { Perhaps (λ x. parameters_node (map view_parameter x.0.items))
+        (λ x. toks_of x.1.now) entry parameters outside [] 0 (toks_of tokens.now) result }
     ensures shorter { IfOk result (λ x. length x.1.now ≤ length tokens.now) }
 {
     let Some(rest) = past(tokens, Word::Open) else {
@@ -111,7 +117,8 @@ pub fn read_entry<'a, 'b>(
     alloc: Global,
     tokens: &'b [Token<'a>],
 ) -> Result<(Entry, &'b [Token<'a>]), Stop>
-    ensures gives { GivesLow (λ x. entry_node (view_entry x.0)) (λ x. toks_of x.1.now) (want entry) 0 (toks_of tokens.now) result }
+    ensures gives { GivesLow (λ x. entry_node (view_entry x.0)) (λ x. toks_of x.1.now)
+        (want entry) 0 (toks_of tokens.now) result }
     ensures shorter { IfOk result (λ x. length x.1.now + 1 ≤ length tokens.now) }
 {
     let Some((kind, rest)) = past_kind(tokens) else {

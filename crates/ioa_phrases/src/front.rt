@@ -28,7 +28,8 @@ fn is(kind: &Kind, word: Word) -> bool
 
 /// What follows this word, if it comes next.
 pub fn past<'a, 'b>(tokens: &'b [Token<'a>], word: Word) -> Option<&'b [Token<'a>]>
-    ensures cases { MatchOption result (sees word (toks_of tokens.now) ≡ false) (λ rest. toks_of tokens.now ≡ Key word ∷ toks_of rest.now) }
+    ensures cases { MatchOption result (sees word (toks_of tokens.now) ≡ false)
+        (λ rest. toks_of tokens.now ≡ Key word ∷ toks_of rest.now) }
     ensures shorter { MatchOption result Unit (λ rest. length rest.now + 1 ≤ length tokens.now) }
 {
     let (first, rest) = tokens.split_first()?;
@@ -52,7 +53,8 @@ pub fn expect_name<'a, 'b>(
     alloc: Global,
     tokens: &'b [Token<'a>],
 ) -> Result<(String, &'b [Token<'a>]), Stop>
-    ensures cases { Names (λ x. string_bytes x.0) (λ x. toks_of x.1.now) (toks_of tokens.now) result }
+    ensures cases { Names (λ x. string_bytes x.0) (λ x. toks_of x.1.now)
+        (toks_of tokens.now) result }
     ensures shorter { IfOk result (λ x. length x.1.now + 1 ≤ length tokens.now) }
 {
     let Some((first, rest)) = tokens.split_first() else {
@@ -84,7 +86,8 @@ pub(crate) fn expect_inner_name<'a, 'b>(
     tokens: &'b [Token<'a>],
     depth: u32,
 ) -> Result<(String, &'b [Token<'a>]), Stop>
-    ensures cases { NamesInside (λ x. string_bytes x.0) (λ x. toks_of x.1.now) depth (toks_of tokens.now) result }
+    ensures cases { NamesInside (λ x. string_bytes x.0) (λ x. toks_of x.1.now) depth
+        (toks_of tokens.now) result }
     ensures shorter { IfOk result (λ x. length x.1.now + 1 ≤ length tokens.now) }
 {
     let Some((first, rest)) = tokens.split_first() else {

@@ -22,7 +22,8 @@ pub fn read_names<'a, 'b>(
     alloc: Global,
     tokens: &'b [Token<'a>],
 ) -> Result<(Vec<String>, &'b [Token<'a>]), Stop>
-    ensures gives { NamesListed (λ x. names_nodes x.0.items) (λ x. toks_of x.1.now) (toks_of tokens.now) result }
+    ensures gives { NamesListed (λ x. names_nodes x.0.items) (λ x. toks_of x.1.now)
+        (toks_of tokens.now) result }
     ensures shorter { IfOk result (λ x. length x.1.now ≤ length tokens.now) }
     ensures some { IfOk result (λ x. 0 < length x.0.items) }
 {
@@ -43,7 +44,8 @@ pub(crate) fn read_formal<'a, 'b>(
     alloc: Global,
     tokens: &'b [Token<'a>],
 ) -> Result<(Declared, &'b [Token<'a>]), Stop>
-    ensures gives { GivesLow (λ x. formal_node (view_declared x.0)) (λ x. toks_of x.1.now) (want formal) 1 (toks_of tokens.now) result }
+    ensures gives { GivesLow (λ x. formal_node (view_declared x.0)) (λ x. toks_of x.1.now)
+        (want formal) 1 (toks_of tokens.now) result }
     ensures shorter { IfOk result (λ x. length x.1.now ≤ length tokens.now) }
 {
     let (name, rest) = expect_name(alloc, tokens)?;

@@ -29,7 +29,8 @@ pub(crate) fn read_statements<'a, 'b>(
     depth: u32,
 ) -> Result<(Vec<Statement>, &'b [Token<'a>]), Stop>
     requires { depth ≤ 64 }
-    ensures gives { Gives (λ x. statements_node (view_statements x.0.items)) (λ x. toks_of x.1.now) (want statements) depth (toks_of tokens.now) result }
+    ensures gives { Gives (λ x. statements_node (view_statements x.0.items)) (λ x. toks_of x.1.now)
+        (want statements) depth (toks_of tokens.now) result }
     ensures shorter { IfOk result (λ x. length x.1.now ≤ length tokens.now) }
     ensures some { IfOk result (λ x. 0 < length x.0.items) }
 {
@@ -52,7 +53,8 @@ fn read_statement<'a, 'b>(
     depth: u32,
 ) -> Result<(Statement, &'b [Token<'a>]), Stop>
     requires { depth ≤ 64 }
-    ensures gives { Gives (λ x. statement_node (view_statement x.0)) (λ x. toks_of x.1.now) (want statement) depth (toks_of tokens.now) result }
+    ensures gives { Gives (λ x. statement_node (view_statement x.0)) (λ x. toks_of x.1.now)
+        (want statement) depth (toks_of tokens.now) result }
     ensures shorter { IfOk result (λ x. length x.1.now ≤ length tokens.now) }
 {
     read_low_statement(alloc, tokens, depth)
@@ -65,7 +67,8 @@ fn read_low_statement<'a, 'b>(
     depth: u32,
 ) -> Result<(Statement, &'b [Token<'a>]), Stop>
     requires { depth ≤ 64 }
-    ensures gives { GivesLow (λ x. statement_node (view_statement x.0)) (λ x. toks_of x.1.now) (want statement) depth (toks_of tokens.now) result }
+    ensures gives { GivesLow (λ x. statement_node (view_statement x.0)) (λ x. toks_of x.1.now)
+        (want statement) depth (toks_of tokens.now) result }
     ensures shorter { IfOk result (λ x. length x.1.now ≤ length tokens.now) }
 {
     let Some((first, rest)) = tokens.split_first() else {
@@ -87,7 +90,8 @@ fn read_assignment<'a, 'b>(
     depth: u32,
 ) -> Result<(Statement, &'b [Token<'a>]), Stop>
     requires { depth ≤ 64 }
-    ensures gives { GivesLow (λ x. statement_node (view_statement x.0)) (λ x. toks_of x.1.now) (λ k. at statement (named name.now ∷ []) assign_parts k) depth (toks_of tokens.now) result }
+    ensures gives { GivesLow (λ x. statement_node (view_statement x.0)) (λ x. toks_of x.1.now)
+        (λ k. at statement (named name.now ∷ []) assign_parts k) depth (toks_of tokens.now) result }
     ensures shorter { IfOk result (λ x. length x.1.now ≤ length tokens.now) }
 {
     let name = String::from_str(alloc, name)?;
@@ -105,7 +109,9 @@ fn read_index<'a, 'b>(
     depth: u32,
 ) -> Result<(Option<Term>, &'b [Token<'a>]), Stop>
     requires { depth ≤ 64 }
-    ensures perhaps { Perhaps (λ x. at_index (option_view x.0)) (λ x. toks_of x.1.now) statement index_part outside value_parts depth (toks_of tokens.now) result }
+    ensures perhaps { Perhaps (λ x. at_index (option_view x.0))
+        (λ x. toks_of x.1.now) statement index_part outside value_parts depth
+        (toks_of tokens.now) result }
     ensures shorter { IfOk result (λ x. length x.1.now ≤ length tokens.now) }
 {
     let Some(rest) = past(tokens, Word::OpenBracket) else {
@@ -124,7 +130,8 @@ fn read_choice<'a, 'b>(
     depth: u32,
 ) -> Result<(Branch, &'b [Token<'a>]), Stop>
     requires { depth ≤ 65 }
-    ensures gives { Gives (λ x. choice_node (view_branch x.0)) (λ x. toks_of x.1.now) (want choice) depth (toks_of tokens.now) result }
+    ensures gives { Gives (λ x. choice_node (view_branch x.0)) (λ x. toks_of x.1.now)
+        (want choice) depth (toks_of tokens.now) result }
     ensures shorter { IfOk result (λ x. length x.1.now ≤ length tokens.now) }
     ensures low { IfOk result (λ x. depth ≤ 64) }
 {
@@ -142,7 +149,8 @@ fn read_if<'a, 'b>(
     depth: u32,
 ) -> Result<(Statement, &'b [Token<'a>]), Stop>
     requires { depth ≤ 64 }
-    ensures gives { GivesLow (λ x. statement_node (view_statement x.0)) (λ x. toks_of x.1.now) (λ k. at statement (key w.If ∷ []) if_parts k) depth (toks_of tokens.now) result }
+    ensures gives { GivesLow (λ x. statement_node (view_statement x.0)) (λ x. toks_of x.1.now)
+        (λ k. at statement (key w.If ∷ []) if_parts k) depth (toks_of tokens.now) result }
     ensures shorter { IfOk result (λ x. length x.1.now ≤ length tokens.now) }
 {
     let (branches, rest) = read_branches(alloc, tokens, depth)?;
@@ -158,7 +166,8 @@ fn read_branches<'a, 'b>(
     depth: u32,
 ) -> Result<(Vec<Branch>, &'b [Token<'a>]), Stop>
     requires { depth ≤ 64 }
-    ensures gives { Branches (λ x. listed choice_item elseif_item x.0.items) (λ x. toks_of x.1.now) depth (toks_of tokens.now) result }
+    ensures gives { Branches (λ x. listed choice_item elseif_item x.0.items)
+        (λ x. toks_of x.1.now) depth (toks_of tokens.now) result }
     ensures shorter { IfOk result (λ x. length x.1.now ≤ length tokens.now) }
     ensures low { IfOk result (λ x. depth + 1 ≤ 64) }
 {
@@ -174,7 +183,8 @@ fn read_branches<'a, 'b>(
 }
 
 fn if_of(branches: Vec<Branch>, otherwise: Vec<Statement>) -> Statement
-    ensures { view_statement result ≡ If (pack_branches (map view_branch branches.items)) (view_statements otherwise.items) }
+    ensures { view_statement result
+        ≡ If (pack_branches (map view_branch branches.items)) (view_statements otherwise.items) }
 {
     Statement::If(branches, otherwise)
 }
@@ -189,7 +199,10 @@ fn read_else<'a, 'b>(
     depth: u32,
 ) -> Result<(Statement, &'b [Token<'a>]), Stop>
     requires { depth + 1 ≤ 64 }
-    ensures gives { Gives (λ x. statement_node (view_statement x.0)) (λ x. toks_of x.1.now) (λ k. at statement (key w.If ∷ listed choice_item elseif_item branches.items) else_parts k) depth (toks_of tokens.now) result }
+    ensures gives { Gives (λ x. statement_node (view_statement x.0)) (λ x. toks_of x.1.now)
+        (λ k. at statement
+        (key w.If ∷ listed choice_item elseif_item branches.items) else_parts k) depth
+        (toks_of tokens.now) result }
     ensures shorter { IfOk result (λ x. length x.1.now ≤ length tokens.now) }
 {
     if let Some(rest) = past(tokens, Word::Else) {
@@ -211,7 +224,8 @@ fn read_for<'a, 'b>(
     depth: u32,
 ) -> Result<(Statement, &'b [Token<'a>]), Stop>
     requires { depth ≤ 64 }
-    ensures gives { GivesLow (λ x. statement_node (view_statement x.0)) (λ x. toks_of x.1.now) (λ k. at statement (key w.For ∷ []) for_parts k) depth (toks_of tokens.now) result }
+    ensures gives { GivesLow (λ x. statement_node (view_statement x.0)) (λ x. toks_of x.1.now)
+        (λ k. at statement (key w.For ∷ []) for_parts k) depth (toks_of tokens.now) result }
     ensures shorter { IfOk result (λ x. length x.1.now ≤ length tokens.now) }
 {
     let (name, rest) = expect_inner_name(alloc, tokens, depth)?;
@@ -229,7 +243,9 @@ fn read_loop<'a, 'b>(
     depth: u32,
 ) -> Result<(Statement, &'b [Token<'a>]), Stop>
     requires { depth + 1 ≤ 64 }
-    ensures gives { Gives (λ x. statement_node (view_statement x.0)) (λ x. toks_of x.1.now) (λ k. at statement (loop_head (view_declared declared)) loop_parts k) depth (toks_of tokens.now) result }
+    ensures gives { Gives (λ x. statement_node (view_statement x.0)) (λ x. toks_of x.1.now)
+        (λ k. at statement (loop_head (view_declared declared)) loop_parts k) depth
+        (toks_of tokens.now) result }
     ensures shorter { IfOk result (λ x. length x.1.now ≤ length tokens.now) }
 {
     let rest = or_stop!(expect(tokens, Word::Do), declared);

@@ -21,7 +21,8 @@ use std::alloc::Global;
 
 // The sign at the front and what follows it, if one comes next.
 fn past_sign<'a, 'b>(tokens: &'b [Token<'a>]) -> Option<(Sign, &'b [Token<'a>])>
-    ensures cases { MatchOption result (front_starts addend (toks_of tokens.now) ≡ false) (λ x. toks_of tokens.now ≡ Key (word_of_sign x.0) ∷ toks_of x.1.now) }
+    ensures cases { MatchOption result (front_starts addend (toks_of tokens.now) ≡ false)
+        (λ x. toks_of tokens.now ≡ Key (word_of_sign x.0) ∷ toks_of x.1.now) }
     ensures shorter { MatchOption result Unit (λ x. length x.1.now + 1 ≤ length tokens.now) }
 {
     let (first, rest) = tokens.split_first()?;
@@ -34,7 +35,8 @@ fn past_sign<'a, 'b>(tokens: &'b [Token<'a>]) -> Option<(Sign, &'b [Token<'a>])>
 
 // The comparison at the front and what follows it, if one comes next.
 fn past_relation<'a, 'b>(tokens: &'b [Token<'a>]) -> Option<(Relation, &'b [Token<'a>])>
-    ensures cases { MatchOption result (front_starts compared (toks_of tokens.now) ≡ false) (λ x. toks_of tokens.now ≡ Key (word_of_relation x.0) ∷ toks_of x.1.now) }
+    ensures cases { MatchOption result (front_starts compared (toks_of tokens.now) ≡ false)
+        (λ x. toks_of tokens.now ≡ Key (word_of_relation x.0) ∷ toks_of x.1.now) }
     ensures shorter { MatchOption result Unit (λ x. length x.1.now + 1 ≤ length tokens.now) }
 {
     let (first, rest) = tokens.split_first()?;
@@ -104,7 +106,8 @@ pub fn read_term<'a, 'b>(
     depth: u32,
 ) -> Result<(Term, &'b [Token<'a>]), Stop>
     requires { depth ≤ 65 }
-    ensures gives { Gives (λ x. node (view x.0)) (λ x. toks_of x.1.now) (want term) depth (toks_of tokens.now) result }
+    ensures gives { Gives (λ x. node (view x.0)) (λ x. toks_of x.1.now) (want term) depth
+        (toks_of tokens.now) result }
     ensures shorter { IfOk result (λ x. length x.1.now ≤ length tokens.now) }
     ensures low { IfOk result (λ x. depth ≤ 64) }
 {
@@ -126,7 +129,8 @@ fn read_conjunction<'a, 'b>(
     depth: u32,
 ) -> Result<(Term, &'b [Token<'a>]), Stop>
     requires { depth ≤ 65 }
-    ensures gives { Gives (λ x. node (view x.0)) (λ x. toks_of x.1.now) (want conjunction) depth (toks_of tokens.now) result }
+    ensures gives { Gives (λ x. node (view x.0)) (λ x. toks_of x.1.now) (want conjunction) depth
+        (toks_of tokens.now) result }
     ensures shorter { IfOk result (λ x. length x.1.now ≤ length tokens.now) }
     ensures low { IfOk result (λ x. depth ≤ 64) }
 {
@@ -148,7 +152,8 @@ fn read_negation<'a, 'b>(
     depth: u32,
 ) -> Result<(Term, &'b [Token<'a>]), Stop>
     requires { depth ≤ 65 }
-    ensures gives { Gives (λ x. node (view x.0)) (λ x. toks_of x.1.now) (want negation) depth (toks_of tokens.now) result }
+    ensures gives { Gives (λ x. node (view x.0)) (λ x. toks_of x.1.now) (want negation) depth
+        (toks_of tokens.now) result }
     ensures shorter { IfOk result (λ x. length x.1.now ≤ length tokens.now) }
     ensures low { IfOk result (λ x. depth ≤ 64) }
 {
@@ -166,7 +171,8 @@ fn read_low_negation<'a, 'b>(
     depth: u32,
 ) -> Result<(Term, &'b [Token<'a>]), Stop>
     requires { depth ≤ 64 }
-    ensures gives { GivesLow (λ x. node (view x.0)) (λ x. toks_of x.1.now) (want negation) depth (toks_of tokens.now) result }
+    ensures gives { GivesLow (λ x. node (view x.0)) (λ x. toks_of x.1.now) (want negation) depth
+        (toks_of tokens.now) result }
     ensures shorter { IfOk result (λ x. length x.1.now ≤ length tokens.now) }
 {
     if let Some(rest) = past(tokens, Word::Not) {
@@ -183,7 +189,8 @@ fn read_comparison<'a, 'b>(
     depth: u32,
 ) -> Result<(Term, &'b [Token<'a>]), Stop>
     requires { depth ≤ 64 }
-    ensures gives { Gives (λ x. node (view x.0)) (λ x. toks_of x.1.now) (want comparison) depth (toks_of tokens.now) result }
+    ensures gives { Gives (λ x. node (view x.0)) (λ x. toks_of x.1.now) (want comparison) depth
+        (toks_of tokens.now) result }
     ensures shorter { IfOk result (λ x. length x.1.now ≤ length tokens.now) }
 {
     let (left, rest) = read_sum(alloc, tokens, depth)?;
@@ -202,7 +209,8 @@ fn read_sum<'a, 'b>(
     depth: u32,
 ) -> Result<(Term, &'b [Token<'a>]), Stop>
     requires { depth ≤ 64 }
-    ensures gives { Gives (λ x. node (view x.0)) (λ x. toks_of x.1.now) (want sum) depth (toks_of tokens.now) result }
+    ensures gives { Gives (λ x. node (view x.0)) (λ x. toks_of x.1.now) (want sum) depth
+        (toks_of tokens.now) result }
     ensures shorter { IfOk result (λ x. length x.1.now ≤ length tokens.now) }
 {
     let (first, mut rest) = read_product(alloc, tokens, depth)?;
@@ -221,8 +229,10 @@ fn read_addend<'a, 'b>(
     depth: u32,
 ) -> Result<Option<(Addend, &'b [Token<'a>])>, Stop>
     requires { depth ≤ 64 }
-    ensures turns { Turns (λ x. addend_item x.0) (λ x. toks_of x.1.now) sum addend outside [] depth (toks_of tokens.now) result }
-    ensures shorter { IfOk result (λ x. MatchOption x Unit (λ y. length y.1.now + 1 ≤ length tokens.now)) }
+    ensures turns { Turns (λ x. addend_item x.0) (λ x. toks_of x.1.now) sum addend outside [] depth
+        (toks_of tokens.now) result }
+    ensures shorter { IfOk result (λ x. MatchOption x Unit
+        (λ y. length y.1.now + 1 ≤ length tokens.now)) }
 {
     let Some((sign, after)) = past_sign(tokens) else {
         return Ok(None);
@@ -239,7 +249,8 @@ fn read_product<'a, 'b>(
     depth: u32,
 ) -> Result<(Term, &'b [Token<'a>]), Stop>
     requires { depth ≤ 64 }
-    ensures gives { Gives (λ x. node (view x.0)) (λ x. toks_of x.1.now) (want product) depth (toks_of tokens.now) result }
+    ensures gives { Gives (λ x. node (view x.0)) (λ x. toks_of x.1.now) (want product) depth
+        (toks_of tokens.now) result }
     ensures shorter { IfOk result (λ x. length x.1.now ≤ length tokens.now) }
 {
     let (first, mut rest) = read_unary(alloc, tokens, depth)?;
@@ -259,8 +270,10 @@ fn read_factor<'a, 'b>(
     depth: u32,
 ) -> Result<Option<(Factor, &'b [Token<'a>])>, Stop>
     requires { depth ≤ 64 }
-    ensures turns { Turns (λ x. factor_item x.0) (λ x. toks_of x.1.now) product factor outside [] depth (toks_of tokens.now) result }
-    ensures shorter { IfOk result (λ x. MatchOption x Unit (λ y. length y.1.now + 1 ≤ length tokens.now)) }
+    ensures turns { Turns (λ x. factor_item x.0)
+        (λ x. toks_of x.1.now) product factor outside [] depth (toks_of tokens.now) result }
+    ensures shorter { IfOk result (λ x. MatchOption x Unit
+        (λ y. length y.1.now + 1 ≤ length tokens.now)) }
 {
     if let Some(after) = past(tokens, Word::Times) {
         let (term, rest) = read_unary(alloc, after, depth)?;
@@ -281,7 +294,8 @@ fn read_unary<'a, 'b>(
     depth: u32,
 ) -> Result<(Term, &'b [Token<'a>]), Stop>
     requires { depth ≤ 65 }
-    ensures gives { Gives (λ x. node (view x.0)) (λ x. toks_of x.1.now) (want unary) depth (toks_of tokens.now) result }
+    ensures gives { Gives (λ x. node (view x.0)) (λ x. toks_of x.1.now) (want unary) depth
+        (toks_of tokens.now) result }
     ensures shorter { IfOk result (λ x. length x.1.now ≤ length tokens.now) }
 {
     if depth > MAX_DEPTH {
@@ -298,7 +312,8 @@ fn read_low_unary<'a, 'b>(
     depth: u32,
 ) -> Result<(Term, &'b [Token<'a>]), Stop>
     requires { depth ≤ 64 }
-    ensures gives { GivesLow (λ x. node (view x.0)) (λ x. toks_of x.1.now) (want unary) depth (toks_of tokens.now) result }
+    ensures gives { GivesLow (λ x. node (view x.0)) (λ x. toks_of x.1.now) (want unary) depth
+        (toks_of tokens.now) result }
     ensures shorter { IfOk result (λ x. length x.1.now ≤ length tokens.now) }
 {
     if let Some(rest) = past(tokens, Word::Minus) {
@@ -316,7 +331,8 @@ fn read_postfix<'a, 'b>(
     depth: u32,
 ) -> Result<(Term, &'b [Token<'a>]), Stop>
     requires { depth ≤ 64 }
-    ensures gives { GivesLow (λ x. node (view x.0)) (λ x. toks_of x.1.now) (want postfix) depth (toks_of tokens.now) result }
+    ensures gives { GivesLow (λ x. node (view x.0)) (λ x. toks_of x.1.now) (want postfix) depth
+        (toks_of tokens.now) result }
     ensures shorter { IfOk result (λ x. length x.1.now ≤ length tokens.now) }
 {
     let (first, mut rest) = read_primary(alloc, tokens, depth)?;
@@ -336,7 +352,8 @@ fn read_primary<'a, 'b>(
     depth: u32,
 ) -> Result<(Term, &'b [Token<'a>]), Stop>
     requires { depth ≤ 64 }
-    ensures gives { GivesLow (λ x. node (view x.0)) (λ x. toks_of x.1.now) (want primary) depth (toks_of tokens.now) result }
+    ensures gives { GivesLow (λ x. node (view x.0)) (λ x. toks_of x.1.now) (want primary) depth
+        (toks_of tokens.now) result }
     ensures shorter { IfOk result (λ x. length x.1.now ≤ length tokens.now) }
 {
     let Some((first, rest)) = tokens.split_first() else {
@@ -364,7 +381,8 @@ fn read_group<'a, 'b>(
     depth: u32,
 ) -> Result<(Term, &'b [Token<'a>]), Stop>
     requires { depth ≤ 64 }
-    ensures gives { GivesLow (λ x. node (view x.0)) (λ x. toks_of x.1.now) (λ k. at primary (key w.Open ∷ []) group_parts k) depth (toks_of tokens.now) result }
+    ensures gives { GivesLow (λ x. node (view x.0)) (λ x. toks_of x.1.now)
+        (λ k. at primary (key w.Open ∷ []) group_parts k) depth (toks_of tokens.now) result }
     ensures shorter { IfOk result (λ x. length x.1.now ≤ length tokens.now) }
 {
     let (inside, rest) = read_term(alloc, tokens, depth + 1)?;
@@ -381,7 +399,9 @@ fn read_call<'a, 'b>(
     depth: u32,
 ) -> Result<(Term, &'b [Token<'a>]), Stop>
     requires { depth ≤ 64 }
-    ensures gives { GivesLow (λ x. node (view x.0)) (λ x. toks_of x.1.now) (λ k. at primary (key (word_of_call call) ∷ []) in_parentheses k) depth (toks_of tokens.now) result }
+    ensures gives { GivesLow (λ x. node (view x.0)) (λ x. toks_of x.1.now)
+        (λ k. at primary (key (word_of_call call) ∷ []) in_parentheses k) depth
+        (toks_of tokens.now) result }
     ensures shorter { IfOk result (λ x. length x.1.now ≤ length tokens.now) }
 {
     let rest = expect(tokens, Word::Open)?;
@@ -398,7 +418,8 @@ fn read_append<'a, 'b>(
     depth: u32,
 ) -> Result<(Term, &'b [Token<'a>]), Stop>
     requires { depth ≤ 64 }
-    ensures gives { GivesLow (λ x. node (view x.0)) (λ x. toks_of x.1.now) (λ k. at primary (key w.Append ∷ []) append_parts k) depth (toks_of tokens.now) result }
+    ensures gives { GivesLow (λ x. node (view x.0)) (λ x. toks_of x.1.now)
+        (λ k. at primary (key w.Append ∷ []) append_parts k) depth (toks_of tokens.now) result }
     ensures shorter { IfOk result (λ x. length x.1.now ≤ length tokens.now) }
 {
     let rest = expect(tokens, Word::Open)?;
@@ -416,7 +437,11 @@ fn read_second<'a, 'b>(
     depth: u32,
 ) -> Result<(Term, &'b [Token<'a>]), Stop>
     requires { depth ≤ 64 }
-    ensures gives { GivesLow (λ x. node (view x.0)) (λ x. toks_of x.1.now) (λ k. at primary (key w.Append ∷ (key w.Open ∷ (node (view list) ∷ (key w.Comma ∷ [])))) second_parts k) depth (toks_of tokens.now) result }
+    ensures gives { GivesLow (λ x. node (view x.0)) (λ x. toks_of x.1.now)
+        (λ k. at primary
+        (key w.Append
+        ∷ (key w.Open ∷ (node (view list) ∷ (key w.Comma ∷ [])))) second_parts k) depth
+        (toks_of tokens.now) result }
     ensures shorter { IfOk result (λ x. length x.1.now ≤ length tokens.now) }
 {
     let list = Box::new(alloc, list)?;

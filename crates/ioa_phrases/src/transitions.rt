@@ -27,7 +27,8 @@ pub(crate) fn read_variable<'a, 'b>(
     alloc: Global,
     tokens: &'b [Token<'a>],
 ) -> Result<(Variable, &'b [Token<'a>]), Stop>
-    ensures gives { GivesLow (λ x. variable_node (view_variable x.0)) (λ x. toks_of x.1.now) (want variable) 0 (toks_of tokens.now) result }
+    ensures gives { GivesLow (λ x. variable_node (view_variable x.0)) (λ x. toks_of x.1.now)
+        (want variable) 0 (toks_of tokens.now) result }
     ensures shorter { IfOk result (λ x. length x.1.now ≤ length tokens.now) }
 {
     let (name, rest) = expect_name(alloc, tokens)?;
@@ -42,7 +43,9 @@ fn read_start<'a, 'b>(
     declared: Declared,
     tokens: &'b [Token<'a>],
 ) -> Result<(Variable, &'b [Token<'a>]), Stop>
-    ensures gives { GivesLow (λ x. variable_node (view_variable x.0)) (λ x. toks_of x.1.now) (λ k. at variable (variable_head (view_declared declared)) value_parts k) 0 (toks_of tokens.now) result }
+    ensures gives { GivesLow (λ x. variable_node (view_variable x.0)) (λ x. toks_of x.1.now)
+        (λ k. at variable (variable_head (view_declared declared)) value_parts k) 0
+        (toks_of tokens.now) result }
     ensures shorter { IfOk result (λ x. length x.1.now ≤ length tokens.now) }
 {
     let rest = or_stop!(expect(tokens, Word::Assign), declared);
@@ -56,7 +59,9 @@ fn read_pre<'a, 'b>(
     alloc: Global,
     tokens: &'b [Token<'a>],
 ) -> Result<(Option<Term>, &'b [Token<'a>]), Stop>
-    ensures perhaps { Perhaps (λ x. pre_node (option_view x.0)) (λ x. toks_of x.1.now) transition pre_part outside (maybe eff_part outside ∷ []) 0 (toks_of tokens.now) result }
+    ensures perhaps { Perhaps (λ x. pre_node (option_view x.0))
+        (λ x. toks_of x.1.now) transition pre_part outside (maybe eff_part outside ∷ []) 0
+        (toks_of tokens.now) result }
     ensures shorter { IfOk result (λ x. length x.1.now ≤ length tokens.now) }
 {
     let Some(rest) = past(tokens, Word::Pre) else {
@@ -72,7 +77,8 @@ fn read_eff<'a, 'b>(
     alloc: Global,
     tokens: &'b [Token<'a>],
 ) -> Result<(Vec<Statement>, &'b [Token<'a>]), Stop>
-    ensures perhaps { Perhaps (λ x. eff_node (view_statements x.0.items)) (λ x. toks_of x.1.now) transition eff_part outside [] 0 (toks_of tokens.now) result }
+    ensures perhaps { Perhaps (λ x. eff_node (view_statements x.0.items))
+        (λ x. toks_of x.1.now) transition eff_part outside [] 0 (toks_of tokens.now) result }
     ensures shorter { IfOk result (λ x. length x.1.now ≤ length tokens.now) }
 {
     let Some(rest) = past(tokens, Word::Eff) else {
@@ -86,7 +92,8 @@ pub fn read_transition<'a, 'b>(
     alloc: Global,
     tokens: &'b [Token<'a>],
 ) -> Result<(Transition, &'b [Token<'a>]), Stop>
-    ensures gives { GivesLow (λ x. transition_node (view_transition x.0)) (λ x. toks_of x.1.now) (want transition) 0 (toks_of tokens.now) result }
+    ensures gives { GivesLow (λ x. transition_node (view_transition x.0)) (λ x. toks_of x.1.now)
+        (want transition) 0 (toks_of tokens.now) result }
     ensures shorter { IfOk result (λ x. length x.1.now + 1 ≤ length tokens.now) }
 {
     let (entry, rest) = read_entry(alloc, tokens)?;
@@ -101,7 +108,8 @@ pub(crate) fn read_task<'a, 'b>(
     alloc: Global,
     tokens: &'b [Token<'a>],
 ) -> Result<(Vec<String>, &'b [Token<'a>]), Stop>
-    ensures gives { GivesLow (λ x. task_node (map string_bytes x.0.items)) (λ x. toks_of x.1.now) (want task) 0 (toks_of tokens.now) result }
+    ensures gives { GivesLow (λ x. task_node (map string_bytes x.0.items)) (λ x. toks_of x.1.now)
+        (want task) 0 (toks_of tokens.now) result }
     ensures shorter { IfOk result (λ x. length x.1.now + 1 ≤ length tokens.now) }
 {
     let rest = expect(tokens, Word::OpenBrace)?;

@@ -16,7 +16,8 @@ use ioa_trees::tree::{Signed, TypeTree};
 use std::alloc::Global;
 
 fn read_signed<'a, 'b>(tokens: &'b [Token<'a>]) -> Result<(Signed, &'b [Token<'a>]), Stop>
-    ensures gives { GivesAny (λ x. signed_node x.0) (λ x. toks_of x.1.now) (want signed) (toks_of tokens.now) result }
+    ensures gives { GivesAny (λ x. signed_node x.0) (λ x. toks_of x.1.now) (want signed)
+        (toks_of tokens.now) result }
     ensures shorter { IfOk result (λ x. length x.1.now ≤ length tokens.now) }
 {
     let Some((first, rest)) = tokens.split_first() else {
@@ -68,7 +69,8 @@ fn deep_type(tokens: &[Token]) -> Stop
 }
 
 fn read_range<'a, 'b>(tokens: &'b [Token<'a>]) -> Result<(TypeTree, &'b [Token<'a>]), Stop>
-    ensures gives { GivesAny (λ x. type_node (view_type x.0)) (λ x. toks_of x.1.now) (λ k. want signed (In type [] range_parts outside k)) (toks_of tokens.now) result }
+    ensures gives { GivesAny (λ x. type_node (view_type x.0)) (λ x. toks_of x.1.now)
+        (λ k. want signed (In type [] range_parts outside k)) (toks_of tokens.now) result }
     ensures shorter { IfOk result (λ x. length x.1.now ≤ length tokens.now) }
 {
     let (least, rest) = read_signed(tokens)?;
@@ -86,7 +88,8 @@ pub fn read_type<'a, 'b>(
     depth: u32,
 ) -> Result<(TypeTree, &'b [Token<'a>]), Stop>
     requires { depth ≤ 65 }
-    ensures gives { Gives (λ x. type_node (view_type x.0)) (λ x. toks_of x.1.now) (want type) depth (toks_of tokens.now) result }
+    ensures gives { Gives (λ x. type_node (view_type x.0)) (λ x. toks_of x.1.now) (want type) depth
+        (toks_of tokens.now) result }
     ensures shorter { IfOk result (λ x. length x.1.now ≤ length tokens.now) }
 {
     if depth > MAX_DEPTH {
@@ -102,7 +105,8 @@ fn read_low_type<'a, 'b>(
     depth: u32,
 ) -> Result<(TypeTree, &'b [Token<'a>]), Stop>
     requires { depth ≤ 64 }
-    ensures gives { GivesLow (λ x. type_node (view_type x.0)) (λ x. toks_of x.1.now) (want type) depth (toks_of tokens.now) result }
+    ensures gives { GivesLow (λ x. type_node (view_type x.0)) (λ x. toks_of x.1.now)
+        (want type) depth (toks_of tokens.now) result }
     ensures shorter { IfOk result (λ x. length x.1.now ≤ length tokens.now) }
 {
     let Some((first, rest)) = tokens.split_first() else {
@@ -127,7 +131,8 @@ fn read_sequence<'a, 'b>(
     depth: u32,
 ) -> Result<(TypeTree, &'b [Token<'a>]), Stop>
     requires { depth ≤ 64 }
-    ensures gives { GivesLow (λ x. type_node (view_type x.0)) (λ x. toks_of x.1.now) (λ k. at type (key w.Seq ∷ []) seq_parts k) depth (toks_of tokens.now) result }
+    ensures gives { GivesLow (λ x. type_node (view_type x.0)) (λ x. toks_of x.1.now)
+        (λ k. at type (key w.Seq ∷ []) seq_parts k) depth (toks_of tokens.now) result }
     ensures shorter { IfOk result (λ x. length x.1.now ≤ length tokens.now) }
 {
     let rest = expect(tokens, Word::OpenBracket)?;
@@ -141,7 +146,10 @@ fn read_length<'a, 'b>(
     of: TypeTree,
     tokens: &'b [Token<'a>],
 ) -> Result<(TypeTree, &'b [Token<'a>]), Stop>
-    ensures gives { GivesAny (λ x. type_node (view_type x.0)) (λ x. toks_of x.1.now) (λ k. at type (key w.Seq ∷ (key w.OpenBracket ∷ (type_node (view_type of) ∷ []))) length_parts k) (toks_of tokens.now) result }
+    ensures gives { GivesAny (λ x. type_node (view_type x.0)) (λ x. toks_of x.1.now)
+        (λ k. at type
+        (key w.Seq ∷ (key w.OpenBracket ∷ (type_node (view_type of) ∷ []))) length_parts k)
+        (toks_of tokens.now) result }
     ensures shorter { IfOk result (λ x. length x.1.now ≤ length tokens.now) }
 {
     let of = Box::new(alloc, of)?;
@@ -159,7 +167,8 @@ fn read_array<'a, 'b>(
     depth: u32,
 ) -> Result<(TypeTree, &'b [Token<'a>]), Stop>
     requires { depth ≤ 64 }
-    ensures gives { GivesLow (λ x. type_node (view_type x.0)) (λ x. toks_of x.1.now) (λ k. at type (key w.Array ∷ []) array_parts k) depth (toks_of tokens.now) result }
+    ensures gives { GivesLow (λ x. type_node (view_type x.0)) (λ x. toks_of x.1.now)
+        (λ k. at type (key w.Array ∷ []) array_parts k) depth (toks_of tokens.now) result }
     ensures shorter { IfOk result (λ x. length x.1.now ≤ length tokens.now) }
 {
     let rest = expect(tokens, Word::OpenBracket)?;
@@ -177,7 +186,12 @@ fn read_element<'a, 'b>(
     depth: u32,
 ) -> Result<(TypeTree, &'b [Token<'a>]), Stop>
     requires { depth ≤ 64 }
-    ensures gives { GivesLow (λ x. type_node (view_type x.0)) (λ x. toks_of x.1.now) (λ k. at type (key w.Array ∷ (key w.OpenBracket ∷ (type_node (view_type index) ∷ (key w.Comma ∷ [])))) element_parts k) depth (toks_of tokens.now) result }
+    ensures gives { GivesLow (λ x. type_node (view_type x.0)) (λ x. toks_of x.1.now)
+        (λ k. at type
+        (key w.Array
+        ∷ (key w.OpenBracket
+        ∷ (type_node (view_type index) ∷ (key w.Comma ∷ [])))) element_parts k) depth
+        (toks_of tokens.now) result }
     ensures shorter { IfOk result (λ x. length x.1.now ≤ length tokens.now) }
 {
     let index = Box::new(alloc, index)?;

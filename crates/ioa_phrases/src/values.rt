@@ -47,7 +47,8 @@ pub(crate) fn read_init<'a, 'b>(
     depth: u32,
 ) -> Result<(Init, &'b [Token<'a>]), Stop>
     requires { depth ≤ 65 }
-    ensures gives { Gives (λ x. init_node (view_init x.0)) (λ x. toks_of x.1.now) (want init) depth (toks_of tokens.now) result }
+    ensures gives { Gives (λ x. init_node (view_init x.0)) (λ x. toks_of x.1.now) (want init) depth
+        (toks_of tokens.now) result }
     ensures shorter { IfOk result (λ x. length x.1.now ≤ length tokens.now) }
 {
     if depth > MAX_DEPTH {
@@ -64,7 +65,8 @@ fn read_low_init<'a, 'b>(
     depth: u32,
 ) -> Result<(Init, &'b [Token<'a>]), Stop>
     requires { depth ≤ 64 }
-    ensures gives { GivesLow (λ x. init_node (view_init x.0)) (λ x. toks_of x.1.now) (want init) depth (toks_of tokens.now) result }
+    ensures gives { GivesLow (λ x. init_node (view_init x.0)) (λ x. toks_of x.1.now)
+        (want init) depth (toks_of tokens.now) result }
     ensures shorter { IfOk result (λ x. length x.1.now ≤ length tokens.now) }
 {
     if let Some(rest) = past(tokens, Word::Empty) {
@@ -82,7 +84,8 @@ fn read_value<'a, 'b>(
     depth: u32,
 ) -> Result<(Init, &'b [Token<'a>]), Stop>
     requires { depth ≤ 64 }
-    ensures gives { Gives (λ x. init_node (view_init x.0)) (λ x. toks_of x.1.now) (want term) depth (toks_of tokens.now) result }
+    ensures gives { Gives (λ x. init_node (view_init x.0)) (λ x. toks_of x.1.now) (want term) depth
+        (toks_of tokens.now) result }
     ensures shorter { IfOk result (λ x. length x.1.now ≤ length tokens.now) }
 {
     let (term, rest) = read_term(alloc, tokens, depth)?;
@@ -97,7 +100,8 @@ fn read_fill<'a, 'b>(
     depth: u32,
 ) -> Result<(Init, &'b [Token<'a>]), Stop>
     requires { depth ≤ 64 }
-    ensures gives { GivesLow (λ x. init_node (view_init x.0)) (λ x. toks_of x.1.now) (λ k. at init (key w.Fill ∷ []) fill_parts k) depth (toks_of tokens.now) result }
+    ensures gives { GivesLow (λ x. init_node (view_init x.0)) (λ x. toks_of x.1.now)
+        (λ k. at init (key w.Fill ∷ []) fill_parts k) depth (toks_of tokens.now) result }
     ensures shorter { IfOk result (λ x. length x.1.now ≤ length tokens.now) }
 {
     let rest = expect(tokens, Word::Open)?;

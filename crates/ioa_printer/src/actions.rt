@@ -24,7 +24,8 @@ fn word_of_kind(kind: EntryKind) -> Word
 
 #[tactic(auto, using(std::proofs::lemmas::List::append_assoc))]
 fn put_parameter<'a>(page: &mut Page<'a>, parameter: &'a Parameter) -> Result<(), NoMemory>
-    ensures { OnOk result (page.new ≡ page.old ++ yield (parameter_node (view_parameter parameter.now))) }
+    ensures { OnOk result (page.new ≡ page.old
+        ++ yield (parameter_node (view_parameter parameter.now))) }
 {
     match parameter {
         Parameter::Constant(name) => {
@@ -37,7 +38,8 @@ fn put_parameter<'a>(page: &mut Page<'a>, parameter: &'a Parameter) -> Result<()
 
 #[tactic(auto, using(std::proofs::lemmas::List::append_assoc))]
 fn put_more_parameters<'a>(page: &mut Page<'a>, others: &'a [Parameter]) -> Result<(), NoMemory>
-    ensures { OnOk result (page.new ≡ page.old ++ yields (parts parameter_part w.Comma parameter_node (map view_parameter others.now))) }
+    ensures { OnOk result (page.new ≡ page.old
+        ++ yields (parts parameter_part w.Comma parameter_node (map view_parameter others.now))) }
 {
     for other in others {
         page.put_word(Word::Comma)?;
@@ -48,7 +50,8 @@ fn put_more_parameters<'a>(page: &mut Page<'a>, others: &'a [Parameter]) -> Resu
 
 #[tactic(auto, using(std::proofs::lemmas::List::append_assoc, crate::proofs::Yields::yields_pack, crate::proofs::Yields::yields_append))]
 fn put_parameters<'a>(page: &mut Page<'a>, parameters: &'a [Parameter]) -> Result<(), NoMemory>
-    ensures { OnOk result (page.new ≡ page.old ++ yields (parameters_node (map view_parameter parameters.now))) }
+    ensures { OnOk result (page.new ≡ page.old
+        ++ yields (parameters_node (map view_parameter parameters.now))) }
 {
     let Some((first, others)) = parameters.split_first() else {
         return Ok(());
@@ -71,7 +74,8 @@ fn put_entry<'a>(page: &mut Page<'a>, entry: &'a Entry) -> Result<(), NoMemory>
 /// The entries of a signature.
 #[tactic(auto, using(std::proofs::lemmas::List::append_assoc))]
 pub(crate) fn put_entries<'a>(page: &mut Page<'a>, entries: &'a [Entry]) -> Result<(), NoMemory>
-    ensures { OnOk result (page.new ≡ page.old ++ yields (map entry_node (map view_entry entries.now))) }
+    ensures { OnOk result (page.new ≡ page.old
+        ++ yields (map entry_node (map view_entry entries.now))) }
 {
     for entry in entries {
         put_entry(page, entry)?;
@@ -105,7 +109,8 @@ fn put_eff<'a>(page: &mut Page<'a>, eff: &'a [Statement]) -> Result<(), NoMemory
 
 #[tactic(auto, using(std::proofs::lemmas::List::append_assoc, crate::proofs::Yields::yields_pack, crate::proofs::Yields::yields_append))]
 fn put_transition<'a>(page: &mut Page<'a>, transition: &'a Transition) -> Result<(), NoMemory>
-    ensures { OnOk result (page.new ≡ page.old ++ yield (transition_node (view_transition transition.now))) }
+    ensures { OnOk result (page.new ≡ page.old
+        ++ yield (transition_node (view_transition transition.now))) }
 {
     put_entry(page, &transition.entry)?;
     put_pre(page, &transition.pre)?;
@@ -118,7 +123,8 @@ pub(crate) fn put_transitions<'a>(
     page: &mut Page<'a>,
     transitions: &'a [Transition],
 ) -> Result<(), NoMemory>
-    ensures { OnOk result (page.new ≡ page.old ++ yields (map transition_node (map view_transition transitions.now))) }
+    ensures { OnOk result (page.new ≡ page.old
+        ++ yields (map transition_node (map view_transition transitions.now))) }
 {
     for transition in transitions {
         put_transition(page, transition)?;

@@ -15,7 +15,8 @@ use terms::NoMemory;
 
 #[tactic(auto, using(std::proofs::lemmas::List::append_assoc))]
 fn put_more_formals<'a>(page: &mut Page<'a>, others: &'a [Declared]) -> Result<(), NoMemory>
-    ensures { OnOk result (page.new ≡ page.old ++ yields (parts formal_part w.Comma formal_node (map view_declared others.now))) }
+    ensures { OnOk result (page.new ≡ page.old
+        ++ yields (parts formal_part w.Comma formal_node (map view_declared others.now))) }
 {
     for other in others {
         page.put_word(Word::Comma)?;
@@ -26,7 +27,8 @@ fn put_more_formals<'a>(page: &mut Page<'a>, others: &'a [Declared]) -> Result<(
 
 #[tactic(auto, using(std::proofs::lemmas::List::append_assoc, crate::proofs::Yields::yields_pack, crate::proofs::Yields::yields_append))]
 fn put_formals<'a>(page: &mut Page<'a>, formals: &'a [Declared]) -> Result<(), NoMemory>
-    ensures { OnOk result (page.new ≡ page.old ++ yields (formals_nodes (map view_declared formals.now))) }
+    ensures { OnOk result (page.new ≡ page.old
+        ++ yields (formals_nodes (map view_declared formals.now))) }
 {
     let Some((first, others)) = formals.split_first() else {
         return Ok(());
@@ -39,7 +41,8 @@ fn put_formals<'a>(page: &mut Page<'a>, formals: &'a [Declared]) -> Result<(), N
 
 #[tactic(auto, using(std::proofs::lemmas::List::append_assoc))]
 fn put_variable<'a>(page: &mut Page<'a>, variable: &'a Variable) -> Result<(), NoMemory>
-    ensures { OnOk result (page.new ≡ page.old ++ yield (variable_node (view_variable variable.now))) }
+    ensures { OnOk result (page.new ≡ page.old
+        ++ yield (variable_node (view_variable variable.now))) }
 {
     put_declared(page, &variable.declared)?;
     page.put_word(Word::Assign)?;
@@ -48,7 +51,8 @@ fn put_variable<'a>(page: &mut Page<'a>, variable: &'a Variable) -> Result<(), N
 
 #[tactic(auto, using(std::proofs::lemmas::List::append_assoc))]
 fn put_more_variables<'a>(page: &mut Page<'a>, others: &'a [Variable]) -> Result<(), NoMemory>
-    ensures { OnOk result (page.new ≡ page.old ++ yields (parts variable_part w.Comma variable_node (map view_variable others.now))) }
+    ensures { OnOk result (page.new ≡ page.old
+        ++ yields (parts variable_part w.Comma variable_node (map view_variable others.now))) }
 {
     for other in others {
         page.put_word(Word::Comma)?;
@@ -58,7 +62,8 @@ fn put_more_variables<'a>(page: &mut Page<'a>, others: &'a [Variable]) -> Result
 }
 
 fn put_states<'a>(page: &mut Page<'a>, variables: &'a [Variable]) -> Result<(), NoMemory>
-    ensures { OnOk result (page.new ≡ page.old ++ yields (states_node (map view_variable variables.now))) }
+    ensures { OnOk result (page.new ≡ page.old
+        ++ yields (states_node (map view_variable variables.now))) }
 {
     let Some((first, others)) = variables.split_first() else {
         return Ok(());
@@ -84,7 +89,8 @@ fn put_task<'a>(page: &mut Page<'a>, task: &'a [String]) -> Result<(), NoMemory>
 
 #[tactic(auto, using(std::proofs::lemmas::List::append_assoc))]
 fn put_each_task<'a>(page: &mut Page<'a>, tasks: &'a [Vec<String>]) -> Result<(), NoMemory>
-    ensures { OnOk result (page.new ≡ page.old ++ yields (map task_node (map (λ t. map string_bytes t.items) tasks.now))) }
+    ensures { OnOk result (page.new ≡ page.old
+        ++ yields (map task_node (map (λ t. map string_bytes t.items) tasks.now))) }
 {
     for task in tasks {
         put_task(page, task.as_slice())?;
@@ -94,7 +100,8 @@ fn put_each_task<'a>(page: &mut Page<'a>, tasks: &'a [Vec<String>]) -> Result<()
 
 #[tactic(auto, using(std::proofs::lemmas::List::append_assoc, crate::proofs::Printed::tasks_laid))]
 fn put_tasks<'a>(page: &mut Page<'a>, tasks: &'a [Vec<String>]) -> Result<(), NoMemory>
-    ensures { OnOk result (page.new ≡ page.old ++ yields (tasks_node (map (λ t. map string_bytes t.items) tasks.now))) }
+    ensures { OnOk result (page.new ≡ page.old
+        ++ yields (tasks_node (map (λ t. map string_bytes t.items) tasks.now))) }
 {
     let Some(_) = tasks.split_first() else {
         return Ok(());
@@ -107,7 +114,8 @@ fn put_tasks<'a>(page: &mut Page<'a>, tasks: &'a [Vec<String>]) -> Result<(), No
 // The formals, the signature and the state.
 #[tactic(auto, using(std::proofs::lemmas::List::append_assoc, crate::proofs::Yields::yields_append))]
 fn put_head<'a>(page: &mut Page<'a>, automaton: &'a Automaton) -> Result<(), NoMemory>
-    ensures { OnOk result (page.new ≡ page.old ++ yields (head_nodes (view_automaton automaton.now))) }
+    ensures { OnOk result (page.new ≡ page.old
+        ++ yields (head_nodes (view_automaton automaton.now))) }
 {
     put_formals(page, automaton.formals.as_slice())?;
     page.put_word(Word::Signature)?;
@@ -118,7 +126,8 @@ fn put_head<'a>(page: &mut Page<'a>, automaton: &'a Automaton) -> Result<(), NoM
 // The transitions and the tasks.
 #[tactic(auto, using(std::proofs::lemmas::List::append_assoc, crate::proofs::Yields::yields_append))]
 fn put_behaviour<'a>(page: &mut Page<'a>, automaton: &'a Automaton) -> Result<(), NoMemory>
-    ensures { OnOk result (page.new ≡ page.old ++ yields (behaviour_nodes (view_automaton automaton.now))) }
+    ensures { OnOk result (page.new ≡ page.old
+        ++ yields (behaviour_nodes (view_automaton automaton.now))) }
 {
     page.put_word(Word::Transitions)?;
     put_transitions(page, automaton.transitions.as_slice())?;
@@ -127,7 +136,8 @@ fn put_behaviour<'a>(page: &mut Page<'a>, automaton: &'a Automaton) -> Result<()
 
 /// What follows the name of an automaton.
 pub(crate) fn put_basic<'a>(page: &mut Page<'a>, automaton: &'a Automaton) -> Result<(), NoMemory>
-    ensures { OnOk result (page.new ≡ page.old ++ yield (basic_node (view_automaton automaton.now))) }
+    ensures { OnOk result (page.new ≡ page.old
+        ++ yield (basic_node (view_automaton automaton.now))) }
 {
     put_head(page, automaton)?;
     put_behaviour(page, automaton)?;

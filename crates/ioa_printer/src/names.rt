@@ -13,7 +13,8 @@ use terms::NoMemory;
 /// Names, each behind a `,`.
 #[tactic(auto, using(std::proofs::lemmas::List::append_assoc))]
 pub(crate) fn put_more_names<'a>(page: &mut Page<'a>, others: &'a [String]) -> Result<(), NoMemory>
-    ensures { OnOk result (page.new ≡ page.old ++ yields (parts name_part w.Comma named (map string_bytes others.now))) }
+    ensures { OnOk result (page.new ≡ page.old
+        ++ yields (parts name_part w.Comma named (map string_bytes others.now))) }
 {
     for other in others {
         page.put_word(Word::Comma)?;
@@ -25,7 +26,8 @@ pub(crate) fn put_more_names<'a>(page: &mut Page<'a>, others: &'a [String]) -> R
 /// A name, a `:` and its type.
 #[tactic(auto, using(std::proofs::lemmas::List::append_assoc))]
 pub(crate) fn put_declared<'a>(page: &mut Page<'a>, declared: &'a Declared) -> Result<(), NoMemory>
-    ensures { OnOk result (page.new ≡ page.old ++ yield (formal_node (view_declared declared.now))) }
+    ensures { OnOk result (page.new ≡ page.old
+        ++ yield (formal_node (view_declared declared.now))) }
 {
     page.put_name(declared.name.as_str())?;
     page.put_word(Word::Colon)?;

@@ -19,7 +19,8 @@ use terms::NoMemory;
 
 #[tactic(auto, using(std::proofs::lemmas::List::append_assoc, crate::proofs::Yields::yields_pack))]
 fn put_enumeration<'a>(page: &mut Page<'a>, names: &'a [String]) -> Result<(), NoMemory>
-    ensures { OnOk result (page.new ≡ page.old ++ yield (type_body_node (Enumeration (map string_bytes names.now)))) }
+    ensures { OnOk result (page.new ≡ page.old
+        ++ yield (type_body_node (Enumeration (map string_bytes names.now)))) }
 {
     page.put_word(Word::Enumeration)?;
     let Some((first, others)) = names.split_first() else {
@@ -32,7 +33,8 @@ fn put_enumeration<'a>(page: &mut Page<'a>, names: &'a [String]) -> Result<(), N
 
 #[tactic(auto, using(std::proofs::lemmas::List::append_assoc))]
 fn put_type_body<'a>(page: &mut Page<'a>, body: &'a TypeBody) -> Result<(), NoMemory>
-    ensures { OnOk result (page.new ≡ page.old ++ yield (type_body_node (view_type_body body.now))) }
+    ensures { OnOk result (page.new ≡ page.old
+        ++ yield (type_body_node (view_type_body body.now))) }
 {
     match body {
         TypeBody::Same(of) => put_type(page, of),
@@ -45,7 +47,8 @@ fn put_type_definition<'a>(
     page: &mut Page<'a>,
     definition: &'a TypeDefinition,
 ) -> Result<(), NoMemory>
-    ensures { OnOk result (page.new ≡ page.old ++ yield (type_definition_node (view_type_definition definition.now))) }
+    ensures { OnOk result (page.new ≡ page.old
+        ++ yield (type_definition_node (view_type_definition definition.now))) }
 {
     page.put_word(Word::Type)?;
     page.put_name(definition.name.as_str())?;
@@ -58,7 +61,8 @@ fn put_type_definitions<'a>(
     page: &mut Page<'a>,
     definitions: &'a [TypeDefinition],
 ) -> Result<(), NoMemory>
-    ensures { OnOk result (page.new ≡ page.old ++ yields (map type_definition_node (map view_type_definition definitions.now))) }
+    ensures { OnOk result (page.new ≡ page.old
+        ++ yields (map type_definition_node (map view_type_definition definitions.now))) }
 {
     for definition in definitions {
         put_type_definition(page, definition)?;
@@ -92,7 +96,8 @@ fn put_automata<'a>(
     automata: &'a [Automaton],
     composed: &'a str,
 ) -> Result<(), NoMemory>
-    ensures { OnOk result (page.new ≡ page.old ++ yields (automata_nodes (map view_automaton automata.now) composed.now)) }
+    ensures { OnOk result (page.new ≡ page.old
+        ++ yields (automata_nodes (map view_automaton automata.now) composed.now)) }
 {
     let Some(_) = automata.split_first() else {
         return Ok(());
@@ -104,7 +109,8 @@ fn put_automata<'a>(
 
 #[tactic(auto, using(std::proofs::lemmas::List::append_assoc))]
 fn put_more_arguments<'a>(page: &mut Page<'a>, others: &'a [Term]) -> Result<(), NoMemory>
-    ensures { OnOk result (page.new ≡ page.old ++ yields (parts argument_part w.Comma node (map view others.now))) }
+    ensures { OnOk result (page.new ≡ page.old
+        ++ yields (parts argument_part w.Comma node (map view others.now))) }
 {
     for other in others {
         page.put_word(Word::Comma)?;
@@ -115,7 +121,8 @@ fn put_more_arguments<'a>(page: &mut Page<'a>, others: &'a [Term]) -> Result<(),
 
 #[tactic(auto, using(std::proofs::lemmas::List::append_assoc, crate::proofs::Yields::yields_pack, crate::proofs::Yields::yields_append))]
 fn put_arguments<'a>(page: &mut Page<'a>, arguments: &'a [Term]) -> Result<(), NoMemory>
-    ensures { OnOk result (page.new ≡ page.old ++ yields (arguments_node (map view arguments.now))) }
+    ensures { OnOk result (page.new ≡ page.old
+        ++ yields (arguments_node (map view arguments.now))) }
 {
     let Some((first, others)) = arguments.split_first() else {
         return Ok(());
@@ -128,7 +135,8 @@ fn put_arguments<'a>(page: &mut Page<'a>, arguments: &'a [Term]) -> Result<(), N
 
 #[tactic(auto, using(std::proofs::lemmas::List::append_assoc, crate::proofs::Yields::yields_pack))]
 fn put_component<'a>(page: &mut Page<'a>, component: &'a ComponentTree) -> Result<(), NoMemory>
-    ensures { OnOk result (page.new ≡ page.old ++ yield (component_node (view_component component.now))) }
+    ensures { OnOk result (page.new ≡ page.old
+        ++ yield (component_node (view_component component.now))) }
 {
     page.put_name(component.name.as_str())?;
     page.put_word(Word::Colon)?;
@@ -138,7 +146,9 @@ fn put_component<'a>(page: &mut Page<'a>, component: &'a ComponentTree) -> Resul
 
 #[tactic(auto, using(std::proofs::lemmas::List::append_assoc))]
 fn put_more_components<'a>(page: &mut Page<'a>, others: &'a [ComponentTree]) -> Result<(), NoMemory>
-    ensures { OnOk result (page.new ≡ page.old ++ yields (parts component_part w.Semicolon component_node (map view_component others.now))) }
+    ensures { OnOk result (page.new ≡ page.old
+        ++ yields (parts component_part w.Semicolon component_node
+        (map view_component others.now))) }
 {
     for other in others {
         page.put_word(Word::Semicolon)?;
@@ -149,7 +159,8 @@ fn put_more_components<'a>(page: &mut Page<'a>, others: &'a [ComponentTree]) -> 
 
 #[tactic(auto, using(std::proofs::lemmas::List::append_assoc))]
 fn put_components<'a>(page: &mut Page<'a>, components: &'a [ComponentTree]) -> Result<(), NoMemory>
-    ensures { OnOk result (page.new ≡ page.old ++ yields (components_nodes (map view_component components.now))) }
+    ensures { OnOk result (page.new ≡ page.old
+        ++ yields (components_nodes (map view_component components.now))) }
 {
     let Some((first, others)) = components.split_first() else {
         return Ok(());
@@ -160,7 +171,8 @@ fn put_components<'a>(page: &mut Page<'a>, components: &'a [ComponentTree]) -> R
 
 // The hidden outputs, where there are some.
 fn put_hidden<'a>(page: &mut Page<'a>, names: &'a [String]) -> Result<(), NoMemory>
-    ensures { OnOk result (page.new ≡ page.old ++ yields (hidden_node (map string_bytes names.now))) }
+    ensures { OnOk result (page.new ≡ page.old
+        ++ yields (hidden_node (map string_bytes names.now))) }
 {
     let Some((first, others)) = names.split_first() else {
         return Ok(());
@@ -174,7 +186,8 @@ fn put_hidden<'a>(page: &mut Page<'a>, names: &'a [String]) -> Result<(), NoMemo
 // The components of the composed automaton, and its hidden outputs.
 #[tactic(auto, using(std::proofs::lemmas::List::append_assoc, crate::proofs::Yields::yields_append))]
 fn put_composed<'a>(page: &mut Page<'a>, composed: &'a Composed) -> Result<(), NoMemory>
-    ensures { OnOk result (page.new ≡ page.old ++ yields (composed_nodes (view_composed composed.now))) }
+    ensures { OnOk result (page.new ≡ page.old
+        ++ yields (composed_nodes (view_composed composed.now))) }
 {
     page.put_word(Word::Components)?;
     put_components(page, composed.components.as_slice())?;

@@ -33,7 +33,8 @@ fn put_assignment<'a>(
     index: &'a Option<Term>,
     value: &'a Init,
 ) -> Result<(), NoMemory>
-    ensures { OnOk result (page.new ≡ page.old ++ yield (statement_node (Assign name.now (option_view index.now) (view_init value.now)))) }
+    ensures { OnOk result (page.new ≡ page.old
+        ++ yield (statement_node (Assign name.now (option_view index.now) (view_init value.now)))) }
 {
     page.put_name(name)?;
     put_index(page, index)?;
@@ -55,7 +56,8 @@ fn put_loop<'a>(page: &mut Page<'a>, declared: &'a Declared) -> Result<(), NoMem
 
 #[cycle(printing_statements)]
 fn put_statement<'a>(page: &mut Page<'a>, statement: &'a Statement) -> Result<(), NoMemory>
-    ensures { OnOk result (page.new ≡ page.old ++ yield (statement_node (view_statement statement.now))) }
+    ensures { OnOk result (page.new ≡ page.old
+        ++ yield (statement_node (view_statement statement.now))) }
 {
     match statement {
         Statement::Assign(name, index, value) => {
@@ -86,7 +88,8 @@ pub(crate) fn put_statements<'a>(
     page: &mut Page<'a>,
     statements: &'a [Statement],
 ) -> Result<(), NoMemory>
-    ensures { OnOk result (page.new ≡ page.old ++ yield (statements_node (view_statements statements.now))) }
+    ensures { OnOk result (page.new ≡ page.old
+        ++ yield (statements_node (view_statements statements.now))) }
 {
     let mut is_first = true;
     for statement in statements {
@@ -103,7 +106,9 @@ pub(crate) fn put_statements<'a>(
 #[cycle(printing_statements)]
 #[tactic(auto, using(std::proofs::lemmas::List::append_assoc))]
 fn put_branches<'a>(page: &mut Page<'a>, branches: &'a [Branch]) -> Result<(), NoMemory>
-    ensures { OnOk result ((ns : Nodes) → page.new ++ yield_nodes ns ≡ page.old ++ yield_nodes (if_nodes (pack_branches (map view_branch branches.now)) ns)) }
+    ensures { OnOk result ((ns : Nodes)
+        → page.new ++ yield_nodes ns ≡ page.old
+        ++ yield_nodes (if_nodes (pack_branches (map view_branch branches.now)) ns)) }
 {
     let mut is_first = true;
     for branch in branches {

@@ -109,7 +109,8 @@ pub(crate) fn put_term<'a>(page: &mut Page<'a>, term: &'a Term) -> Result<(), No
 #[cycle(printing_terms)]
 #[tactic(auto, using(std::proofs::lemmas::List::append_assoc))]
 fn put_indexes<'a>(page: &mut Page<'a>, indexes: &'a [Term]) -> Result<(), NoMemory>
-    ensures { OnOk result (page.new ≡ page.old ++ yield_nodes (index_nodes (pack_terms (map view indexes.now)))) }
+    ensures { OnOk result (page.new ≡ page.old
+        ++ yield_nodes (index_nodes (pack_terms (map view indexes.now)))) }
 {
     for index in indexes {
         page.put_word(Word::OpenBracket)?;
@@ -122,7 +123,8 @@ fn put_indexes<'a>(page: &mut Page<'a>, indexes: &'a [Term]) -> Result<(), NoMem
 #[cycle(printing_terms)]
 #[tactic(auto, using(std::proofs::lemmas::List::append_assoc))]
 fn put_ands<'a>(page: &mut Page<'a>, others: &'a [Term]) -> Result<(), NoMemory>
-    ensures { OnOk result (page.new ≡ page.old ++ yield_nodes (and_nodes (pack_terms (map view others.now)))) }
+    ensures { OnOk result (page.new ≡ page.old
+        ++ yield_nodes (and_nodes (pack_terms (map view others.now)))) }
 {
     for other in others {
         page.put_word(Word::And)?;
@@ -134,7 +136,8 @@ fn put_ands<'a>(page: &mut Page<'a>, others: &'a [Term]) -> Result<(), NoMemory>
 #[cycle(printing_terms)]
 #[tactic(auto, using(std::proofs::lemmas::List::append_assoc))]
 fn put_ors<'a>(page: &mut Page<'a>, others: &'a [Term]) -> Result<(), NoMemory>
-    ensures { OnOk result (page.new ≡ page.old ++ yield_nodes (or_nodes (pack_terms (map view others.now)))) }
+    ensures { OnOk result (page.new ≡ page.old
+        ++ yield_nodes (or_nodes (pack_terms (map view others.now)))) }
 {
     for other in others {
         page.put_word(Word::Or)?;
@@ -146,7 +149,8 @@ fn put_ors<'a>(page: &mut Page<'a>, others: &'a [Term]) -> Result<(), NoMemory>
 #[cycle(printing_terms)]
 #[tactic(auto, using(std::proofs::lemmas::List::append_assoc))]
 fn put_factors<'a>(page: &mut Page<'a>, factors: &'a [Factor]) -> Result<(), NoMemory>
-    ensures { OnOk result (page.new ≡ page.old ++ yield_nodes (factor_nodes (pack_factors (map view_factor factors.now)))) }
+    ensures { OnOk result (page.new ≡ page.old
+        ++ yield_nodes (factor_nodes (pack_factors (map view_factor factors.now)))) }
 {
     for factor in factors {
         put_factor(page, factor)?;
@@ -174,7 +178,8 @@ fn put_factor<'a>(page: &mut Page<'a>, factor: &'a Factor) -> Result<(), NoMemor
 #[cycle(printing_terms)]
 #[tactic(auto, using(std::proofs::lemmas::List::append_assoc))]
 fn put_addends<'a>(page: &mut Page<'a>, addends: &'a [Addend]) -> Result<(), NoMemory>
-    ensures { OnOk result (page.new ≡ page.old ++ yield_nodes (addend_nodes (pack_addends (map view_addend addends.now)))) }
+    ensures { OnOk result (page.new ≡ page.old
+        ++ yield_nodes (addend_nodes (pack_addends (map view_addend addends.now)))) }
 {
     for addend in addends {
         page.put_word(word_of_sign(addend.sign))?;

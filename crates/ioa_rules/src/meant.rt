@@ -14,36 +14,48 @@ ghost use Rattle.ioa_rules.specs.Meant.{AllMeant, AllSome, IsWholeAutomaton, IsW
 
 /// A type without faults has a kind.
 pub fn types_meant_law()
-    ensures meant { (s : Scope) → AllMeant s → (at : ℕ) (t : PlainType) → type_faults s at t ≡ [] → IsSome (kind_of s t) }
+    ensures meant { (s : Scope) → AllMeant s → (at : ℕ) (t : PlainType) → type_faults s at t ≡ []
+        → IsSome (kind_of s t) }
 {}
 
 /// A term without faults has a meaning, and one with a meaning has no fault.
 pub fn terms_meant_law()
-    ensures meant { (s : Scope) → AllMeant s → (at : ℕ) (t : PlainTerm) → faults s at t ≡ [] → IsSome (judge s t) }
-    ensures faultless { (s : Scope) (at : ℕ) (t : PlainTerm) → IsSome (judge s t) → faults s at t ≡ [] }
+    ensures meant { (s : Scope) → AllMeant s → (at : ℕ) (t : PlainTerm) → faults s at t ≡ []
+        → IsSome (judge s t) }
+    ensures faultless { (s : Scope) (at : ℕ) (t : PlainTerm) → IsSome (judge s t)
+        → faults s at t ≡ [] }
 {}
 
 /// A value without faults that fits its place has a meaning there.
 pub fn values_meant_law()
-    ensures meant { (s : Scope) → AllMeant s → (k : Kind) (at place : ℕ) (v : PlainInit) → inner_faults s at v ≡ [] → misfits s (Some k) place v ≡ [] → IsSome (put s k v) }
+    ensures meant { (s : Scope) → AllMeant s → (k : Kind) (at place : ℕ) (v : PlainInit)
+        → inner_faults s at v ≡ [] → misfits s (Some k) place v ≡ [] → IsSome (put s k v) }
 {}
 
 /// Statements without faults have an effect; a scope stays meant in a loop whose type has a kind.
 pub fn effects_meant_law()
-    ensures scope { (s : Scope) (n : ℕ) (d : PlainDeclared) → AllMeant s → IsSome (kind_of s d.of) → AllMeant (in_loop s n d) }
-    ensures meant { (s : Scope) → AllMeant s → (n at : ℕ) (ss : PlainStatements) → statements_faults s n at ss ≡ [] → IsSome (effects_of s n ss) }
+    ensures scope { (s : Scope) (n : ℕ) (d : PlainDeclared) → AllMeant s → IsSome (kind_of s d.of)
+        → AllMeant (in_loop s n d) }
+    ensures meant { (s : Scope) → AllMeant s → (n at : ℕ) (ss : PlainStatements)
+        → statements_faults s n at ss ≡ [] → IsSome (effects_of s n ss) }
 {}
 
 /// Parameters without faults have slots, and the scope stays meant with them; a transition without faults has a precondition and an effect.
 pub fn entries_meant_law()
-    ensures slots { (s : Scope) → AllMeant s → (c : Bool) (n at : ℕ) (ps : List PlainParameter) → parameters_faults s c n at ps ≡ [] → AllSome (slots s n ps) }
-    ensures scope { (s : Scope) → AllMeant s → (c : Bool) (n at : ℕ) (ps : List PlainParameter) → parameters_faults s c n at ps ≡ [] → AllMeant (with_parameters s n ps) }
-    ensures transition { (s : Scope) → AllMeant s → (entries : List PlainEntry) (before : List PlainTransition) (at : ℕ) (t : PlainTransition) → transition_faults s entries before at t ≡ [] → IsSome (pre_of s t.pre) × IsSome (effects_of s 0 t.eff) }
+    ensures slots { (s : Scope) → AllMeant s → (c : Bool) (n at : ℕ) (ps : List PlainParameter)
+        → parameters_faults s c n at ps ≡ [] → AllSome (slots s n ps) }
+    ensures scope { (s : Scope) → AllMeant s → (c : Bool) (n at : ℕ) (ps : List PlainParameter)
+        → parameters_faults s c n at ps ≡ [] → AllMeant (with_parameters s n ps) }
+    ensures transition { (s : Scope) → AllMeant s
+        → (entries : List PlainEntry) (before : List PlainTransition) (at : ℕ) (t : PlainTransition)
+        → transition_faults s entries before at t ≡ [] → IsSome (pre_of s t.pre)
+        × IsSome (effects_of s 0 t.eff) }
 {}
 
 /// Of the meaning of an automaton without faults no part is missing.
 pub fn automata_meant_law()
-    ensures meant { (s : Scope) → AllMeant s → (at : ℕ) (a : PlainAutomaton) → body_faults s at a ≡ [] → IsWholeAutomaton (meaning_of s a) }
+    ensures meant { (s : Scope) → AllMeant s → (at : ℕ) (a : PlainAutomaton)
+        → body_faults s at a ≡ [] → IsWholeAutomaton (meaning_of s a) }
 {}
 
 /// Of the meaning of a source without faults no part is missing, but for the automata of components that aren't known.

@@ -95,7 +95,8 @@ fn put_token(text: &mut Vec<u8>, token: Kind<'_>) -> Result<(), NoMemory>
 
 // Writes what stands between two tokens, and the second one.
 fn put_next(text: &mut Vec<u8>, token: Kind<'_>, next: Kind<'_>) -> Result<(), NoMemory>
-    ensures { OnOk result (text.new.items ≡ text.old.items ++ (between (tok_of token.entry) (tok_of next.entry) ++ text_of (tok_of next.entry))) }
+    ensures { OnOk result (text.new.items ≡ text.old.items
+        ++ (between (tok_of token.entry) (tok_of next.entry) ++ text_of (tok_of next.entry))) }
 {
     put(text, between(token, next))?;
     put_token(text, next)
@@ -103,7 +104,8 @@ fn put_next(text: &mut Vec<u8>, token: Kind<'_>, next: Kind<'_>) -> Result<(), N
 
 // Writes the tokens that follow one that is written.
 fn put_others(text: &mut Vec<u8>, first: Kind<'_>, others: &[Kind<'_>]) -> Result<(), NoMemory>
-    ensures { OnOk result (text.new.items ++ 10 ∷ [] ≡ text.old.items ++ following (tok_of first.entry) (map tok_of others.now)) }
+    ensures { OnOk result (text.new.items ++ 10 ∷ [] ≡ text.old.items
+        ++ following (tok_of first.entry) (map tok_of others.now)) }
 {
     let mut last = first;
     for next in others {

@@ -27,7 +27,8 @@ fn keep_found<'a>(
     found: Found<'a>,
     at: usize,
 ) -> Result<(), TokensError>
-    ensures ok { OnOk result (placed tokens.new.items ≡ placed tokens.old.items ++ keep (piece_of found.entry) at []) }
+    ensures ok { OnOk result (placed tokens.new.items ≡ placed tokens.old.items
+        ++ keep (piece_of found.entry) at []) }
     ensures err { IfErr result (λ e. e ≡ NoMemory) }
 {
     if let Found::Token(kind) = found {

@@ -34,7 +34,8 @@ impl Names {
     /// What this name means.
     #[tactic(auto, using(crate::proofs::Scopes::scopes))]
     pub fn get(&self, name: &str) -> Option<&Meaning>
-        ensures { option_map (λ m. meaning_tree m.now) result ≡ named name.now (names_tree self.now) }
+        ensures { option_map (λ m. meaning_tree m.now) result
+            ≡ named name.now (names_tree self.now) }
     {
         self.table.get(name)
     }
@@ -42,8 +43,10 @@ impl Names {
     /// Declares a name, unless it has a meaning; says whether it had none. A refusal changes nothing.
     #[tactic(auto, using(crate::proofs::Scopes::scopes))]
     pub fn declare(&mut self, name: &String, meaning: Meaning) -> Result<bool, AllocError>
-        ensures names { OnOk result (names_tree self.new ≡ declare (string_bytes name.now) (meaning_tree meaning) (names_tree self.old)) }
-        ensures fresh { IfOk result (λ b. b ≡ not (is_some (named (string_bytes name.now) (names_tree self.old)))) }
+        ensures names { OnOk result (names_tree self.new
+            ≡ declare (string_bytes name.now) (meaning_tree meaning) (names_tree self.old)) }
+        ensures fresh { IfOk result (λ b. b
+            ≡ not (is_some (named (string_bytes name.now) (names_tree self.old)))) }
         ensures err { OnErr result (names_tree self.new ≡ names_tree self.old) }
     {
         if self.get(name.as_str()).is_some() {

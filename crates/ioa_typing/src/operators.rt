@@ -87,7 +87,8 @@ pub(crate) fn check_name<'a>(
     progress: &mut Progress,
 ) -> Option<Typed<'a>>
     ensures at { progress.new.at ≡ progress.old.at }
-    ensures faults { AreNoted progress.old progress.new (where_wrong (not (is_value (named name.now (names_tree names.now)))) place 10) }
+    ensures faults { AreNoted progress.old progress.new
+        (where_wrong (not (is_value (named name.now (names_tree names.now)))) place 10) }
     ensures meant { judged_tree result ≡ rule.value_meant (named name.now (names_tree names.now)) }
 {
     progress.note_if(!is_value_named(names, name), place, FaultKind::UnknownName);
@@ -155,8 +156,11 @@ pub(crate) fn end_minus<'a>(
     progress: &mut Progress,
 ) -> Result<Option<Typed<'a>>, AllocError>
     ensures at { OnOk result (progress.new.at ≡ progress.old.at) }
-    ensures faults { OnOk result (AreNoted progress.old progress.new (rule.wants kinds.is_whole place (judged_tree of.entry))) }
-    ensures meant { IfOk result (λ j. judged_tree j ≡ rule.of_core kinds.Whole (rule.on_core core.Negative (rule.whole_of (judged_tree of.entry)))) }
+    ensures faults { OnOk result (AreNoted progress.old progress.new
+        (rule.wants kinds.is_whole place (judged_tree of.entry))) }
+    ensures meant { IfOk result (λ j. judged_tree j
+        ≡ rule.of_core kinds.Whole
+        (rule.on_core core.Negative (rule.whole_of (judged_tree of.entry)))) }
 {
     note_unless_whole(progress, place, &of);
     let core = negative_of(alloc, whole_of(of))?;
@@ -171,8 +175,10 @@ pub(crate) fn end_not<'a>(
     progress: &mut Progress,
 ) -> Result<Option<Typed<'a>>, AllocError>
     ensures at { OnOk result (progress.new.at ≡ progress.old.at) }
-    ensures faults { OnOk result (AreNoted progress.old progress.new (rule.wants kinds.is_truth place (judged_tree of.entry))) }
-    ensures meant { IfOk result (λ j. judged_tree j ≡ rule.of_core kinds.Truth (rule.on_core core.Not (rule.truth_of (judged_tree of.entry)))) }
+    ensures faults { OnOk result (AreNoted progress.old progress.new
+        (rule.wants kinds.is_truth place (judged_tree of.entry))) }
+    ensures meant { IfOk result (λ j. judged_tree j
+        ≡ rule.of_core kinds.Truth (rule.on_core core.Not (rule.truth_of (judged_tree of.entry)))) }
 {
     note_unless_truth(progress, place, &of);
     let core = not_of(alloc, truth_of(of))?;
@@ -193,7 +199,8 @@ fn joined(
     left: Option<Term>,
     right: Option<Term>,
 ) -> Result<Option<Term>, AllocError>
-    ensures { IfOk result (λ c. core_tree c ≡ rule.joined operator (core_tree left) (core_tree right)) }
+    ensures { IfOk result (λ c. core_tree c
+        ≡ rule.joined operator (core_tree left) (core_tree right)) }
 {
     let Some(left) = left else {
         drop(right);
@@ -215,8 +222,10 @@ pub(crate) fn join_truth(
     progress: &mut Progress,
 ) -> Result<Option<Term>, AllocError>
     ensures at { OnOk result (progress.new.at ≡ progress.old.at) }
-    ensures faults { OnOk result (AreNoted progress.old progress.new (rule.wants kinds.is_truth place (judged_tree right.entry))) }
-    ensures meant { IfOk result (λ c. core_tree c ≡ rule.joined operator (core_tree left) (rule.truth_of (judged_tree right.entry))) }
+    ensures faults { OnOk result (AreNoted progress.old progress.new
+        (rule.wants kinds.is_truth place (judged_tree right.entry))) }
+    ensures meant { IfOk result (λ c. core_tree c
+        ≡ rule.joined operator (core_tree left) (rule.truth_of (judged_tree right.entry))) }
 {
     note_unless_truth(progress, place, &right);
     let core = joined(operator, left, truth_of(right))?;
@@ -232,8 +241,10 @@ pub(crate) fn join_whole(
     progress: &mut Progress,
 ) -> Result<Option<Term>, AllocError>
     ensures at { OnOk result (progress.new.at ≡ progress.old.at) }
-    ensures faults { OnOk result (AreNoted progress.old progress.new (rule.wants kinds.is_whole place (judged_tree right.entry))) }
-    ensures meant { IfOk result (λ c. core_tree c ≡ rule.joined operator (core_tree left) (rule.whole_of (judged_tree right.entry))) }
+    ensures faults { OnOk result (AreNoted progress.old progress.new
+        (rule.wants kinds.is_whole place (judged_tree right.entry))) }
+    ensures meant { IfOk result (λ c. core_tree c
+        ≡ rule.joined operator (core_tree left) (rule.whole_of (judged_tree right.entry))) }
 {
     note_unless_whole(progress, place, &right);
     let core = joined(operator, left, whole_of(right))?;
@@ -268,7 +279,8 @@ fn compares(relation: Relation, left: Shape<'_>, right: Shape<'_>) -> bool
 }
 
 fn compared(relation: Relation, left: Term, right: Term) -> Result<Term, AllocError>
-    ensures { IfOk result (λ c. term_tree c ≡ rule.compared relation (term_tree left) (term_tree right)) }
+    ensures { IfOk result (λ c. term_tree c
+        ≡ rule.compared relation (term_tree left) (term_tree right)) }
 {
     match relation {
         Relation::Equal => left.with(Link::Operator(Operator::Same, right)),
@@ -289,8 +301,10 @@ pub(crate) fn end_compare<'a>(
     progress: &mut Progress,
 ) -> Result<Option<Typed<'a>>, AllocError>
     ensures at { OnOk result (progress.new.at ≡ progress.old.at) }
-    ensures faults { OnOk result (AreNoted progress.old progress.new (rule.compare_faults relation place (judged_tree left.entry) (judged_tree right.entry))) }
-    ensures meant { IfOk result (λ j. judged_tree j ≡ rule.compare_of relation (judged_tree left.entry) (judged_tree right.entry)) }
+    ensures faults { OnOk result (AreNoted progress.old progress.new
+        (rule.compare_faults relation place (judged_tree left.entry) (judged_tree right.entry))) }
+    ensures meant { IfOk result (λ j. judged_tree j
+        ≡ rule.compare_of relation (judged_tree left.entry) (judged_tree right.entry)) }
 {
     let Some(left) = left else {
         drop(right);

@@ -18,7 +18,9 @@ impl Progress {
     /// Notes a fault, if it comes before the least so far.
     pub fn note(&mut self, place: u32, kind: FaultKind)
         ensures at { self.new.at ≡ self.old.at }
-        ensures least { least_tree self.new.least ≡ rule.note (record { place = place; number = fault_number kind }) (least_tree self.old.least) }
+        ensures least { least_tree self.new.least
+            ≡ rule.note (record { place = place; number = fault_number kind })
+            (least_tree self.old.least) }
     {
         let fault = Fault { place, kind };
         match self.least {
@@ -34,7 +36,8 @@ impl Progress {
     /// Notes a fault where something is wrong.
     pub fn note_if(&mut self, wrong: bool, place: u32, kind: FaultKind)
         ensures at { self.new.at ≡ self.old.at }
-        ensures least { AreNoted self.old self.new (rule.where_wrong wrong place (fault_number kind)) }
+        ensures least { AreNoted self.old self.new
+            (rule.where_wrong wrong place (fault_number kind)) }
     {
         if wrong {
             self.note(place, kind);

@@ -25,7 +25,8 @@ fn called<'a>(
     most: u64,
     core: Term,
 ) -> Result<Typed<'a>, AllocError>
-    ensures { IfOk result (λ t. Some (typed_tree t) ≡ rule.called call (kind_tree item.now) most (term_tree core)) }
+    ensures { IfOk result (λ t. Some (typed_tree t)
+        ≡ rule.called call (kind_tree item.now) most (term_tree core)) }
 {
     match call {
         Call::Head => {
@@ -81,7 +82,8 @@ pub(crate) fn end_call<'a>(
     progress: &mut Progress,
 ) -> Result<Option<Typed<'a>>, AllocError>
     ensures at { OnOk result (progress.new.at ≡ progress.old.at) }
-    ensures faults { OnOk result (AreNoted progress.old progress.new (rule.wants kinds.is_seq place (judged_tree of.entry))) }
+    ensures faults { OnOk result (AreNoted progress.old progress.new
+        (rule.wants kinds.is_seq place (judged_tree of.entry))) }
     ensures meant { IfOk result (λ j. judged_tree j ≡ rule.call_of call (judged_tree of.entry)) }
 {
     note_unless_seq(progress, place, &of);
@@ -96,7 +98,8 @@ fn note_item(
     item: &Option<Typed<'_>>,
 )
     ensures at { progress.new.at ≡ progress.old.at }
-    ensures least { AreNoted progress.old progress.new (rule.append_faults place (judged_tree list.now) (judged_tree item.now)) }
+    ensures least { AreNoted progress.old progress.new
+        (rule.append_faults place (judged_tree list.now) (judged_tree item.now)) }
 {
     if let Some(list) = list {
         if let Shape::Seq(kind, _) = list.shape {
@@ -110,7 +113,9 @@ fn appended_to<'a>(
     list: Typed<'a>,
     item: Typed<'a>,
 ) -> Result<Option<Typed<'a>>, AllocError>
-    ensures { IfOk result (λ j. judged_tree j ≡ rule.appended_to (term_tree list.entry.core) (shape_tree list.entry.shape) (typed_tree item.entry)) }
+    ensures { IfOk result (λ j. judged_tree j
+        ≡ rule.appended_to (term_tree list.entry.core) (shape_tree list.entry.shape)
+        (typed_tree item.entry)) }
 {
     let Shape::Seq(kind, most) = list.shape else {
         drop(list);
@@ -141,7 +146,8 @@ fn append_of<'a>(
     list: Option<Typed<'a>>,
     item: Option<Typed<'a>>,
 ) -> Result<Option<Typed<'a>>, AllocError>
-    ensures { IfOk result (λ j. judged_tree j ≡ rule.append_of (judged_tree list.entry) (judged_tree item.entry)) }
+    ensures { IfOk result (λ j. judged_tree j
+        ≡ rule.append_of (judged_tree list.entry) (judged_tree item.entry)) }
 {
     let Some(list) = list else {
         drop(item);
@@ -166,8 +172,11 @@ pub(crate) fn end_append<'a>(
     progress: &mut Progress,
 ) -> Result<Option<Typed<'a>>, AllocError>
     ensures at { OnOk result (progress.new.at ≡ progress.old.at) }
-    ensures faults { OnOk result (AreNoted progress.old progress.new (rule.wants kinds.is_seq first (judged_tree list.entry) ++ rule.append_faults second (judged_tree list.entry) (judged_tree item.entry))) }
-    ensures meant { IfOk result (λ j. judged_tree j ≡ rule.append_of (judged_tree list.entry) (judged_tree item.entry)) }
+    ensures faults { OnOk result (AreNoted progress.old progress.new
+        (rule.wants kinds.is_seq first (judged_tree list.entry)
+        ++ rule.append_faults second (judged_tree list.entry) (judged_tree item.entry))) }
+    ensures meant { IfOk result (λ j. judged_tree j
+        ≡ rule.append_of (judged_tree list.entry) (judged_tree item.entry)) }
 {
     note_unless_seq(progress, first, &list);
     note_item(progress, second, &list, &item);
@@ -183,7 +192,8 @@ fn note_index(
     index: &Option<Typed<'_>>,
 )
     ensures at { progress.new.at ≡ progress.old.at }
-    ensures least { AreNoted progress.old progress.new (rule.index_faults first place (judged_tree of.now) (judged_tree index.now)) }
+    ensures least { AreNoted progress.old progress.new
+        (rule.index_faults first place (judged_tree of.now) (judged_tree index.now)) }
 {
     if let Some(of) = of {
         match of.shape {
@@ -202,7 +212,9 @@ fn element<'a>(
     of: Typed<'a>,
     index: Typed<'a>,
 ) -> Result<Option<Typed<'a>>, AllocError>
-    ensures { IfOk result (λ j. judged_tree j ≡ rule.element (term_tree of.entry.core) (shape_tree of.entry.shape) (typed_tree index.entry)) }
+    ensures { IfOk result (λ j. judged_tree j
+        ≡ rule.element (term_tree of.entry.core) (shape_tree of.entry.shape)
+        (typed_tree index.entry)) }
 {
     let Shape::Array(by, item) = of.shape else {
         drop(of);
@@ -226,7 +238,8 @@ fn element_of<'a>(
     of: Option<Typed<'a>>,
     index: Option<Typed<'a>>,
 ) -> Result<Option<Typed<'a>>, AllocError>
-    ensures { IfOk result (λ j. judged_tree j ≡ rule.element_of (judged_tree of.entry) (judged_tree index.entry)) }
+    ensures { IfOk result (λ j. judged_tree j
+        ≡ rule.element_of (judged_tree of.entry) (judged_tree index.entry)) }
 {
     let Some(of) = of else {
         drop(index);
@@ -250,8 +263,10 @@ pub(crate) fn end_element<'a>(
     progress: &mut Progress,
 ) -> Result<Option<Typed<'a>>, AllocError>
     ensures at { OnOk result (progress.new.at ≡ progress.old.at) }
-    ensures faults { OnOk result (AreNoted progress.old progress.new (rule.index_faults first place (judged_tree of.entry) (judged_tree index.entry))) }
-    ensures meant { IfOk result (λ j. judged_tree j ≡ rule.element_of (judged_tree of.entry) (judged_tree index.entry)) }
+    ensures faults { OnOk result (AreNoted progress.old progress.new
+        (rule.index_faults first place (judged_tree of.entry) (judged_tree index.entry))) }
+    ensures meant { IfOk result (λ j. judged_tree j
+        ≡ rule.element_of (judged_tree of.entry) (judged_tree index.entry)) }
 {
     note_index(progress, first, place, &of, &index);
     let found = element_of(alloc, of, index)?;

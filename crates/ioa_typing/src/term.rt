@@ -34,8 +34,10 @@ pub fn check_term<'a>(
 ) -> Result<Option<Typed<'a>>, AllocError>
     requires room { progress.old.at + size (view term.now) < 2 ^ 32 }
     ensures at { OnOk result (progress.new.at ≡ progress.old.at + size (view term.now)) }
-    ensures faults { OnOk result (AreNoted progress.old progress.new (rule.faults (names_tree names.now) progress.old.at (view term.now))) }
-    ensures meant { IfOk result (λ j. judged_tree j ≡ rule.judge (names_tree names.now) (view term.now)) }
+    ensures faults { OnOk result (AreNoted progress.old progress.new
+        (rule.faults (names_tree names.now) progress.old.at (view term.now))) }
+    ensures meant { IfOk result (λ j. judged_tree j
+        ≡ rule.judge (names_tree names.now) (view term.now)) }
 {
     let at = progress.at;
     match term {
@@ -119,9 +121,12 @@ fn check_group<'a>(
     progress: &mut Progress,
 ) -> Result<Option<Typed<'a>>, AllocError>
     requires room { progress.old.at + size (plain.Group (view inner.now)) < 2 ^ 32 }
-    ensures at { OnOk result (progress.new.at ≡ progress.old.at + size (plain.Group (view inner.now))) }
-    ensures faults { OnOk result (AreNoted progress.old progress.new (rule.faults (names_tree names.now) progress.old.at (plain.Group (view inner.now)))) }
-    ensures meant { IfOk result (λ j. judged_tree j ≡ rule.judge (names_tree names.now) (plain.Group (view inner.now))) }
+    ensures at { OnOk result (progress.new.at ≡ progress.old.at
+        + size (plain.Group (view inner.now))) }
+    ensures faults { OnOk result (AreNoted progress.old progress.new
+        (rule.faults (names_tree names.now) progress.old.at (plain.Group (view inner.now)))) }
+    ensures meant { IfOk result (λ j. judged_tree j
+        ≡ rule.judge (names_tree names.now) (plain.Group (view inner.now))) }
 {
     progress.at += 1;
     let found = check_term(alloc, names, inner, progress)?;
@@ -139,9 +144,12 @@ fn check_call<'a>(
     progress: &mut Progress,
 ) -> Result<Option<Typed<'a>>, AllocError>
     requires room { progress.old.at + size (plain.Called call (view of.now)) < 2 ^ 32 }
-    ensures at { OnOk result (progress.new.at ≡ progress.old.at + size (plain.Called call (view of.now))) }
-    ensures faults { OnOk result (AreNoted progress.old progress.new (rule.faults (names_tree names.now) progress.old.at (plain.Called call (view of.now)))) }
-    ensures meant { IfOk result (λ j. judged_tree j ≡ rule.judge (names_tree names.now) (plain.Called call (view of.now))) }
+    ensures at { OnOk result (progress.new.at ≡ progress.old.at
+        + size (plain.Called call (view of.now))) }
+    ensures faults { OnOk result (AreNoted progress.old progress.new
+        (rule.faults (names_tree names.now) progress.old.at (plain.Called call (view of.now)))) }
+    ensures meant { IfOk result (λ j. judged_tree j
+        ≡ rule.judge (names_tree names.now) (plain.Called call (view of.now))) }
 {
     progress.at += 2;
     let place = progress.at;
@@ -160,9 +168,12 @@ fn check_minus<'a>(
     progress: &mut Progress,
 ) -> Result<Option<Typed<'a>>, AllocError>
     requires room { progress.old.at + size (plain.Minus (view of.now)) < 2 ^ 32 }
-    ensures at { OnOk result (progress.new.at ≡ progress.old.at + size (plain.Minus (view of.now))) }
-    ensures faults { OnOk result (AreNoted progress.old progress.new (rule.faults (names_tree names.now) progress.old.at (plain.Minus (view of.now)))) }
-    ensures meant { IfOk result (λ j. judged_tree j ≡ rule.judge (names_tree names.now) (plain.Minus (view of.now))) }
+    ensures at { OnOk result (progress.new.at ≡ progress.old.at
+        + size (plain.Minus (view of.now))) }
+    ensures faults { OnOk result (AreNoted progress.old progress.new
+        (rule.faults (names_tree names.now) progress.old.at (plain.Minus (view of.now)))) }
+    ensures meant { IfOk result (λ j. judged_tree j
+        ≡ rule.judge (names_tree names.now) (plain.Minus (view of.now))) }
 {
     progress.at += 1;
     let place = progress.at;
@@ -181,8 +192,10 @@ fn check_not<'a>(
 ) -> Result<Option<Typed<'a>>, AllocError>
     requires room { progress.old.at + size (plain.Not (view of.now)) < 2 ^ 32 }
     ensures at { OnOk result (progress.new.at ≡ progress.old.at + size (plain.Not (view of.now))) }
-    ensures faults { OnOk result (AreNoted progress.old progress.new (rule.faults (names_tree names.now) progress.old.at (plain.Not (view of.now)))) }
-    ensures meant { IfOk result (λ j. judged_tree j ≡ rule.judge (names_tree names.now) (plain.Not (view of.now))) }
+    ensures faults { OnOk result (AreNoted progress.old progress.new
+        (rule.faults (names_tree names.now) progress.old.at (plain.Not (view of.now)))) }
+    ensures meant { IfOk result (λ j. judged_tree j
+        ≡ rule.judge (names_tree names.now) (plain.Not (view of.now))) }
 {
     progress.at += 1;
     let place = progress.at;
@@ -203,8 +216,14 @@ fn check_item<'a>(
 ) -> Result<Option<Typed<'a>>, AllocError>
     requires room { progress.old.at + (size (view item.now) + 2) < 2 ^ 32 }
     ensures at { OnOk result (progress.new.at ≡ progress.old.at + (size (view item.now) + 2)) }
-    ensures faults { OnOk result (AreNoted progress.old progress.new (rule.faults (names_tree names.now) (progress.old.at + 1) (view item.now) ++ (rule.wants kinds.is_seq place (judged_tree list.entry) ++ rule.append_faults (progress.old.at + 1) (judged_tree list.entry) (rule.judge (names_tree names.now) (view item.now))))) }
-    ensures meant { IfOk result (λ j. judged_tree j ≡ rule.append_of (judged_tree list.entry) (rule.judge (names_tree names.now) (view item.now))) }
+    ensures faults { OnOk result (AreNoted progress.old progress.new
+        (rule.faults (names_tree names.now) (progress.old.at + 1) (view item.now)
+        ++ (rule.wants kinds.is_seq place (judged_tree list.entry)
+        ++ rule.append_faults (progress.old.at + 1) (judged_tree list.entry)
+        (rule.judge (names_tree names.now) (view item.now))))) }
+    ensures meant { IfOk result (λ j. judged_tree j
+        ≡ rule.append_of (judged_tree list.entry)
+        (rule.judge (names_tree names.now) (view item.now))) }
 {
     progress.at += 1;
     let behind = progress.at;
@@ -226,8 +245,13 @@ fn check_right<'a>(
 ) -> Result<Option<Typed<'a>>, AllocError>
     requires room { progress.old.at + (size (view right.now) + 1) < 2 ^ 32 }
     ensures at { OnOk result (progress.new.at ≡ progress.old.at + (size (view right.now) + 1)) }
-    ensures faults { OnOk result (AreNoted progress.old progress.new (rule.faults (names_tree names.now) (progress.old.at + 1) (view right.now) ++ rule.compare_faults relation (progress.old.at + 1) (judged_tree left.entry) (rule.judge (names_tree names.now) (view right.now)))) }
-    ensures meant { IfOk result (λ j. judged_tree j ≡ rule.compare_of relation (judged_tree left.entry) (rule.judge (names_tree names.now) (view right.now))) }
+    ensures faults { OnOk result (AreNoted progress.old progress.new
+        (rule.faults (names_tree names.now) (progress.old.at + 1) (view right.now)
+        ++ rule.compare_faults relation (progress.old.at + 1) (judged_tree left.entry)
+        (rule.judge (names_tree names.now) (view right.now)))) }
+    ensures meant { IfOk result (λ j. judged_tree j
+        ≡ rule.compare_of relation (judged_tree left.entry)
+        (rule.judge (names_tree names.now) (view right.now))) }
 {
     progress.at += 1;
     let place = progress.at;
@@ -246,10 +270,18 @@ fn check_product<'a>(
     factors: &[Factor],
     progress: &mut Progress,
 ) -> Result<Option<Typed<'a>>, AllocError>
-    requires room { progress.old.at + factors_size (pack_factors (map view_factor factors.now)) < 2 ^ 32 }
-    ensures at { OnOk result (progress.new.at ≡ progress.old.at + factors_size (pack_factors (map view_factor factors.now))) }
-    ensures faults { OnOk result (AreNoted progress.old progress.new (rule.wants kinds.is_whole place (judged_tree first.entry) ++ rule.factors_faults (names_tree names.now) progress.old.at (pack_factors (map view_factor factors.now)))) }
-    ensures meant { IfOk result (λ j. judged_tree j ≡ rule.of_core kinds.Whole (rule.multiplied (names_tree names.now) (rule.whole_of (judged_tree first.entry)) (pack_factors (map view_factor factors.now)))) }
+    requires room { progress.old.at + factors_size (pack_factors (map view_factor factors.now))
+        < 2 ^ 32 }
+    ensures at { OnOk result (progress.new.at ≡ progress.old.at
+        + factors_size (pack_factors (map view_factor factors.now))) }
+    ensures faults { OnOk result (AreNoted progress.old progress.new
+        (rule.wants kinds.is_whole place (judged_tree first.entry)
+        ++ rule.factors_faults (names_tree names.now) progress.old.at
+        (pack_factors (map view_factor factors.now)))) }
+    ensures meant { IfOk result (λ j. judged_tree j
+        ≡ rule.of_core kinds.Whole
+        (rule.multiplied (names_tree names.now) (rule.whole_of (judged_tree first.entry))
+        (pack_factors (map view_factor factors.now)))) }
 {
     note_unless_whole(progress, place, &first);
     let core = check_factors(alloc, names, whole_of(first), factors, progress)?;
@@ -266,10 +298,18 @@ fn check_sum<'a>(
     addends: &[Addend],
     progress: &mut Progress,
 ) -> Result<Option<Typed<'a>>, AllocError>
-    requires room { progress.old.at + addends_size (pack_addends (map view_addend addends.now)) < 2 ^ 32 }
-    ensures at { OnOk result (progress.new.at ≡ progress.old.at + addends_size (pack_addends (map view_addend addends.now))) }
-    ensures faults { OnOk result (AreNoted progress.old progress.new (rule.wants kinds.is_whole place (judged_tree first.entry) ++ rule.addends_faults (names_tree names.now) progress.old.at (pack_addends (map view_addend addends.now)))) }
-    ensures meant { IfOk result (λ j. judged_tree j ≡ rule.of_core kinds.Whole (rule.added (names_tree names.now) (rule.whole_of (judged_tree first.entry)) (pack_addends (map view_addend addends.now)))) }
+    requires room { progress.old.at + addends_size (pack_addends (map view_addend addends.now))
+        < 2 ^ 32 }
+    ensures at { OnOk result (progress.new.at ≡ progress.old.at
+        + addends_size (pack_addends (map view_addend addends.now))) }
+    ensures faults { OnOk result (AreNoted progress.old progress.new
+        (rule.wants kinds.is_whole place (judged_tree first.entry)
+        ++ rule.addends_faults (names_tree names.now) progress.old.at
+        (pack_addends (map view_addend addends.now)))) }
+    ensures meant { IfOk result (λ j. judged_tree j
+        ≡ rule.of_core kinds.Whole
+        (rule.added (names_tree names.now) (rule.whole_of (judged_tree first.entry))
+        (pack_addends (map view_addend addends.now)))) }
 {
     note_unless_whole(progress, place, &first);
     let core = check_addends(alloc, names, whole_of(first), addends, progress)?;
@@ -288,9 +328,16 @@ fn check_joined<'a>(
     progress: &mut Progress,
 ) -> Result<Option<Typed<'a>>, AllocError>
     requires room { progress.old.at + joined_size (pack_terms (map view others.now)) < 2 ^ 32 }
-    ensures at { OnOk result (progress.new.at ≡ progress.old.at + joined_size (pack_terms (map view others.now))) }
-    ensures faults { OnOk result (AreNoted progress.old progress.new (rule.wants kinds.is_truth place (judged_tree first.entry) ++ rule.truths_faults (names_tree names.now) progress.old.at (pack_terms (map view others.now)))) }
-    ensures meant { IfOk result (λ j. judged_tree j ≡ rule.of_core kinds.Truth (rule.combined (names_tree names.now) operator (rule.truth_of (judged_tree first.entry)) (pack_terms (map view others.now)))) }
+    ensures at { OnOk result (progress.new.at ≡ progress.old.at
+        + joined_size (pack_terms (map view others.now))) }
+    ensures faults { OnOk result (AreNoted progress.old progress.new
+        (rule.wants kinds.is_truth place (judged_tree first.entry)
+        ++ rule.truths_faults (names_tree names.now) progress.old.at
+        (pack_terms (map view others.now)))) }
+    ensures meant { IfOk result (λ j. judged_tree j
+        ≡ rule.of_core kinds.Truth
+        (rule.combined (names_tree names.now) operator (rule.truth_of (judged_tree first.entry))
+        (pack_terms (map view others.now)))) }
 {
     note_unless_truth(progress, place, &first);
     let core = check_truths(alloc, names, operator, truth_of(first), others, progress)?;
@@ -308,9 +355,14 @@ fn check_indexes<'a>(
     progress: &mut Progress,
 ) -> Result<Option<Typed<'a>>, AllocError>
     requires room { progress.old.at + indexes_size (pack_terms (map view indexes.now)) < 2 ^ 32 }
-    ensures at { OnOk result (progress.new.at ≡ progress.old.at + indexes_size (pack_terms (map view indexes.now))) }
-    ensures faults { OnOk result (AreNoted progress.old progress.new (rule.indexes_faults (names_tree names.now) first (judged_tree of.entry) progress.old.at (pack_terms (map view indexes.now)))) }
-    ensures meant { IfOk result (λ j. judged_tree j ≡ rule.indexed (names_tree names.now) (judged_tree of.entry) (pack_terms (map view indexes.now))) }
+    ensures at { OnOk result (progress.new.at ≡ progress.old.at
+        + indexes_size (pack_terms (map view indexes.now))) }
+    ensures faults { OnOk result (AreNoted progress.old progress.new
+        (rule.indexes_faults (names_tree names.now) first (judged_tree of.entry) progress.old.at
+        (pack_terms (map view indexes.now)))) }
+    ensures meant { IfOk result (λ j. judged_tree j
+        ≡ rule.indexed (names_tree names.now) (judged_tree of.entry)
+        (pack_terms (map view indexes.now))) }
 {
     let mut found = of;
     for index in indexes {
@@ -332,10 +384,16 @@ fn check_factors(
     factors: &[Factor],
     progress: &mut Progress,
 ) -> Result<Option<terms::Term>, AllocError>
-    requires room { progress.old.at + factors_size (pack_factors (map view_factor factors.now)) < 2 ^ 32 }
-    ensures at { OnOk result (progress.new.at ≡ progress.old.at + factors_size (pack_factors (map view_factor factors.now))) }
-    ensures faults { OnOk result (AreNoted progress.old progress.new (rule.factors_faults (names_tree names.now) progress.old.at (pack_factors (map view_factor factors.now)))) }
-    ensures meant { IfOk result (λ c. core_tree c ≡ rule.multiplied (names_tree names.now) (core_tree first) (pack_factors (map view_factor factors.now))) }
+    requires room { progress.old.at + factors_size (pack_factors (map view_factor factors.now))
+        < 2 ^ 32 }
+    ensures at { OnOk result (progress.new.at ≡ progress.old.at
+        + factors_size (pack_factors (map view_factor factors.now))) }
+    ensures faults { OnOk result (AreNoted progress.old progress.new
+        (rule.factors_faults (names_tree names.now) progress.old.at
+        (pack_factors (map view_factor factors.now)))) }
+    ensures meant { IfOk result (λ c. core_tree c
+        ≡ rule.multiplied (names_tree names.now) (core_tree first)
+        (pack_factors (map view_factor factors.now))) }
 {
     let mut core = first;
     for factor in factors {
@@ -353,9 +411,14 @@ fn check_factor(
     progress: &mut Progress,
 ) -> Result<Option<terms::Term>, AllocError>
     requires room { progress.old.at + factor_size (view_factor factor.now) < 2 ^ 32 }
-    ensures at { OnOk result (progress.new.at ≡ progress.old.at + factor_size (view_factor factor.now)) }
-    ensures faults { OnOk result (AreNoted progress.old progress.new (rule.factors_faults (names_tree names.now) progress.old.at (more_factors (view_factor factor.now) no_factor))) }
-    ensures meant { IfOk result (λ c. core_tree c ≡ rule.multiplied (names_tree names.now) (core_tree left) (more_factors (view_factor factor.now) no_factor)) }
+    ensures at { OnOk result (progress.new.at ≡ progress.old.at
+        + factor_size (view_factor factor.now)) }
+    ensures faults { OnOk result (AreNoted progress.old progress.new
+        (rule.factors_faults (names_tree names.now) progress.old.at
+        (more_factors (view_factor factor.now) no_factor))) }
+    ensures meant { IfOk result (λ c. core_tree c
+        ≡ rule.multiplied (names_tree names.now) (core_tree left)
+        (more_factors (view_factor factor.now) no_factor)) }
 {
     progress.at += 1;
     let place = progress.at;
@@ -383,10 +446,16 @@ fn check_addends(
     addends: &[Addend],
     progress: &mut Progress,
 ) -> Result<Option<terms::Term>, AllocError>
-    requires room { progress.old.at + addends_size (pack_addends (map view_addend addends.now)) < 2 ^ 32 }
-    ensures at { OnOk result (progress.new.at ≡ progress.old.at + addends_size (pack_addends (map view_addend addends.now))) }
-    ensures faults { OnOk result (AreNoted progress.old progress.new (rule.addends_faults (names_tree names.now) progress.old.at (pack_addends (map view_addend addends.now)))) }
-    ensures meant { IfOk result (λ c. core_tree c ≡ rule.added (names_tree names.now) (core_tree first) (pack_addends (map view_addend addends.now))) }
+    requires room { progress.old.at + addends_size (pack_addends (map view_addend addends.now))
+        < 2 ^ 32 }
+    ensures at { OnOk result (progress.new.at ≡ progress.old.at
+        + addends_size (pack_addends (map view_addend addends.now))) }
+    ensures faults { OnOk result (AreNoted progress.old progress.new
+        (rule.addends_faults (names_tree names.now) progress.old.at
+        (pack_addends (map view_addend addends.now)))) }
+    ensures meant { IfOk result (λ c. core_tree c
+        ≡ rule.added (names_tree names.now) (core_tree first)
+        (pack_addends (map view_addend addends.now))) }
 {
     let mut core = first;
     for addend in addends {
@@ -409,9 +478,14 @@ fn check_truths(
     progress: &mut Progress,
 ) -> Result<Option<terms::Term>, AllocError>
     requires room { progress.old.at + joined_size (pack_terms (map view others.now)) < 2 ^ 32 }
-    ensures at { OnOk result (progress.new.at ≡ progress.old.at + joined_size (pack_terms (map view others.now))) }
-    ensures faults { OnOk result (AreNoted progress.old progress.new (rule.truths_faults (names_tree names.now) progress.old.at (pack_terms (map view others.now)))) }
-    ensures meant { IfOk result (λ c. core_tree c ≡ rule.combined (names_tree names.now) operator (core_tree first) (pack_terms (map view others.now))) }
+    ensures at { OnOk result (progress.new.at ≡ progress.old.at
+        + joined_size (pack_terms (map view others.now))) }
+    ensures faults { OnOk result (AreNoted progress.old progress.new
+        (rule.truths_faults (names_tree names.now) progress.old.at
+        (pack_terms (map view others.now)))) }
+    ensures meant { IfOk result (λ c. core_tree c
+        ≡ rule.combined (names_tree names.now) operator (core_tree first)
+        (pack_terms (map view others.now))) }
 {
     let mut core = first;
     for other in others {

@@ -24,7 +24,8 @@ pub struct Typed<'a> {
 /// Notes a term that is no truth value: `WrongType`.
 pub fn note_unless_truth(progress: &mut Progress, place: u32, typed: &Option<Typed<'_>>)
     ensures at { progress.new.at ≡ progress.old.at }
-    ensures least { AreNoted progress.old progress.new (rule.wants kinds.is_truth place (judged_tree typed.now)) }
+    ensures least { AreNoted progress.old progress.new
+        (rule.wants kinds.is_truth place (judged_tree typed.now)) }
 {
     if let Some(typed) = typed {
         progress.note_if(!is_truth(typed.shape), place, FaultKind::WrongType);
@@ -34,7 +35,8 @@ pub fn note_unless_truth(progress: &mut Progress, place: u32, typed: &Option<Typ
 /// Notes a term that is no whole number: `WrongType`.
 pub fn note_unless_whole(progress: &mut Progress, place: u32, typed: &Option<Typed<'_>>)
     ensures at { progress.new.at ≡ progress.old.at }
-    ensures least { AreNoted progress.old progress.new (rule.wants kinds.is_whole place (judged_tree typed.now)) }
+    ensures least { AreNoted progress.old progress.new
+        (rule.wants kinds.is_whole place (judged_tree typed.now)) }
 {
     if let Some(typed) = typed {
         progress.note_if(!is_whole(typed.shape), place, FaultKind::WrongType);
@@ -44,7 +46,8 @@ pub fn note_unless_whole(progress: &mut Progress, place: u32, typed: &Option<Typ
 /// Notes a term that is no sequence: `WrongType`.
 pub fn note_unless_seq(progress: &mut Progress, place: u32, typed: &Option<Typed<'_>>)
     ensures at { progress.new.at ≡ progress.old.at }
-    ensures least { AreNoted progress.old progress.new (rule.wants kinds.is_seq place (judged_tree typed.now)) }
+    ensures least { AreNoted progress.old progress.new
+        (rule.wants kinds.is_seq place (judged_tree typed.now)) }
 {
     if let Some(typed) = typed {
         progress.note_if(!is_seq(typed.shape), place, FaultKind::WrongType);
@@ -54,7 +57,8 @@ pub fn note_unless_seq(progress: &mut Progress, place: u32, typed: &Option<Typed
 /// Notes a term that doesn't fit a place of this kind: `WrongType`.
 pub fn note_unfit(progress: &mut Progress, kind: Shape<'_>, place: u32, typed: &Option<Typed<'_>>)
     ensures at { progress.new.at ≡ progress.old.at }
-    ensures least { AreNoted progress.old progress.new (rule.unfit (shape_tree kind.entry) place (judged_tree typed.now)) }
+    ensures least { AreNoted progress.old progress.new
+        (rule.unfit (shape_tree kind.entry) place (judged_tree typed.now)) }
 {
     if let Some(typed) = typed {
         progress.note_if(!fits(kind, typed.shape), place, FaultKind::WrongType);
@@ -89,7 +93,8 @@ pub fn whole_of(typed: Option<Typed<'_>>) -> Option<Term>
 
 /// A value as it is put in a place of this kind: of a range it is the nearest number.
 pub fn placed(alloc: Global, kind: Shape<'_>, core: Term) -> Result<Term, AllocError>
-    ensures { IfOk result (λ t. term_tree t ≡ rule.placed (shape_tree kind.entry) (term_tree core)) }
+    ensures { IfOk result (λ t. term_tree t
+        ≡ rule.placed (shape_tree kind.entry) (term_tree core)) }
 {
     match kind {
         Shape::Range(low, high) => {
@@ -110,7 +115,8 @@ pub fn value_in(
     kind: Shape<'_>,
     typed: Option<Typed<'_>>,
 ) -> Result<Option<Term>, AllocError>
-    ensures { IfOk result (λ t. core_tree t ≡ value.value_in (shape_tree kind.entry) (judged_tree typed.entry)) }
+    ensures { IfOk result (λ t. core_tree t
+        ≡ value.value_in (shape_tree kind.entry) (judged_tree typed.entry)) }
 {
     let Some(typed) = typed else {
         return Ok(None);

@@ -20,7 +20,8 @@ use std::alloc::{AllocError, Global};
 
 fn note_weight(progress: &mut Progress, place: u32, kind: &Option<Kind>)
     ensures at { progress.new.at ≡ progress.old.at }
-    ensures least { AreNoted progress.old progress.new (rule.overweight place (option_tree kind.now)) }
+    ensures least { AreNoted progress.old progress.new
+        (rule.overweight place (option_tree kind.now)) }
 {
     if let Some(kind) = kind {
         progress.note_if(weight(kind) > 65_536, place, FaultKind::OverLimit);
@@ -30,7 +31,8 @@ fn note_weight(progress: &mut Progress, place: u32, kind: &Option<Kind>)
 /// Notes what isn't listed where it has to be: a kind that can't be is of the `WrongType`, one of over 256 members is `OverLimit`.
 pub fn note_unlisted(progress: &mut Progress, place: u32, kind: &Option<Kind>)
     ensures at { progress.new.at ≡ progress.old.at }
-    ensures least { AreNoted progress.old progress.new (rule.unlisted place (option_tree kind.now)) }
+    ensures least { AreNoted progress.old progress.new
+        (rule.unlisted place (option_tree kind.now)) }
 {
     if let Some(kind) = kind {
         if can_be_listed(kind) {
@@ -44,7 +46,8 @@ pub fn note_unlisted(progress: &mut Progress, place: u32, kind: &Option<Kind>)
 /// Notes a kind that isn't scalar: `WrongType`.
 pub fn note_unscalar(progress: &mut Progress, place: u32, kind: &Option<Kind>)
     ensures at { progress.new.at ≡ progress.old.at }
-    ensures least { AreNoted progress.old progress.new (rule.unscalar place (option_tree kind.now)) }
+    ensures least { AreNoted progress.old progress.new
+        (rule.unscalar place (option_tree kind.now)) }
 {
     if let Some(kind) = kind {
         progress.note_if(!is_scalar(kind), place, FaultKind::WrongType);
@@ -65,7 +68,8 @@ fn array_of(
     index: Option<Kind>,
     item: Option<Kind>,
 ) -> Result<Option<Kind>, AllocError>
-    ensures { IfOk result (λ k. option_tree k ≡ rule.array_of (option_tree index) (option_tree item)) }
+    ensures { IfOk result (λ k. option_tree k
+        ≡ rule.array_of (option_tree index) (option_tree item)) }
 {
     match (index, item) {
         (Some(index), Some(item)) => {
@@ -96,7 +100,9 @@ fn end_seq(
     progress: &mut Progress,
 ) -> Result<Option<Kind>, AllocError>
     ensures at { OnOk result (progress.new.at ≡ progress.old.at) }
-    ensures faults { OnOk result (AreNoted progress.old progress.new (where_wrong (rule.is_bad_bound most) place 17 ++ rule.overweight at (rule.seq_of most (option_tree item)))) }
+    ensures faults { OnOk result (AreNoted progress.old progress.new
+        (where_wrong (rule.is_bad_bound most) place 17
+        ++ rule.overweight at (rule.seq_of most (option_tree item)))) }
     ensures kind { IfOk result (λ k. option_tree k ≡ rule.seq_of most (option_tree item)) }
 {
     progress.note_if(is_bad_bound(most), place, FaultKind::OverLimit);
@@ -116,8 +122,11 @@ fn end_array(
 ) -> Result<Option<Kind>, AllocError>
     requires { at + 2 < 2 ^ 32 }
     ensures at { OnOk result (progress.new.at ≡ progress.old.at) }
-    ensures faults { OnOk result (AreNoted progress.old progress.new (rule.unlisted (at + 2) (option_tree index) ++ rule.overweight at (rule.array_of (option_tree index) (option_tree item)))) }
-    ensures kind { IfOk result (λ k. option_tree k ≡ rule.array_of (option_tree index) (option_tree item)) }
+    ensures faults { OnOk result (AreNoted progress.old progress.new
+        (rule.unlisted (at + 2) (option_tree index)
+        ++ rule.overweight at (rule.array_of (option_tree index) (option_tree item)))) }
+    ensures kind { IfOk result (λ k. option_tree k
+        ≡ rule.array_of (option_tree index) (option_tree item)) }
 {
     note_unlisted(progress, at + 2, &index);
     let kind = array_of(alloc, index, item)?;
@@ -127,7 +136,8 @@ fn end_array(
 
 // What a type's name means.
 fn kind_named(alloc: Global, names: &Names, name: &str) -> Result<Option<Kind>, AllocError>
-    ensures { IfOk result (λ k. option_tree k ≡ kind_meant (named name.now (names_tree names.now))) }
+    ensures { IfOk result (λ k. option_tree k
+        ≡ kind_meant (named name.now (names_tree names.now))) }
 {
     match names.get(name) {
         Some(Meaning::Type(Some(kind))) => Ok(Some(copy_kind(alloc, kind)?)),
@@ -150,8 +160,11 @@ fn check_named(
     progress: &mut Progress,
 ) -> Result<Option<Kind>, AllocError>
     ensures at { OnOk result (progress.new.at ≡ progress.old.at) }
-    ensures faults { OnOk result (AreNoted progress.old progress.new (where_wrong (not (is_type (named name.now (names_tree names.now)))) at 10 ++ rule.overweight at (kind_meant (named name.now (names_tree names.now))))) }
-    ensures kind { IfOk result (λ k. option_tree k ≡ kind_meant (named name.now (names_tree names.now))) }
+    ensures faults { OnOk result (AreNoted progress.old progress.new
+        (where_wrong (not (is_type (named name.now (names_tree names.now)))) at 10
+        ++ rule.overweight at (kind_meant (named name.now (names_tree names.now))))) }
+    ensures kind { IfOk result (λ k. option_tree k
+        ≡ kind_meant (named name.now (names_tree names.now))) }
 {
     progress.note_if(!is_type_named(names, name), at, FaultKind::UnknownName);
     let kind = kind_named(alloc, names, name)?;
@@ -195,8 +208,10 @@ pub fn check_type(
 ) -> Result<Option<Kind>, AllocError>
     requires room { progress.old.at + type_size (view_type tree.now) < 2 ^ 32 }
     ensures at { OnOk result (progress.new.at ≡ progress.old.at + type_size (view_type tree.now)) }
-    ensures faults { OnOk result (AreNoted progress.old progress.new (rule.type_faults (names_tree names.now) progress.old.at (view_type tree.now))) }
-    ensures kind { IfOk result (λ k. option_tree k ≡ rule.kind_of (names_tree names.now) (view_type tree.now)) }
+    ensures faults { OnOk result (AreNoted progress.old progress.new
+        (rule.type_faults (names_tree names.now) progress.old.at (view_type tree.now))) }
+    ensures kind { IfOk result (λ k. option_tree k
+        ≡ rule.kind_of (names_tree names.now) (view_type tree.now)) }
 {
     let at = progress.at;
     match tree {

@@ -35,7 +35,9 @@ pub(crate) enum MessageSource<'a> {
 }
 
 fn next_with<'a>(items: &mut Iter<'a, Signed>, sign: Sign) -> Option<&'a Message>
-    ensures count { (message : MessageValue) → count_as sign message items.old ≡ count_next message result + count_as sign message items.new }
+    ensures count { (message : MessageValue)
+        → count_as sign message items.old ≡ count_next message result
+        + count_as sign message items.new }
     ensures none { IfNone result ((message : MessageValue) → count_as sign message items.new ≡ 0) }
     ensures less { size_next result + length items.new ≤ length items.old }
 {
@@ -48,7 +50,9 @@ fn next_with<'a>(items: &mut Iter<'a, Signed>, sign: Sign) -> Option<&'a Message
 }
 
 fn next_input<'a>(items: &mut Iter<'a, Done>) -> Option<&'a Message>
-    ensures count { (message : MessageValue) → count_inputs message items.old ≡ count_next message result + count_inputs message items.new }
+    ensures count { (message : MessageValue)
+        → count_inputs message items.old ≡ count_next message result
+        + count_inputs message items.new }
     ensures none { IfNone result ((message : MessageValue) → count_inputs message items.new ≡ 0) }
     ensures less { size_next result + length items.new ≤ length items.old }
 {
@@ -65,8 +69,11 @@ fn next_input<'a>(items: &mut Iter<'a, Done>) -> Option<&'a Message>
 
 impl<'a> Antimessages<'a> {
     fn take(&mut self) -> Option<&'a Message>
-        ensures count { (message : MessageValue) → count_sendings message self.old ≡ count_next message result + count_sendings message self.new }
-        ensures none { IfNone result ((message : MessageValue) → count_sendings message self.new ≡ 0) }
+        ensures count { (message : MessageValue)
+            → count_sendings message self.old ≡ count_next message result
+            + count_sendings message self.new }
+        ensures none { IfNone result
+            ((message : MessageValue) → count_sendings message self.new ≡ 0) }
         ensures less { size_next result + size_sendings self.new ≤ size_sendings self.old }
     {
         loop {
@@ -85,28 +92,35 @@ impl<'a> Antimessages<'a> {
 
 impl<'a> MessageSource<'a> {
     pub(crate) fn with_sign(items: Iter<'a, Signed>, sign: Sign) -> MessageSource<'a>
-        ensures { (message : MessageValue) → count_source message result ≡ count_as sign message items.entry }
+        ensures { (message : MessageValue)
+            → count_source message result ≡ count_as sign message items.entry }
     {
         MessageSource::WithSign(OfSign { items, sign })
     }
 
     pub(crate) fn inputs(items: Iter<'a, Done>) -> MessageSource<'a>
-        ensures { (message : MessageValue) → count_source message result ≡ count_inputs message items.entry }
+        ensures { (message : MessageValue)
+            → count_source message result ≡ count_inputs message items.entry }
     {
         MessageSource::Inputs(items)
     }
 
     // Of what is left of one done turn, and of other done turns.
     pub(crate) fn antimessages(turn: Iter<'a, Signed>, rest: Iter<'a, Done>) -> MessageSource<'a>
-        ensures { (message : MessageValue) → count_source message result ≡ count_as Minus message turn.entry + count_turns message rest.entry }
+        ensures { (message : MessageValue)
+            → count_source message result ≡ count_as Minus message turn.entry
+            + count_turns message rest.entry }
     {
         MessageSource::Turns(Antimessages { turn, rest })
     }
 
     #[inline(always)]
     fn take(&mut self) -> Option<&'a Message>
-        ensures count { (message : MessageValue) → count_source message self.old ≡ count_next message result + count_source message self.new }
-        ensures none { IfNone result ((message : MessageValue) → count_source message self.new ≡ 0) }
+        ensures count { (message : MessageValue)
+            → count_source message self.old ≡ count_next message result
+            + count_source message self.new }
+        ensures none { IfNone result
+            ((message : MessageValue) → count_source message self.new ≡ 0) }
         ensures less { size_next result + size_source self.new ≤ size_source self.old }
     {
         match self {
@@ -121,7 +135,8 @@ impl<'a> MessageSource<'a> {
 // Whether both are the same message, or neither is there.
 #[inline(always)]
 fn is_same_next(one: Option<&Message>, other: Option<&Message>) -> bool
-    ensures { result ≡ true → (message : MessageValue) → count_next message one.entry ≡ count_next message other.entry }
+    ensures { result ≡ true → (message : MessageValue)
+        → count_next message one.entry ≡ count_next message other.entry }
 {
     match one {
         None => other.is_none(),
@@ -135,8 +150,13 @@ fn is_same_next(one: Option<&Message>, other: Option<&Message>) -> bool
 // Whether both are the same message; nothing where neither is there.
 #[inline(always)]
 fn compare(one: Option<&Message>, other: Option<&Message>) -> Option<bool>
-    ensures some { IfSome result (λ same. same ≡ true → (message : MessageValue) → count_next message one.entry ≡ count_next message other.entry) }
-    ensures none { IfNone result ((size_next one.entry ≡ 0) × (size_next other.entry ≡ 0) × ((message : MessageValue) → count_next message one.entry ≡ count_next message other.entry)) }
+    ensures some { IfSome result
+        (λ same. same ≡ true → (message : MessageValue)
+        → count_next message one.entry ≡ count_next message other.entry) }
+    ensures none { IfNone result
+        ((size_next one.entry ≡ 0) × (size_next other.entry ≡ 0)
+        × ((message : MessageValue)
+        → count_next message one.entry ≡ count_next message other.entry)) }
     ensures there { IsSome result → 0 < size_next one.entry + size_next other.entry }
 {
     if one.is_none() && other.is_none() {
@@ -148,9 +168,16 @@ fn compare(one: Option<&Message>, other: Option<&Message>) -> Option<bool>
 // Both sources lose their next message; whether that was the same one.
 #[inline(always)]
 fn next_pair(left: &mut MessageSource<'_>, right: &mut MessageSource<'_>) -> Option<bool>
-    ensures some { IfSome result (λ same. same ≡ true → (message : MessageValue) → count_source message left.old + count_source message right.new ≡ count_source message right.old + count_source message left.new) }
-    ensures none { IfNone result ((message : MessageValue) → count_source message left.old ≡ count_source message right.old) }
-    ensures less { IsSome result → size_source left.new + size_source right.new < size_source left.old + size_source right.old }
+    ensures some { IfSome result
+        (λ same. same ≡ true → (message : MessageValue)
+        → count_source message left.old + count_source message right.new
+        ≡ count_source message right.old + count_source message left.new) }
+    ensures none { IfNone result
+        ((message : MessageValue)
+        → count_source message left.old ≡ count_source message right.old) }
+    ensures less { IsSome result
+        → size_source left.new + size_source right.new < size_source left.old
+        + size_source right.old }
 {
     let one = left.take();
     let other = right.take();
@@ -160,7 +187,8 @@ fn next_pair(left: &mut MessageSource<'_>, right: &mut MessageSource<'_>) -> Opt
 // Whether two sources give the same messages in the same order; then each has every message as often as the other.
 #[inline(always)]
 pub(crate) fn same_messages(left: &mut MessageSource<'_>, right: &mut MessageSource<'_>) -> bool
-    ensures { result ≡ true → (message : MessageValue) → count_source message left.old ≡ count_source message right.old }
+    ensures { result ≡ true → (message : MessageValue)
+        → count_source message left.old ≡ count_source message right.old }
 {
     while let Some(is_same) = next_pair(left, right) {
         if !is_same {
@@ -173,7 +201,9 @@ pub(crate) fn same_messages(left: &mut MessageSource<'_>, right: &mut MessageSou
 // Whether the right source begins with all that the left one gives, in the same order. The right one loses it.
 #[inline(always)]
 fn begins_with(left: &mut MessageSource<'_>, right: &mut MessageSource<'_>) -> bool
-    ensures { result ≡ true → (message : MessageValue) → count_source message right.old ≡ count_source message left.old + count_source message right.new }
+    ensures { result ≡ true → (message : MessageValue)
+        → count_source message right.old ≡ count_source message left.old
+        + count_source message right.new }
 {
     while let Some(message) = left.take() {
         if !is_same_next(Some(message), right.take()) {
@@ -190,7 +220,9 @@ pub(crate) fn are_joined(
     second: &mut MessageSource<'_>,
     whole: &mut MessageSource<'_>,
 ) -> bool
-    ensures { result ≡ true → (message : MessageValue) → count_source message whole.old ≡ count_source message first.old + count_source message second.old }
+    ensures { result ≡ true → (message : MessageValue)
+        → count_source message whole.old ≡ count_source message first.old
+        + count_source message second.old }
 {
     begins_with(first, whole) && same_messages(second, whole)
 }
@@ -215,15 +247,19 @@ struct Peeked<'a> {
 
 impl<'a> Peeked<'a> {
     fn new(mut rest: MessageSource<'a>) -> Peeked<'a>
-        ensures { (message : MessageValue) → count_peeked message result ≡ count_source message rest.entry }
+        ensures { (message : MessageValue)
+            → count_peeked message result ≡ count_source message rest.entry }
     {
         let next = rest.take();
         Peeked { next, rest }
     }
 
     fn take(&mut self) -> Option<&'a Message>
-        ensures count { (message : MessageValue) → count_peeked message self.old ≡ count_next message result + count_peeked message self.new }
-        ensures none { IfNone result ((message : MessageValue) → count_peeked message self.new ≡ 0) }
+        ensures count { (message : MessageValue)
+            → count_peeked message self.old ≡ count_next message result
+            + count_peeked message self.new }
+        ensures none { IfNone result
+            ((message : MessageValue) → count_peeked message self.new ≡ 0) }
         ensures less { size_next result + size_peeked self.new ≤ size_peeked self.old }
     {
         match self.next {
@@ -267,7 +303,9 @@ impl<'a> MergedMessages<'a> {
         second: MessageSource<'a>,
         third: MessageSource<'a>,
     ) -> MergedMessages<'a>
-        ensures { (message : MessageValue) → count_merged message result ≡ count_source message first.entry + count_source message second.entry + count_source message third.entry }
+        ensures { (message : MessageValue)
+            → count_merged message result ≡ count_source message first.entry
+            + count_source message second.entry + count_source message third.entry }
     {
         MergedMessages {
             first: Peeked::new(first),
@@ -291,7 +329,9 @@ impl<'a> MergedMessages<'a> {
     }
 
     fn take_least(&mut self) -> Option<&'a Message>
-        ensures count { (message : MessageValue) → count_merged message self.old ≡ count_next message result + count_merged message self.new }
+        ensures count { (message : MessageValue)
+            → count_merged message self.old ≡ count_next message result
+            + count_merged message self.new }
         ensures less { size_next result + size_merged self.new ≤ size_merged self.old }
     {
         match self.least() {
@@ -302,8 +342,11 @@ impl<'a> MergedMessages<'a> {
     }
 
     fn take(&mut self) -> Option<&'a Message>
-        ensures count { (message : MessageValue) → count_merged message self.old ≡ count_next message result + count_merged message self.new }
-        ensures none { IfNone result ((message : MessageValue) → count_merged message self.new ≡ 0) }
+        ensures count { (message : MessageValue)
+            → count_merged message self.old ≡ count_next message result
+            + count_merged message self.new }
+        ensures none { IfNone result
+            ((message : MessageValue) → count_merged message self.new ≡ 0) }
         ensures less { size_next result + size_merged self.new ≤ size_merged self.old }
     {
         if let Some(message) = self.take_least() {
@@ -321,9 +364,16 @@ impl<'a> MergedMessages<'a> {
 
 // Both sides lose their next message; whether that was the same one.
 fn next_pair_merged(left: &mut MergedMessages<'_>, right: &mut MergedMessages<'_>) -> Option<bool>
-    ensures some { IfSome result (λ same. same ≡ true → (message : MessageValue) → count_merged message left.old + count_merged message right.new ≡ count_merged message right.old + count_merged message left.new) }
-    ensures none { IfNone result ((message : MessageValue) → count_merged message left.old ≡ count_merged message right.old) }
-    ensures less { IsSome result → size_merged left.new + size_merged right.new < size_merged left.old + size_merged right.old }
+    ensures some { IfSome result
+        (λ same. same ≡ true → (message : MessageValue)
+        → count_merged message left.old + count_merged message right.new
+        ≡ count_merged message right.old + count_merged message left.new) }
+    ensures none { IfNone result
+        ((message : MessageValue)
+        → count_merged message left.old ≡ count_merged message right.old) }
+    ensures less { IsSome result
+        → size_merged left.new + size_merged right.new < size_merged left.old
+        + size_merged right.old }
 {
     let one = left.take();
     let other = right.take();
@@ -335,7 +385,8 @@ pub(crate) fn same_messages_merged(
     left: &mut MergedMessages<'_>,
     right: &mut MergedMessages<'_>,
 ) -> bool
-    ensures { result ≡ true → (message : MessageValue) → count_merged message left.old ≡ count_merged message right.old }
+    ensures { result ≡ true → (message : MessageValue)
+        → count_merged message left.old ≡ count_merged message right.old }
 {
     while let Some(is_same) = next_pair_merged(left, right) {
         if !is_same {

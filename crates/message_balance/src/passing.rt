@@ -16,7 +16,8 @@ fn is_one(signed: &Signed, sign: Sign, message: &Message) -> bool
 
 // Moves over the next one that is the message with the sign; false where there is none.
 pub(crate) fn pass_one(items: &mut Iter<'_, Signed>, sign: Sign, message: &Message) -> bool
-    ensures some { result ≡ true → count_as sign message.now items.old ≡ count_as sign message.now items.new + 1 }
+    ensures some { result ≡ true
+        → count_as sign message.now items.old ≡ count_as sign message.now items.new + 1 }
     ensures none { result ≡ false → count_as sign message.now items.old ≡ 0 }
     ensures left { result ≡ false → count_as sign message.now items.new ≡ 0 }
 {
@@ -39,7 +40,9 @@ fn is_input_of(done: &Done, message: &Message) -> bool
 
 // Moves over the next one that is the input of the message; false where there is none.
 pub(crate) fn pass_input(items: &mut Iter<'_, Done>, message: &Message) -> bool
-    ensures some { result ≡ true → count_by (is_input_of message.now) items.old ≡ count_by (is_input_of message.now) items.new + 1 }
+    ensures some { result ≡ true
+        → count_by (is_input_of message.now) items.old
+        ≡ count_by (is_input_of message.now) items.new + 1 }
     ensures none { result ≡ false → count_by (is_input_of message.now) items.old ≡ 0 }
     ensures left { result ≡ false → count_by (is_input_of message.now) items.new ≡ 0 }
 {
@@ -63,7 +66,9 @@ fn is_sending_of(done: &Done, message: &Message) -> bool
 
 // Moves over the next one that is a turn by which the message was sent; false where there is none.
 pub(crate) fn pass_sending(items: &mut Iter<'_, Done>, message: &Message) -> bool
-    ensures some { result ≡ true → count_by (is_sending_of message.now) items.old ≡ count_by (is_sending_of message.now) items.new + 1 }
+    ensures some { result ≡ true
+        → count_by (is_sending_of message.now) items.old
+        ≡ count_by (is_sending_of message.now) items.new + 1 }
     ensures none { result ≡ false → count_by (is_sending_of message.now) items.old ≡ 0 }
     ensures left { result ≡ false → count_by (is_sending_of message.now) items.new ≡ 0 }
 {

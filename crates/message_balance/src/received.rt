@@ -29,7 +29,8 @@ pub(crate) struct Places<'a> {
 }
 
 fn pass_arrival(arrivals: &mut Arrivals<'_>, message: &Message) -> bool
-    ensures some { result ≡ true → count_arrivals message.now arrivals.old ≡ count_arrivals message.now arrivals.new + 1 }
+    ensures some { result ≡ true
+        → count_arrivals message.now arrivals.old ≡ count_arrivals message.now arrivals.new + 1 }
     ensures none { result ≡ false → count_arrivals message.now arrivals.old ≡ 0 }
 {
     pass_one(&mut arrivals.taken, Sign::Plus, message)
@@ -38,7 +39,8 @@ fn pass_arrival(arrivals: &mut Arrivals<'_>, message: &Message) -> bool
 }
 
 fn pass_place(places: &mut Places<'_>, message: &Message) -> bool
-    ensures some { result ≡ true → count_places message.now places.old ≡ count_places message.now places.new + 1 }
+    ensures some { result ≡ true
+        → count_places message.now places.old ≡ count_places message.now places.new + 1 }
     ensures none { result ≡ false → count_places message.now places.old ≡ 0 }
 {
     pass_input(&mut places.done, message)
@@ -52,7 +54,8 @@ fn is_taken_balanced(
     places: &mut Places<'_>,
     message: &Message,
 ) -> bool
-    ensures { result ≡ (count_arrivals message.now arrivals.old == count_places message.now places.old) }
+    ensures { result
+        ≡ (count_arrivals message.now arrivals.old == count_places message.now places.old) }
 {
     while pass_arrival(arrivals, message) {
         if !pass_place(places, message) {
@@ -130,7 +133,8 @@ impl<'a> Received<'a> {
 
     // Whether all that came is done, in the same order, and nothing waits; then each message is balanced.
     fn has_same_done(self) -> bool
-        ensures { result ≡ true → (message : MessageValue) → is_taken_balanced self.entry message ≡ true }
+        ensures { result ≡ true → (message : MessageValue)
+            → is_taken_balanced self.entry message ≡ true }
     {
         if !self.tray.is_empty() || is_something(self.pending) || is_something(self.owed) {
             return false;
@@ -145,14 +149,22 @@ impl<'a> Received<'a> {
 
     // Whether one walk along both sides finds the same messages; then each is level.
     fn has_same_messages(self) -> bool
-        ensures { result ≡ true → (message : MessageValue) → is_taken_balanced self.entry message ≡ true }
+        ensures { result ≡ true → (message : MessageValue)
+            → is_taken_balanced self.entry message ≡ true }
     {
         self.has_same_done() || self.has_same_merged()
     }
 
     // The messages that came, or are still to be removed.
     fn merged_arrivals(self) -> MergedMessages<'a>
-        ensures { (message : MessageValue) → count_merged message result ≡ count_arrivals message (record { taken = self.entry.taken.now; owed = all_of self.entry.owed.now; tray = self.entry.tray.now }) }
+        ensures { (message : MessageValue)
+            → count_merged message result
+            ≡ count_arrivals message
+            (record {
+              taken = self.entry.taken.now;
+              owed = all_of self.entry.owed.now;
+              tray = self.entry.tray.now;
+            }) }
     {
         MergedMessages::new(
             MessageSource::with_sign(self.taken.iter(), Sign::Plus),
@@ -163,7 +175,14 @@ impl<'a> Received<'a> {
 
     // Those that are done, are pending or wait.
     fn merged_places(self) -> MergedMessages<'a>
-        ensures { (message : MessageValue) → count_merged message result ≡ count_places message (record { done = all_of self.entry.done.now; pending = all_of self.entry.pending.now; tray = self.entry.tray.now }) }
+        ensures { (message : MessageValue)
+            → count_merged message result
+            ≡ count_places message
+            (record {
+              done = all_of self.entry.done.now;
+              pending = all_of self.entry.pending.now;
+              tray = self.entry.tray.now;
+            }) }
     {
         MergedMessages::new(
             MessageSource::inputs(self.done.iter()),
@@ -175,7 +194,8 @@ impl<'a> Received<'a> {
     // The same where something waits, which is rare, so that it stays a call.
     #[inline(never)]
     fn has_same_merged(self) -> bool
-        ensures { result ≡ true → (message : MessageValue) → is_taken_balanced self.entry message ≡ true }
+        ensures { result ≡ true → (message : MessageValue)
+            → is_taken_balanced self.entry message ≡ true }
     {
         let mut arrivals = self.merged_arrivals();
         let mut places = self.merged_places();

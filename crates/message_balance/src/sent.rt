@@ -30,7 +30,8 @@ pub(crate) struct SentMessages<'a> {
 }
 
 fn pass_standing(standing: &mut StandingMessages<'_>, message: &Message) -> bool
-    ensures some { result ≡ true → count_standing message.now standing.old ≡ count_standing message.now standing.new + 1 }
+    ensures some { result ≡ true
+        → count_standing message.now standing.old ≡ count_standing message.now standing.new + 1 }
     ensures none { result ≡ false → count_standing message.now standing.old ≡ 0 }
 {
     pass_one(&mut standing.standing, Sign::Plus, message)
@@ -38,7 +39,8 @@ fn pass_standing(standing: &mut StandingMessages<'_>, message: &Message) -> bool
 }
 
 fn pass_sent(sent: &mut SentMessages<'_>, message: &Message) -> bool
-    ensures some { result ≡ true → count_sent message.now sent.old ≡ count_sent message.now sent.new + 1 }
+    ensures some { result ≡ true
+        → count_sent message.now sent.old ≡ count_sent message.now sent.new + 1 }
     ensures none { result ≡ false → count_sent message.now sent.old ≡ 0 }
 {
     pass_sending(&mut sent.done, message) || pass_one(&mut sent.out, Sign::Minus, message)
@@ -49,7 +51,8 @@ fn is_sent_balanced(
     sent: &mut SentMessages<'_>,
     message: &Message,
 ) -> bool
-    ensures { result ≡ (count_standing message.now standing.old == count_sent message.now sent.old) }
+    ensures { result
+        ≡ (count_standing message.now standing.old == count_sent message.now sent.old) }
 {
     while pass_standing(standing, message) {
         if !pass_sent(sent, message) {
@@ -100,7 +103,8 @@ impl Sent<'_> {
 
     // The same of each message of a done turn.
     fn is_done_balanced(self, from: u16) -> bool
-        ensures { result ≡ list_all (is_turn_balanced self.entry from) (all_of self.entry.done.now) }
+        ensures { result ≡ list_all (is_turn_balanced self.entry from)
+            (all_of self.entry.done.now) }
     {
         let mut items = self.done.iter();
         while let Some(done) = items.next() {
@@ -122,7 +126,11 @@ impl Sent<'_> {
 
     // Whether what stands, and after it what is to leave, without an antimessage, is what the done turns sent, in the same order.
     fn is_in_order(self) -> bool
-        ensures { result ≡ true → (message : MessageValue) → count_standing message (record { standing = self.entry.standing.now; out = self.entry.out.now }) ≡ count_turns message (all_of self.entry.done.now) + count_as Minus message self.entry.out.now }
+        ensures { result ≡ true → (message : MessageValue)
+            → count_standing message
+            (record { standing = self.entry.standing.now; out = self.entry.out.now })
+            ≡ count_turns message (all_of self.entry.done.now)
+            + count_as Minus message self.entry.out.now }
     {
         if !has_none_with(self.out.iter(), Sign::Minus) {
             return false;
@@ -140,7 +148,11 @@ impl Sent<'_> {
 
     /// Whether one walk along both sides finds the same messages.
     pub fn has_same_messages(self) -> bool
-        ensures { result ≡ true → (message : MessageValue) → count_standing message (record { standing = self.entry.standing.now; out = self.entry.out.now }) ≡ count_turns message (all_of self.entry.done.now) + count_as Minus message self.entry.out.now }
+        ensures { result ≡ true → (message : MessageValue)
+            → count_standing message
+            (record { standing = self.entry.standing.now; out = self.entry.out.now })
+            ≡ count_turns message (all_of self.entry.done.now)
+            + count_as Minus message self.entry.out.now }
     {
         self.is_in_order() || self.has_same_merged()
     }
@@ -148,7 +160,11 @@ impl Sent<'_> {
     // The same where antimessages are to leave, which is rare, so that it stays a call.
     #[inline(never)]
     fn has_same_merged(self) -> bool
-        ensures { result ≡ true → (message : MessageValue) → count_standing message (record { standing = self.entry.standing.now; out = self.entry.out.now }) ≡ count_turns message (all_of self.entry.done.now) + count_as Minus message self.entry.out.now }
+        ensures { result ≡ true → (message : MessageValue)
+            → count_standing message
+            (record { standing = self.entry.standing.now; out = self.entry.out.now })
+            ≡ count_turns message (all_of self.entry.done.now)
+            + count_as Minus message self.entry.out.now }
     {
         let mut standing = MergedMessages::new(
             MessageSource::with_sign(self.standing.iter(), Sign::Plus),

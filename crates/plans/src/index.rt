@@ -42,7 +42,10 @@ impl Index {
     /// The numbers that stand at the places of an action's patterns, in order and each once.
     pub fn candidates(&self, alloc: Global, action: &Action) -> Result<Vec<u16>, NoMemory>
         ensures rise { IfOk result (λ found. IsStrictlyIncreasing found.items) }
-        ensures all { IfOk result (λ found. (mask : List Truth) (j : ℕ) → Contains (masks_in self.now.masks action.now.name) mask → IsListed self.now.numbers action.now.name (masked mask action.now.args) j → Contains found.items j) }
+        ensures all { IfOk result (λ found. (mask : List Truth) (j : ℕ)
+            → Contains (masks_in self.now.masks action.now.name) mask
+            → IsListed self.now.numbers action.now.name (masked mask action.now.args) j
+            → Contains found.items j) }
     {
         let mut found = self.listed(alloc, action)?;
         found.sort_unstable();
@@ -75,7 +78,10 @@ impl Index {
     }
 
     fn listed(&self, alloc: Global, action: &Action) -> Result<Vec<u16>, NoMemory>
-        ensures { IfOk result (λ found. (mask : List Truth) (j : ℕ) → Contains (masks_in self.now.masks action.now.name) mask → IsListed self.now.numbers action.now.name (masked mask action.now.args) j → Contains found.items j) }
+        ensures { IfOk result (λ found. (mask : List Truth) (j : ℕ)
+            → Contains (masks_in self.now.masks action.now.name) mask
+            → IsListed self.now.numbers action.now.name (masked mask action.now.args) j
+            → Contains found.items j) }
     {
         let mut found = Vec::new(alloc);
         for mask in masks_at(self.masks.as_slice(), action.name) {

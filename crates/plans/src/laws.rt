@@ -24,7 +24,10 @@ pub fn compatible(plan: &Plan)
 
 /// The action that a turn takes is a joint step of the composition, whatever states the others are in.
 pub fn turn_is_step(plan: &Plan)
-    ensures { (i task choice : ℕ) (state : ℕ → List Datum) (action : Named) → outcome_of (composition plan.now) i task choice (state i) ≡ Some action → Joint (composition plan.now) state action (λ j. applied (composition plan.now) j action (state j)) }
+    ensures { (i task choice : ℕ) (state : ℕ → List Datum) (action : Named)
+        → outcome_of (composition plan.now) i task choice (state i) ≡ Some action
+        → Joint (composition plan.now) state action
+        (λ j. applied (composition plan.now) j action (state j)) }
 {}
 
 /// Each action that an entry of a task stands for, and whose precondition holds, is listed as enabled, and listed once;
@@ -41,10 +44,15 @@ pub fn enabled_is_complete(plan: &Plan)
 /// Nobody receives its own action; each receiver is listed once and in order; the receivers are all other components that
 /// have the action as an input, and no others.
 pub fn receivers_law()
-    ensures own { (composition : List Instance) (action : Named) (sender : ℕ) → receives composition sender action sender ≡ false }
-    ensures once { (composition : List Instance) (action : Named) (sender : ℕ) → Rising 0 (receivers_of composition action sender) }
-    ensures all { (composition : List Instance) (action : Named) (sender j : ℕ) → IsIn j (receivers_of composition action sender) ≡ receives composition sender action j }
-    ensures input { (composition : List Instance) (action : Named) (sender j : ℕ) → IsIn j (receivers_of composition action sender) ≡ true → inputs composition j action ≡ true }
+    ensures own { (composition : List Instance) (action : Named) (sender : ℕ)
+        → receives composition sender action sender ≡ false }
+    ensures once { (composition : List Instance) (action : Named) (sender : ℕ)
+        → Rising 0 (receivers_of composition action sender) }
+    ensures all { (composition : List Instance) (action : Named) (sender j : ℕ)
+        → IsIn j (receivers_of composition action sender) ≡ receives composition sender action j }
+    ensures input { (composition : List Instance) (action : Named) (sender j : ℕ)
+        → IsIn j (receivers_of composition action sender) ≡ true
+        → inputs composition j action ≡ true }
 {}
 
 /// Two plans are equal exactly where they are the same composition, with the same texts of actions and of members, and where outputs of the
@@ -53,7 +61,7 @@ pub fn equal_law(a: &Plan, b: &Plan)
     ensures same { ⟦<Plan as PartialEq>⟧.eq a.now b.now ≡ true
         → (composition a.now ≡ composition b.now) × (action_texts a.now ≡ action_texts b.now)
         × (member_texts a.now ≡ member_texts b.now) × (hidden_marks a.now ≡ hidden_marks b.now) }
-    ensures equal { (composition a.now ≡ composition b.now) × (action_texts a.now ≡ action_texts b.now)
-        × (member_texts a.now ≡ member_texts b.now) × (hidden_marks a.now ≡ hidden_marks b.now)
-        → ⟦<Plan as PartialEq>⟧.eq a.now b.now ≡ true }
+    ensures equal { (composition a.now ≡ composition b.now)
+        × (action_texts a.now ≡ action_texts b.now) × (member_texts a.now ≡ member_texts b.now)
+        × (hidden_marks a.now ≡ hidden_marks b.now) → ⟦<Plan as PartialEq>⟧.eq a.now b.now ≡ true }
 {}

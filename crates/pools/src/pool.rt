@@ -28,9 +28,12 @@ impl<L: Numbered<K> + Drop, K> Pool<L, K> {
         requires once { AreOnce (map L.number_of leases.items) }
         requires alike { AreAlike L.kind_of leases.items }
         ensures count { IfOk result (λ both. length both.1.items ≡ passes) }
-        ensures passes { IfOk result (λ both. All (IsEmptyOf both.0 (map L.number_of leases.items)) both.1.items) }
-        ensures kind { IfOk result (λ both. All (λ pass. (holding pass).kind ≡ common L.kind_of leases.items) both.1.items) }
-        ensures alone { IfOk result (λ both. passes ≡ 1 → All (λ pass. (holding pass).alone ≡ true) both.1.items) }
+        ensures passes { IfOk result (λ both. All
+            (IsEmptyOf both.0 (map L.number_of leases.items)) both.1.items) }
+        ensures kind { IfOk result (λ both. All
+            (λ pass. (holding pass).kind ≡ common L.kind_of leases.items) both.1.items) }
+        ensures alone { IfOk result (λ both. passes ≡ 1
+            → All (λ pass. (holding pass).alone ≡ true) both.1.items) }
     {
         let capacity = leases.len().max(1);
         let mut places = Vec::with_capacity(alloc, usize::from(passes))?;
@@ -55,10 +58,15 @@ impl<L: Numbered<K> + Drop, K> Pool<L, K> {
     pub fn take<R: Wait>(&self, rt: &R, pass: &mut Pass<L, K>) -> Option<L>
         requires { IsOf self.now pass.old }
         ensures pass { IsOf self.now pass.new }
-        ensures some { IfSome result (λ lease. holding pass.new ≡ hand (holding pass.old).alone (holding pass.old).all (L.number_of lease ∷ (holding pass.old).held) (holding pass.old).kind) }
+        ensures some { IfSome result
+            (λ lease. holding pass.new
+            ≡ hand (holding pass.old).alone (holding pass.old).all
+            (L.number_of lease ∷ (holding pass.old).held) (holding pass.old).kind) }
         ensures kind { IfSome result (λ lease. (holding pass.old).kind ≡ Some (L.kind_of lease)) }
         ensures none { IfNone result (holding pass.new ≡ holding pass.old) }
-        ensures empty { IfNone result ((holding pass.old).alone ≡ true → length (holding pass.old).held ≡ length (holding pass.old).all) }
+        ensures empty { IfNone result
+            ((holding pass.old).alone ≡ true
+            → length (holding pass.old).held ≡ length (holding pass.old).all) }
     {
         self.queue.pop_as::<Takes<L>, R>(rt, &mut pass.pass)
     }
@@ -71,7 +79,9 @@ impl<L: Numbered<K> + Drop, K> Pool<L, K> {
         requires held { 0 < times (L.number_of lease) (holding pass.old).held }
         requires kind { (holding pass.old).kind ≡ Some (L.kind_of lease) }
         ensures pass { IsOf self.now pass.new }
-        ensures given { holding pass.new ≡ hand (holding pass.old).alone (holding pass.old).all (without (L.number_of lease) (holding pass.old).held) (holding pass.old).kind }
+        ensures given { holding pass.new
+            ≡ hand (holding pass.old).alone (holding pass.old).all
+            (without (L.number_of lease) (holding pass.old).held) (holding pass.old).kind }
     {
         let Ok(()) = self.queue.push_as::<Gives<L>, R>(rt, &mut pass.pass, lease) else {
             unreachable!()

@@ -65,7 +65,8 @@ impl<L: Numbered<K>, K> Outcome<L, Hand<K>> for Takes<L> {
     ghost use Rattle.std.specs.Prelude.{◌≡◌, ◌∷◌, Some};
     ghost use Rattle.pools.specs.Places.{hand};
 
-    ghost then = { λ v x w. (w ≡ hand v.alone v.all (L.number_of x ∷ v.held) v.kind) × (v.kind ≡ Some (L.kind_of x)) };
+    ghost then = { λ v x w. (w ≡ hand v.alone v.all (L.number_of x ∷ v.held) v.kind)
+        × (v.kind ≡ Some (L.kind_of x)) };
 }
 
 impl<L: Numbered<K>, K> Lesson<L, Hand<K>> for Takes<L> {

@@ -85,7 +85,8 @@ impl<T> Line<T> {
 
     pub(crate) fn last_mut(&mut self) -> &mut T
         requires { 0 < length self.old }
-        ensures* writes_back { sem 𝓛 (Lends (the_row T.row) T.row self.entry result (slice_set self.old (length self.old - 1))) }
+        ensures* writes_back { sem 𝓛 (Lends (the_row T.row) T.row self.entry result
+            (slice_set self.old (length self.old - 1))) }
         ensures value { result.now ≡ slice_index_or self.old (length self.old - 1) result.now }
     {
         let slot = self.strand.back_mut();

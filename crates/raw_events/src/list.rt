@@ -135,7 +135,10 @@ impl<T> EventList<T> {
 
     /// Moves all items of `other`, those before its cursor and then those after it, to the end of the items after the cursor.
     pub fn append_all(&mut self, other: &mut EventList<T>)
-        ensures rest { self.new ≡ record self.old { after = self.old.after ++ reverse other.old.before ++ other.old.after } }
+        ensures rest { self.new ≡ record self.old {
+          after = self.old.after
+              ++ reverse other.old.before ++ other.old.after;
+        } }
         ensures empty { other.new ≡ record { before = []; after = [] } }
     {
         let mut first = Line::new();
@@ -148,7 +151,11 @@ impl<T> EventList<T> {
 
     /// Moves the cursor behind all items, in one joining.
     pub fn pass_all(&mut self)
-        ensures { self.new ≡ record { before = reverse self.old.after ++ self.old.before; after = [] } }
+        ensures { self.new ≡ record {
+          before = reverse self.old.after
+              ++ self.old.before;
+          after = [];
+        } }
     {
         let mut rest = Line::new();
         swap(&mut rest, &mut self.after);
@@ -167,8 +174,10 @@ impl<T> EventList<T> {
     /// Takes the first item after the cursor that passes the test. `None` where none does, and the list then stays.
     pub fn take_where<F: Fn(&T) -> bool>(&mut self, test: F) -> Option<EventCell<T>>
         requires { F.IsAlwaysCallable test }
-        ensures taken { (p : T → Bool) → Tells (FnReturnsAt F.Fn test) p → result ≡ first_where p self.old.after }
-        ensures rest { (p : T → Bool) → Tells (FnReturnsAt F.Fn test) p → self.new ≡ record self.old { after = without_where p self.old.after } }
+        ensures taken { (p : T → Bool) → Tells (FnReturnsAt F.Fn test) p
+            → result ≡ first_where p self.old.after }
+        ensures rest { (p : T → Bool) → Tells (FnReturnsAt F.Fn test) p
+            → self.new ≡ record self.old { after = without_where p self.old.after } }
         ensures kept { IfNone result (self.new ≡ self.old) }
     {
         self.after.take_where(test)
@@ -179,7 +188,8 @@ impl<T> EventList<T> {
     where
         T: PartialEq,
         ensures taken { result ≡ first_equal T.eq value.now self.old.after }
-        ensures rest { self.new ≡ record self.old { after = without_first T.eq value.now self.old.after } }
+        ensures rest { self.new
+            ≡ record self.old { after = without_first T.eq value.now self.old.after } }
         ensures kept { IfNone result (self.new ≡ self.old) }
     {
         self.take_where(|item| item.eq(value))

@@ -18,7 +18,8 @@ impl<T> Line<T> {
     fn first_fails<F: Fn(&T) -> bool>(&self, test: &F) -> bool
         requires { F.IsAlwaysCallable test.now }
         ensures some { IsTrue result → 0 < length self.now }
-        ensures told { (p : T → Bool) → Tells (FnReturnsAt F.Fn test.now) p → result ≡ first_fails p self.now }
+        ensures told { (p : T → Bool) → Tells (FnReturnsAt F.Fn test.now) p
+            → result ≡ first_fails p self.now }
     {
         !self.is_empty() && !test(self.first())
     }
@@ -39,8 +40,10 @@ impl<T> Line<T> {
 
     pub(crate) fn take_where<F: Fn(&T) -> bool>(&mut self, test: F) -> Option<EventCell<T>>
         requires { F.IsAlwaysCallable test }
-        ensures taken { (p : T → Bool) → Tells (FnReturnsAt F.Fn test) p → result ≡ first_where p self.old }
-        ensures rest { (p : T → Bool) → Tells (FnReturnsAt F.Fn test) p → self.new ≡ without_where p self.old }
+        ensures taken { (p : T → Bool) → Tells (FnReturnsAt F.Fn test) p
+            → result ≡ first_where p self.old }
+        ensures rest { (p : T → Bool) → Tells (FnReturnsAt F.Fn test) p
+            → self.new ≡ without_where p self.old }
         ensures kept { IfNone result (self.new ≡ self.old) }
     {
         let mut passed = Line::new();

@@ -26,7 +26,9 @@ pub enum Verdict {
 
 // The start state of each component.
 fn start_states(alloc: Global, plan: &Plan) -> Result<Vec<State>, NoMemory>
-    ensures { IfOk result (λ states. states.items ≡ map (start_of (composition plan.now)) (range_with_len 0 (length (composition plan.now)))) }
+    ensures { IfOk result (λ states. states.items
+        ≡ map (start_of (composition plan.now))
+        (range_with_len 0 (length (composition plan.now)))) }
 {
     let mut states = Vec::new(alloc);
     for i in 0..plan.components() {
@@ -92,7 +94,9 @@ fn take_action(
     requires many { length states.old ≡ length (composition plan.now) }
     requires takers { takers.now ≡ takers_of (composition plan.now) action.now }
     ensures many { length states.new ≡ length states.old }
-    ensures taken { OnOk result ((i : ℕ) → state_at states.new i ≡ applied (composition plan.now) i action.now (state_at states.old i)) }
+    ensures taken { OnOk result ((i : ℕ)
+        → state_at states.new i
+        ≡ applied (composition plan.now) i action.now (state_at states.old i)) }
 {
     for i in takers {
         plan.apply(alloc, *i, action, &mut states[usize::from(*i)])?;
@@ -158,7 +162,8 @@ fn step_of(
 /// `NoMemory`.
 pub fn check_run(alloc: Global, plan: &Plan, actions: &[Action]) -> Result<Verdict, NoMemory>
     ensures sound { IfOk result (λ verdict. IsVerdict (composition plan.now) actions.now verdict) }
-    ensures exact { (verdict : Verdict) → IsVerdict (composition plan.now) actions.now verdict → IfOk result (λ found. found ≡ verdict) }
+    ensures exact { (verdict : Verdict) → IsVerdict (composition plan.now) actions.now verdict
+        → IfOk result (λ found. found ≡ verdict) }
 {
     let mut states = start_states(alloc, plan)?;
     for (at, action) in actions.iter().enumerate() {
@@ -173,5 +178,6 @@ pub fn check_run(alloc: Global, plan: &Plan, actions: &[Action]) -> Result<Verdi
 
 /// A list of actions has one verdict.
 pub fn verdict_is_one()
-    ensures { (composition : List Instance) (actions : List Named) (a b : Verdict) → IsVerdict composition actions a → IsVerdict composition actions b → a ≡ b }
+    ensures { (composition : List Instance) (actions : List Named) (a b : Verdict)
+        → IsVerdict composition actions a → IsVerdict composition actions b → a ≡ b }
 {}

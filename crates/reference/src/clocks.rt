@@ -19,7 +19,8 @@ pub(crate) struct Clocks {
 impl Clocks {
     /// Each has reached the first turn.
     pub(crate) fn new<T: Turns>(alloc: Global, setup: &Setup<T>) -> Result<Clocks, NoMemory>
-        ensures { IfOk result (λ c. (n : ℕ) → AreClocks T.turn_of setup.now (replicate n 0) c.clocks.items) }
+        ensures { IfOk result (λ c. (n : ℕ)
+            → AreClocks T.turn_of setup.now (replicate n 0) c.clocks.items) }
     {
         let mut clocks = Vec::new(alloc);
         for i in 0..setup.plan().components() {
@@ -54,10 +55,12 @@ impl Clocks {
         requires within { key.component < length (composition (plan_of setup.now)) }
         requires number { slice_index_or numbers.now key.component 0 ≡ key.number }
         requires clocks { AreClocks T.turn_of setup.now numbers.now self.old.clocks.items }
-        ensures key { let n = key.number + 1 in IfOk result (λ next. next ≡ key_of (system T.turn_of setup.now) key.component n) }
+        ensures key { let n = key.number + 1 in
+            IfOk result (λ next. next ≡ key_of (system T.turn_of setup.now) key.component n) }
         ensures small { IfOk result (λ next. IfSome next (λ next. next.number < 4294967296)) }
         ensures clocks { AreClocks T.turn_of setup.now numbers.now self.new.clocks.items }
-        ensures reached { OnOk result (AreClocks T.turn_of setup.now (slice_set numbers.now key.component (key.number + 1)) self.new.clocks.items) }
+        ensures reached { OnOk result (AreClocks T.turn_of setup.now
+            (slice_set numbers.now key.component (key.number + 1)) self.new.clocks.items) }
     {
         self.clocks[usize::from(key.component)].reach_after(setup, key)
     }

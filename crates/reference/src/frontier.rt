@@ -78,7 +78,9 @@ fn first_numbers(alloc: Global, count: u16) -> Result<Vec<u64>, NoMemory>
 }
 
 fn start_states(alloc: Global, plan: &Plan) -> Result<Vec<Store>, NoMemory>
-    ensures { IfOk result (λ states. states.items ≡ map (λ i. plain (start_of (composition plan.now) i)) (range_with_len 0 (length (composition plan.now)))) }
+    ensures { IfOk result (λ states. states.items
+        ≡ map (λ i. plain (start_of (composition plan.now) i))
+        (range_with_len 0 (length (composition plan.now)))) }
 {
     let mut states = Vec::new(alloc);
     for i in 0..plan.components() {
@@ -131,9 +133,13 @@ fn move_on(places: &mut [u64], numbers: &mut [u64], key: Key, next: Option<Key>)
 impl Frontier {
     /// No turn was taken.
     pub(crate) fn start<T: Turns>(alloc: Global, setup: &Setup<T>) -> Result<Frontier, NoMemory>
-        ensures stands { IfOk result (λ frontier. IsBeforeLeast (system T.turn_of setup.now) frontier.places.items frontier.numbers.items frontier.states.items) }
-        ensures none { IfOk result (λ frontier. taken_at (system T.turn_of setup.now) frontier.places.items frontier.numbers.items ≡ []) }
-        ensures clocks { IfOk result (λ f. AreClocks T.turn_of setup.now f.numbers.items f.clocks.clocks.items) }
+        ensures stands { IfOk result (λ frontier. IsBeforeLeast
+            (system T.turn_of setup.now) frontier.places.items frontier.numbers.items
+            frontier.states.items) }
+        ensures none { IfOk result (λ frontier. taken_at
+            (system T.turn_of setup.now) frontier.places.items frontier.numbers.items ≡ []) }
+        ensures clocks { IfOk result
+            (λ f. AreClocks T.turn_of setup.now f.numbers.items f.clocks.clocks.items) }
     {
         machine_is_lawful(setup);
         reference_is_one::<State, Action>();
@@ -157,14 +163,24 @@ impl Frontier {
         alloc: Global,
         setup: &Setup<T>,
     ) -> Result<Option<Turned>, NoMemory>
-        requires stands { IsBeforeLeast (system T.turn_of setup.now) self.old.places.items self.old.numbers.items self.old.states.items }
-        requires clocks { AreClocks T.turn_of setup.now self.old.numbers.items self.old.clocks.clocks.items }
-        ensures stands { IsBeforeLeast (system T.turn_of setup.now) self.new.places.items self.new.numbers.items self.new.states.items }
-        ensures clocks { AreClocks T.turn_of setup.now self.new.numbers.items self.new.clocks.clocks.items }
-        ensures ok { IfOk result (λ turn. IsNextTurn (machine (system T.turn_of setup.now)) (taken_at (system T.turn_of setup.now) self.old.places.items self.old.numbers.items) turn (taken_at (system T.turn_of setup.now) self.new.places.items self.new.numbers.items)) }
+        requires stands { IsBeforeLeast
+            (system T.turn_of setup.now) self.old.places.items self.old.numbers.items
+            self.old.states.items }
+        requires clocks { AreClocks T.turn_of setup.now self.old.numbers.items
+            self.old.clocks.clocks.items }
+        ensures stands { IsBeforeLeast
+            (system T.turn_of setup.now) self.new.places.items self.new.numbers.items
+            self.new.states.items }
+        ensures clocks { AreClocks T.turn_of setup.now self.new.numbers.items
+            self.new.clocks.clocks.items }
+        ensures ok { IfOk result (λ turn. IsNextTurn (machine (system T.turn_of setup.now))
+            (taken_at (system T.turn_of setup.now) self.old.places.items self.old.numbers.items)
+            turn (taken_at
+            (system T.turn_of setup.now) self.new.places.items self.new.numbers.items)) }
         ensures err_places { OnErr result (self.new.places.items ≡ self.old.places.items) }
         ensures err_numbers { OnErr result (self.new.numbers.items ≡ self.old.numbers.items) }
-        ensures whole { IsComplete (machine (system T.turn_of setup.now)) (taken_at (system T.turn_of setup.now) self.new.places.items self.new.numbers.items) }
+        ensures whole { IsComplete (machine (system T.turn_of setup.now))
+            (taken_at (system T.turn_of setup.now) self.new.places.items self.new.numbers.items) }
     {
         let mut found = None;
         let key = self.take_next_into(alloc, setup, &mut found)?;
@@ -179,16 +195,26 @@ impl Frontier {
         setup: &Setup<T>,
         found: &mut Option<Action>,
     ) -> Result<Option<Key>, NoMemory>
-        requires stands { IsBeforeLeast (system T.turn_of setup.now) self.old.places.items self.old.numbers.items self.old.states.items }
-        requires clocks { AreClocks T.turn_of setup.now self.old.numbers.items self.old.clocks.clocks.items }
-        ensures stands { IsBeforeLeast (system T.turn_of setup.now) self.new.places.items self.new.numbers.items self.new.states.items }
-        ensures clocks { AreClocks T.turn_of setup.now self.new.numbers.items self.new.clocks.clocks.items }
-        ensures ok { IfOk result (λ key. IsNextTurn (machine (system T.turn_of setup.now)) (taken_at (system T.turn_of setup.now) self.old.places.items self.old.numbers.items) (option_map (turned_of found.new) key) (taken_at (system T.turn_of setup.now) self.new.places.items self.new.numbers.items)) }
+        requires stands { IsBeforeLeast
+            (system T.turn_of setup.now) self.old.places.items self.old.numbers.items
+            self.old.states.items }
+        requires clocks { AreClocks T.turn_of setup.now self.old.numbers.items
+            self.old.clocks.clocks.items }
+        ensures stands { IsBeforeLeast
+            (system T.turn_of setup.now) self.new.places.items self.new.numbers.items
+            self.new.states.items }
+        ensures clocks { AreClocks T.turn_of setup.now self.new.numbers.items
+            self.new.clocks.clocks.items }
+        ensures ok { IfOk result (λ key. IsNextTurn (machine (system T.turn_of setup.now))
+            (taken_at (system T.turn_of setup.now) self.old.places.items self.old.numbers.items)
+            (option_map (turned_of found.new) key)
+            (taken_at (system T.turn_of setup.now) self.new.places.items self.new.numbers.items)) }
         ensures last { IfOk result (λ key. IfNone key (found.new ≡ None)) }
         ensures err_places { OnErr result (self.new.places.items ≡ self.old.places.items) }
         ensures err_numbers { OnErr result (self.new.numbers.items ≡ self.old.numbers.items) }
         ensures err_found { OnErr result (found.new ≡ None) }
-        ensures whole { IsComplete (machine (system T.turn_of setup.now)) (taken_at (system T.turn_of setup.now) self.new.places.items self.new.numbers.items) }
+        ensures whole { IsComplete (machine (system T.turn_of setup.now))
+            (taken_at (system T.turn_of setup.now) self.new.places.items self.new.numbers.items) }
     {
         machine_is_lawful(setup);
         reference_is_one::<State, Action>();

@@ -23,11 +23,17 @@ fn take_all<T: Turns>(
     setup: &Setup<T>,
     frontier: &mut Frontier,
 ) -> Result<Vec<Turned>, NoMemory>
-    requires stands { IsBeforeLeast (system T.turn_of setup.now) frontier.old.places.items frontier.old.numbers.items frontier.old.states.items }
-    requires clocks { AreClocks T.turn_of setup.now frontier.old.numbers.items frontier.old.clocks.clocks.items }
-    requires none { taken_at (system T.turn_of setup.now) frontier.old.places.items frontier.old.numbers.items ≡ [] }
-    ensures reference { IfOk result (λ turns. IsReference (machine (system T.turn_of setup.now)) end_rank (turns_of turns.items)) }
-    ensures turns { IfOk result (λ turns. turns_of turns.items ≡ reference_below (machine (system T.turn_of setup.now)) end_rank) }
+    requires stands { IsBeforeLeast
+        (system T.turn_of setup.now) frontier.old.places.items frontier.old.numbers.items
+        frontier.old.states.items }
+    requires clocks { AreClocks T.turn_of setup.now frontier.old.numbers.items
+        frontier.old.clocks.clocks.items }
+    requires none { taken_at
+        (system T.turn_of setup.now) frontier.old.places.items frontier.old.numbers.items ≡ [] }
+    ensures reference { IfOk result (λ turns. IsReference
+        (machine (system T.turn_of setup.now)) end_rank (turns_of turns.items)) }
+    ensures turns { IfOk result (λ turns. turns_of turns.items
+        ≡ reference_below (machine (system T.turn_of setup.now)) end_rank) }
 {
     machine_is_lawful(setup);
     reference_is_one::<State, Action>();
@@ -41,8 +47,10 @@ fn take_all<T: Turns>(
 
 /// All turns up to the horizon, in the order of their keys. One state of each component is kept, and all turns.
 pub fn schedule<T: Turns>(alloc: Global, setup: &Setup<T>) -> Result<Vec<Turned>, NoMemory>
-    ensures reference { IfOk result (λ turns. IsReference (machine (system T.turn_of setup.now)) end_rank (turns_of turns.items)) }
-    ensures all { IfOk result (λ turns. AreAllTurns (plan_of setup.now) (system T.turn_of setup.now) turns.items) }
+    ensures reference { IfOk result (λ turns. IsReference
+        (machine (system T.turn_of setup.now)) end_rank (turns_of turns.items)) }
+    ensures all { IfOk result (λ turns. AreAllTurns (plan_of setup.now)
+        (system T.turn_of setup.now) turns.items) }
 {
     turns_are_schedule(setup);
     let mut frontier = Frontier::start(alloc, setup)?;

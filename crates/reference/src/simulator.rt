@@ -34,16 +34,25 @@ impl<T: Turns> Model for Reference<T> {
 
     ghost Value = { Ran (Setup T) };
 
-    ghost coded = { Prim.hlevel (codes, shape.the_row.coded, term.the_row.coded, effect.the_row.coded, datum_code) };
+    ghost coded = { Prim.hlevel
+        (codes, shape.the_row.coded, term.the_row.coded, effect.the_row.coded, datum_code) };
 
     ghost use Rattle.task_seed.specs.Setups.{system};
     ghost use Rattle.reference.specs.Clocks.{AreClocks};
     ghost use Rattle.reference.specs.Standing.{taken_at, IsBeforeLeast};
 
-    ghost view = { λ r. record { setup = arc_value r.setup; taken = taken_at (system T.turn_of (arc_value r.setup)) r.frontier.places.items r.frontier.numbers.items } };
+    ghost view = { λ r. record {
+      setup = arc_value r.setup;
+      taken = taken_at
+          (system T.turn_of (arc_value r.setup)) r.frontier.places.items r.frontier.numbers.items;
+    } };
 
-    ghost invariant = { λ r. IsBeforeLeast (system T.turn_of (arc_value r.setup)) r.frontier.places.items r.frontier.numbers.items r.frontier.states.items
-        × AreClocks T.turn_of (arc_value r.setup) r.frontier.numbers.items r.frontier.clocks.clocks.items };
+    ghost invariant = { λ r. IsBeforeLeast
+        (system T.turn_of
+        (arc_value r.setup)) r.frontier.places.items r.frontier.numbers.items
+        r.frontier.states.items
+        × AreClocks T.turn_of
+        (arc_value r.setup) r.frontier.numbers.items r.frontier.clocks.clocks.items };
 }
 
 impl<T: Turns> Reference<T> {
@@ -73,7 +82,8 @@ impl<T: Turns> Reference<T> {
     /// `NoMemory`; then no turn was taken, and the next call takes the same one.
     #[inline]
     pub fn step(&mut self, alloc: Global) -> Result<Option<Turned>, NoMemory>
-        ensures ok { IfOk result (λ turn. IsNextTurn (machine (system T.turn_of self.old.setup)) self.old.taken turn self.new.taken) }
+        ensures ok { IfOk result (λ turn. IsNextTurn
+            (machine (system T.turn_of self.old.setup)) self.old.taken turn self.new.taken) }
         ensures err { OnErr result (self.new.taken ≡ self.old.taken) }
         ensures setup { self.new.setup ≡ self.old.setup }
         ensures whole { IsComplete (machine (system T.turn_of self.old.setup)) self.new.taken }
@@ -93,7 +103,8 @@ impl<T: Turns> Reference<T> {
         alloc: Global,
         found: &mut Option<Action>,
     ) -> Result<Option<Key>, NoMemory>
-        ensures ok { IfOk result (λ key. IsNextTurn (machine (system T.turn_of self.old.setup)) self.old.taken
+        ensures ok { IfOk result (λ key. IsNextTurn
+            (machine (system T.turn_of self.old.setup)) self.old.taken
             (option_map (turned_of found.new) key) self.new.taken) }
         ensures last { IfOk result (λ key. IfNone key (found.new ≡ None)) }
         ensures err { OnErr result (self.new.taken ≡ self.old.taken) }

@@ -46,7 +46,8 @@ fn reach(
     action: &Action,
     state: &mut Store,
 ) -> Result<(), NoMemory>
-    ensures ok { OnOk result (state.new ≡ reaching (composition plan.now) i action.now j state.old) }
+    ensures ok { OnOk result (state.new
+        ≡ reaching (composition plan.now) i action.now j state.old) }
     ensures err { OnErr result (state.new ≡ state.old) }
 {
     if j == i {
@@ -148,7 +149,8 @@ fn take_action(
     requires own { i < length states.old }
     requires once { Distinct among.now }
     requires within { (j : ℕ) → IsIn j among.now ≡ true → j < length states.old }
-    requires plain { (j : ℕ) (state : States) → slice_get states.old j ≡ Some state → state.below ≡ [] }
+    requires plain { (j : ℕ) (state : States) → slice_get states.old j ≡ Some state
+        → state.below ≡ [] }
     ensures ok { OnOk result ((j : ℕ) → slice_get states.new j ≡ option_map
         (taking (composition plan.now) i action.now among.now j) (slice_get states.old j)) }
     ensures many { length states.new ≡ length states.old }
@@ -178,11 +180,15 @@ pub(crate) fn take_turn<T: Turns>(
     requires turn { Some turn ≡ turn_in (system T.turn_of setup.now) key.component key.number }
     requires within { key.component < length (composition (plan_of setup.now)) }
     requires many { length states.old ≡ length (composition (plan_of setup.now)) }
-    requires plain { (j : ℕ) (state : States) → slice_get states.old j ≡ Some state → state.below ≡ [] }
-    ensures found { OnOk result (IfSome (slice_get states.old key.component) (λ state.
-        found.new ≡ turn_outcome (system T.turn_of setup.now) key.component key.number state.current)) }
-    ensures states { OnOk result ((j : ℕ) → slice_get states.new j ≡ option_map
-        (joining (machine (system T.turn_of setup.now)) key.component found.new j) (slice_get states.old j)) }
+    requires plain { (j : ℕ) (state : States) → slice_get states.old j ≡ Some state
+        → state.below ≡ [] }
+    ensures found { OnOk result (IfSome (slice_get states.old key.component)
+        (λ state. found.new
+        ≡ turn_outcome (system T.turn_of setup.now) key.component key.number state.current)) }
+    ensures states { OnOk result ((j : ℕ)
+        → slice_get states.new j
+        ≡ option_map (joining (machine (system T.turn_of setup.now)) key.component found.new j)
+        (slice_get states.old j)) }
     ensures many { length states.new ≡ length states.old }
     ensures err { OnErr result (states.new ≡ states.old) }
     ensures none { OnErr result (found.new ≡ None) }
@@ -215,7 +221,8 @@ fn act<T: Turns>(
 ) -> Result<(), NoMemory>
     requires within { i < length (composition (plan_of setup.now)) }
     requires many { length states.old ≡ length (composition (plan_of setup.now)) }
-    requires plain { (j : ℕ) (state : States) → slice_get states.old j ≡ Some state → state.below ≡ [] }
+    requires plain { (j : ℕ) (state : States) → slice_get states.old j ≡ Some state
+        → state.below ≡ [] }
     ensures found { OnOk result (found.new ≡ found.old) }
     ensures states { OnOk result ((j : ℕ) → slice_get states.new j ≡ option_map
         (joining (machine (system T.turn_of setup.now)) i found.old j) (slice_get states.old j)) }
@@ -244,9 +251,12 @@ fn take_by_all<T: Turns>(
 ) -> Result<(), NoMemory>
     requires within { i < length (composition (plan_of setup.now)) }
     requires many { length states.old ≡ length (composition (plan_of setup.now)) }
-    requires plain { (j : ℕ) (state : States) → slice_get states.old j ≡ Some state → state.below ≡ [] }
-    ensures ok { OnOk result ((j : ℕ) → slice_get states.new j ≡ option_map
-        (joining (machine (system T.turn_of setup.now)) i (Some action.now) j) (slice_get states.old j)) }
+    requires plain { (j : ℕ) (state : States) → slice_get states.old j ≡ Some state
+        → state.below ≡ [] }
+    ensures ok { OnOk result ((j : ℕ)
+        → slice_get states.new j
+        ≡ option_map (joining (machine (system T.turn_of setup.now)) i (Some action.now) j)
+        (slice_get states.old j)) }
     ensures many { length states.new ≡ length states.old }
     ensures err { OnErr result (states.new ≡ states.old) }
 {

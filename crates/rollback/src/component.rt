@@ -72,15 +72,25 @@ impl<T: Turns> Model for Component<T> {
 
     ghost Value = { ComponentView (Setup T) };
 
-    ghost coded = { Prim.hlevel (codes, shape.the_row.coded, term.the_row.coded, effect.the_row.coded, datum_code) };
+    ghost coded = { Prim.hlevel
+        (codes, shape.the_row.coded, term.the_row.coded, effect.the_row.coded, datum_code) };
 
     ghost use Rattle.task_seed.specs.Setups.{system};
     ghost use Rattle.rollback.specs.ComponentInvariant.{record_of, next_number, IsValidComponent};
     ghost use Rattle.task_seed.specs.Clocks.{HasReached};
 
-    ghost view = { λ c. record { setup = arc_value c.setup; number = c.number; base = c.base; history = record_of c.store c.first c.done c.pending c.owed } };
+    ghost view = { λ c.
+        record {
+          setup = arc_value c.setup;
+          number = c.number;
+          base = c.base;
+          history = record_of c.store c.first c.done c.pending c.owed;
+        } };
 
-    ghost invariant = { λ c. IsValidComponent (system T.turn_of (arc_value c.setup)) c.number c.first c.store c.done c.pending c.owed c.coming × HasReached T.turn_of (arc_value c.setup) c.number c.clock (next_number c.first c.done) };
+    ghost invariant = { λ c. IsValidComponent
+        (system T.turn_of
+        (arc_value c.setup)) c.number c.first c.store c.done c.pending c.owed c.coming
+        × HasReached T.turn_of (arc_value c.setup) c.number c.clock (next_number c.first c.done) };
 }
 
 impl<T: Turns> Component<T> {
@@ -161,7 +171,8 @@ impl<T: Turns> Component<T> {
 
     /// The key of the entry that is processed next, or the end where there is none.
     pub fn next(&self) -> Bound
-        ensures { rank_of_bound result ≡ next_key (machine_at T.turn_of self.now) (next_entry T.turn_of self.now) }
+        ensures { rank_of_bound result
+            ≡ next_key (machine_at T.turn_of self.now) (next_entry T.turn_of self.now) }
     {
         if self.is_input_next() {
             return match self.pending.peek_next() {
@@ -213,7 +224,8 @@ impl<T: Turns> Component<T> {
         ensures key { IfOk result (λ key. HasNextKey T.turn_of self.old key) }
         ensures record { OnOk result (self.new ≡ stepped T.turn_of self.old) }
         ensures sent { OnOk result (IsNextSent T.turn_of self.old out.old out.new) }
-        ensures nothing { IsErrOf result ProcessRefused.NothingPending ↔ (next_entry T.turn_of self.old ≡ None) }
+        ensures nothing { IsErrOf result ProcessRefused.NothingPending
+            ↔ (next_entry T.turn_of self.old ≡ None) }
         ensures kept { OnErr result (self.new ≡ self.old) }
         ensures out_kept { OnErr result (out.new ≡ out.old) }
     {
@@ -310,7 +322,8 @@ impl<T: Turns> Component<T> {
         found: &mut Option<Action>,
     ) -> Result<Key, NoMemory>
         requires { IsTrue (is_turning (next_entry T.turn_of self.old)) }
-        ensures next { IfOk result (λ key. IsNextTurn T.turn_of self.old (turned_of found.new key)) }
+        ensures next { IfOk result (λ key. IsNextTurn T.turn_of self.old
+            (turned_of found.new key)) }
         ensures kept { self.new ≡ self.old }
     {
         let Some(key) = self.coming else {
@@ -338,7 +351,8 @@ impl<T: Turns> Component<T> {
         out: &mut Bag,
     ) -> Result<Key, NoMemory>
         requires next { IsNextTurn T.turn_of self.old turned }
-        requires receivers { receivers.now ≡ turn_receivers (system T.turn_of self.old.setup) self.old.number turned.outcome }
+        requires receivers { receivers.now
+            ≡ turn_receivers (system T.turn_of self.old.setup) self.old.number turned.outcome }
         ensures key { IfOk result (HasNextKey T.turn_of self.old) }
         ensures record { OnOk result (self.new ≡ stepped T.turn_of self.old) }
         ensures sent { OnOk result (IsNextSent T.turn_of self.old out.old out.new) }
@@ -365,7 +379,9 @@ impl<T: Turns> Component<T> {
     /// Takes the last done entry back, and posts an antimessage for each message that it sent. The answer is false where
     /// nothing is done.
     pub fn roll_back(&mut self, out: &mut Bag) -> bool
-        ensures record { self.new ≡ record self.old { history = roll_back_of (machine_at T.turn_of self.old) self.old.history } }
+        ensures record { self.new ≡ record self.old {
+          history = roll_back_of (machine_at T.turn_of self.old) self.old.history;
+        } }
         ensures sent { IsUnsent T.turn_of self.old (last_of self.old.history.done) out.old out.new }
         ensures answer { result ≡ is_nonempty self.old.history.done }
     {

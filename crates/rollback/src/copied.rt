@@ -49,9 +49,12 @@ impl<T: Turns> Component<T> {
         ensures key { IfOk result (λ key. HasNextKey T.turn_of self.old key) }
         ensures record { OnOk result (self.new ≡ stepped T.turn_of self.old) }
         ensures sent { OnOk result (IsNextSent T.turn_of self.old out.old out.new) }
-        ensures of_sender { OnOk result (IsNextSent T.turn_of self.old copies.old.of_sender copies.new.of_sender) }
-        ensures of_receiver { OnOk result (IsNextSent T.turn_of self.old copies.old.of_receiver copies.new.of_receiver) }
-        ensures nothing { IsErrOf result ProcessRefused.NothingPending ↔ (next_entry T.turn_of self.old ≡ None) }
+        ensures of_sender { OnOk result
+            (IsNextSent T.turn_of self.old copies.old.of_sender copies.new.of_sender) }
+        ensures of_receiver { OnOk result
+            (IsNextSent T.turn_of self.old copies.old.of_receiver copies.new.of_receiver) }
+        ensures nothing { IsErrOf result ProcessRefused.NothingPending
+            ↔ (next_entry T.turn_of self.old ≡ None) }
         ensures kept { OnErr result (self.new ≡ self.old) }
         ensures out_kept { OnErr result (out.new ≡ out.old) }
         ensures copies_kept { OnErr result (copies.new ≡ copies.old) }
@@ -76,8 +79,10 @@ impl<T: Turns> Component<T> {
         ensures key { IfOk result (HasNextKey T.turn_of self.old) }
         ensures record { OnOk result (self.new ≡ stepped T.turn_of self.old) }
         ensures sent { OnOk result (IsNextSent T.turn_of self.old out.old out.new) }
-        ensures of_sender { OnOk result (IsNextSent T.turn_of self.old copies.old.of_sender copies.new.of_sender) }
-        ensures of_receiver { OnOk result (IsNextSent T.turn_of self.old copies.old.of_receiver copies.new.of_receiver) }
+        ensures of_sender { OnOk result
+            (IsNextSent T.turn_of self.old copies.old.of_sender copies.new.of_sender) }
+        ensures of_receiver { OnOk result
+            (IsNextSent T.turn_of self.old copies.old.of_receiver copies.new.of_receiver) }
         ensures kept { OnErr result (self.new ≡ self.old) }
         ensures out_kept { OnErr result (out.new ≡ out.old) }
         ensures copies_kept { OnErr result (copies.new ≡ copies.old) }
@@ -103,8 +108,10 @@ impl<T: Turns> Component<T> {
         ensures key { IfOk result (HasNextKey T.turn_of self.old) }
         ensures record { OnOk result (self.new ≡ stepped T.turn_of self.old) }
         ensures sent { OnOk result (IsNextSent T.turn_of self.old out.old out.new) }
-        ensures of_sender { OnOk result (IsNextSent T.turn_of self.old copies.old.of_sender copies.new.of_sender) }
-        ensures of_receiver { OnOk result (IsNextSent T.turn_of self.old copies.old.of_receiver copies.new.of_receiver) }
+        ensures of_sender { OnOk result
+            (IsNextSent T.turn_of self.old copies.old.of_sender copies.new.of_sender) }
+        ensures of_receiver { OnOk result
+            (IsNextSent T.turn_of self.old copies.old.of_receiver copies.new.of_receiver) }
         ensures kept { OnErr result (self.new ≡ self.old) }
         ensures out_kept { OnErr result (out.new ≡ out.old) }
         ensures copies_kept { OnErr result (copies.new ≡ copies.old) }

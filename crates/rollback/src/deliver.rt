@@ -43,7 +43,9 @@ fn other(sign: Sign) -> Sign
 fn take_other(queue: &mut EventList<Signed>, cell: &mut EventCell<Signed>) -> bool
     requires { IsInOrder queue.old.after }
     ensures fits { Fits cell.old }
-    ensures rest { queue.new ≡ record queue.old { after = remove_one (opposed cell.old) queue.old.after } }
+    ensures rest { queue.new ≡ record queue.old {
+      after = remove_one (opposed cell.old) queue.old.after;
+    } }
     ensures answer { result ≡ is_some (first_where (is_one (opposed cell.old)) queue.old.after) }
     ensures kept { result ≡ false → queue.new ≡ queue.old }
     ensures cell { cell.new ≡ cell.old }
@@ -97,7 +99,8 @@ impl<T: Turns> Component<T> {
     pub fn deliver(&mut self, cell: EventCell<Signed>, out: &mut Bag) -> u64
         requires { cell.message.to ≡ self.old.number }
         ensures record { self.new ≡ with_coming T.turn_of self.old cell }
-        ensures sent { IsUnsent T.turn_of self.old (taken_back T.turn_of self.old cell) out.old out.new }
+        ensures sent { IsUnsent T.turn_of self.old
+            (taken_back T.turn_of self.old cell) out.old out.new }
         ensures count { result ≡ length (taken_back T.turn_of self.old cell) }
     {
         match cell.value().sign {
@@ -109,7 +112,8 @@ impl<T: Turns> Component<T> {
     fn deliver_message(&mut self, mut cell: EventCell<Signed>, out: &mut Bag) -> u64
         requires { goes Plus self.old.number cell ≡ true }
         ensures record { self.new ≡ with_message T.turn_of self.old cell }
-        ensures sent { IsUnsent T.turn_of self.old (taken_back_by_message T.turn_of self.old cell) out.old out.new }
+        ensures sent { IsUnsent T.turn_of self.old
+            (taken_back_by_message T.turn_of self.old cell) out.old out.new }
         ensures count { result ≡ length (taken_back_by_message T.turn_of self.old cell) }
     {
         if self.take_owed(&mut cell) {
@@ -125,7 +129,8 @@ impl<T: Turns> Component<T> {
     fn deliver_antimessage(&mut self, mut cell: EventCell<Signed>, out: &mut Bag) -> u64
         requires { goes Minus self.old.number cell ≡ true }
         ensures record { self.new ≡ with_antimessage T.turn_of self.old cell }
-        ensures sent { IsUnsent T.turn_of self.old (taken_back_by_antimessage T.turn_of self.old cell) out.old out.new }
+        ensures sent { IsUnsent T.turn_of self.old
+            (taken_back_by_antimessage T.turn_of self.old cell) out.old out.new }
         ensures count { result ≡ length (taken_back_by_antimessage T.turn_of self.old cell) }
     {
         if self.take_pending(&mut cell) {
@@ -153,7 +158,8 @@ impl<T: Turns> Component<T> {
     fn take_owed(&mut self, cell: &mut EventCell<Signed>) -> bool
         requires { goes Plus self.old.number cell.old ≡ true }
         ensures record { self.new ≡ without_owed T.turn_of self.old cell.old }
-        ensures answer { result ≡ has (machine_at T.turn_of self.old) (item_of cell.old) self.old.history.owed }
+        ensures answer { result ≡ has (machine_at T.turn_of self.old)
+            (item_of cell.old) self.old.history.owed }
         ensures kept { result ≡ false → self.new ≡ self.old }
         ensures cell { cell.new ≡ cell.old }
     {
@@ -164,7 +170,8 @@ impl<T: Turns> Component<T> {
     fn take_pending(&mut self, cell: &mut EventCell<Signed>) -> bool
         requires { goes Minus self.old.number cell.old ≡ true }
         ensures record { self.new ≡ without_pending T.turn_of self.old cell.old }
-        ensures answer { result ≡ has (machine_at T.turn_of self.old) (item_of cell.old) self.old.history.pending }
+        ensures answer { result ≡ has (machine_at T.turn_of self.old)
+            (item_of cell.old) self.old.history.pending }
         ensures kept { result ≡ false → self.new ≡ self.old }
         ensures cell { cell.new ≡ cell.old }
     {
@@ -191,7 +198,8 @@ impl<T: Turns> Component<T> {
     // Whether the last done entry is later than a message.
     fn is_last_later(&self, message: &Signed) -> bool
         requires { goes Plus self.now.number message.now ≡ true }
-        ensures { result ≡ is_last_later (machine_at T.turn_of self.now) (item_of message.now) self.now.history.done }
+        ensures { result ≡ is_last_later (machine_at T.turn_of self.now)
+            (item_of message.now) self.now.history.done }
     {
         is_timed(message);
         match self.done.peek_last() {
@@ -204,7 +212,8 @@ impl<T: Turns> Component<T> {
     fn unwind_later(&mut self, message: &Signed, out: &mut Bag)
         requires { goes Plus self.old.number message.now ≡ true }
         ensures record { self.new ≡ back_before T.turn_of self.old message.now }
-        ensures sent { IsUnsent T.turn_of self.old (later_than T.turn_of self.old message.now) out.old out.new }
+        ensures sent { IsUnsent T.turn_of self.old
+            (later_than T.turn_of self.old message.now) out.old out.new }
     {
         while self.is_last_later(message) {
             self.roll_back(out);
@@ -214,7 +223,8 @@ impl<T: Turns> Component<T> {
     // Whether there is a last done entry, and it isn't the message of an antimessage.
     fn is_last_another(&self, antimessage: &Signed) -> bool
         requires { goes Minus self.now.number antimessage.now ≡ true }
-        ensures { result ≡ is_last_another (machine_at T.turn_of self.now) (item_of antimessage.now) self.now.history.done }
+        ensures { result ≡ is_last_another (machine_at T.turn_of self.now)
+            (item_of antimessage.now) self.now.history.done }
     {
         is_timed(antimessage);
         is_next_back_another(&self.done, antimessage)
@@ -234,7 +244,8 @@ impl<T: Turns> Component<T> {
     fn unwind_until(&mut self, antimessage: &Signed, out: &mut Bag)
         requires { goes Minus self.old.number antimessage.now ≡ true }
         ensures record { self.new ≡ back_to T.turn_of self.old antimessage.now }
-        ensures sent { IsUnsent T.turn_of self.old (done_since T.turn_of self.old antimessage.now) out.old out.new }
+        ensures sent { IsUnsent T.turn_of self.old
+            (done_since T.turn_of self.old antimessage.now) out.old out.new }
     {
         while self.is_last_another(antimessage) {
             self.roll_back(out);

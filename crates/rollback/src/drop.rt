@@ -35,7 +35,8 @@ impl<T: Turns> Component<T> {
     /// below the base nor above the next key.
     pub fn drop_below(&mut self, bound: Bound) -> EventList<Turned>
         ensures record { self.new ≡ cut_at (machine_at T.turn_of self.old) bound self.old }
-        ensures turns { map turn_of result.after ≡ onto (turns_among (below (rank_of_bound bound) self.old.history.done)) [] }
+        ensures turns { map turn_of result.after
+            ≡ onto (turns_among (below (rank_of_bound bound) self.old.history.done)) [] }
         ensures front { result.before ≡ [] }
     {
         let _depth = self.depth();
@@ -62,7 +63,9 @@ fn number_after(newest: Option<Key>, first: u64) -> u64
 fn take_oldest_below(done: &mut EventList<Done>, bound: Bound) -> Option<EventCell<Done>>
     requires { done.old.after ≡ [] }
     ensures taken { result ≡ oldest_below (rank_of_bound bound) done.old.before }
-    ensures rest { done.new ≡ record done.old { before = without_oldest_below (rank_of_bound bound) done.old.before } }
+    ensures rest { done.new ≡ record done.old {
+      before = without_oldest_below (rank_of_bound bound) done.old.before;
+    } }
 {
     let oldest = done.peek_first()?;
     if !is_below_bound(key_of(oldest), bound) {
@@ -77,10 +80,18 @@ fn take_below(done: &mut EventList<Done>, spares: &mut Spares, bound: Bound) -> 
     requires end { done.old.after ≡ [] }
     requires falling { Falls (entries_of done.old.before) }
     requires few { length done.old.before < 2 ^ 64 }
-    ensures rest { done.new ≡ record { before = dones_from (rank_of_bound bound) done.old.before; after = [] } }
-    ensures turns { result.turns ≡ record { before = turns_in (dones_below (rank_of_bound bound) done.old.before); after = [] } }
+    ensures rest { done.new ≡ record {
+      before = dones_from (rank_of_bound bound) done.old.before;
+      after = [];
+    } }
+    ensures turns { result.turns
+        ≡ record {
+          before = turns_in (dones_below (rank_of_bound bound) done.old.before);
+          after = [];
+        } }
     ensures count { result.count ≡ length (dones_below (rank_of_bound bound) done.old.before) }
-    ensures newest { result.newest ≡ newest_key (dones_below (rank_of_bound bound) done.old.before) }
+    ensures newest { result.newest
+        ≡ newest_key (dones_below (rank_of_bound bound) done.old.before) }
 {
     let mut dropped = Dropped {
         turns: EventList::new(),
@@ -98,7 +109,8 @@ fn take_below(done: &mut EventList<Done>, spares: &mut Spares, bound: Bound) -> 
 // Puts the turn of an entry behind all that were taken. The entry's cell serves again.
 #[tactic(auto, using(crate::proofs::Spared::no_turn_in, crate::proofs::Spared::no_key_in))]
 fn add_entry(dropped: &mut Dropped, spares: &mut Spares, cell: EventCell<Done>)
-    ensures turns { dropped.new.turns ≡ record dropped.old.turns { before = turn_in cell dropped.old.turns.before } }
+    ensures turns { dropped.new.turns
+        ≡ record dropped.old.turns { before = turn_in cell dropped.old.turns.before } }
     ensures count { dropped.new.count ≡ dropped.old.count }
     ensures newest { dropped.new.newest ≡ key_in cell dropped.old.newest }
 {
@@ -121,7 +133,8 @@ fn add_swapped(
     mut turned: EventCell<Turned>,
 )
     requires { is_turn_of cell ≡ true }
-    ensures turns { dropped.new.turns ≡ record dropped.old.turns { before = turn_in cell dropped.old.turns.before } }
+    ensures turns { dropped.new.turns
+        ≡ record dropped.old.turns { before = turn_in cell dropped.old.turns.before } }
     ensures count { dropped.new.count ≡ dropped.old.count }
     ensures newest { dropped.new.newest ≡ key_in cell dropped.old.newest }
 {
@@ -134,7 +147,8 @@ fn add_swapped(
 
 // The same where no cell is spare.
 fn add_turn(dropped: &mut Dropped, done: Done)
-    ensures turns { dropped.new.turns ≡ record dropped.old.turns { before = turn_in done dropped.old.turns.before } }
+    ensures turns { dropped.new.turns
+        ≡ record dropped.old.turns { before = turn_in done dropped.old.turns.before } }
     ensures count { dropped.new.count ≡ dropped.old.count }
     ensures newest { dropped.new.newest ≡ key_in done dropped.old.newest }
 {

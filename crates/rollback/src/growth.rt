@@ -61,7 +61,9 @@ pub(crate) fn advance_turn<T: Turns>(
     outcome: &Outcome,
     store: &mut Store,
 ) -> Result<(), NoMemory>
-    ensures ok { OnOk result (store.new ≡ marked_as (by_own (machine_of T.turn_of setup.now) i (action_of outcome.now) store.old.current) store.old) }
+    ensures ok { OnOk result (store.new
+        ≡ marked_as (by_own (machine_of T.turn_of setup.now) i
+        (action_of outcome.now) store.old.current) store.old) }
     ensures err { OnErr result (store.new ≡ store.old) }
 {
     match outcome {
@@ -82,7 +84,8 @@ pub(crate) fn outcome_into<T: Turns>(
     found: &mut Option<Action>,
 ) -> Result<(), NoMemory>
     requires { Some turn ≡ turn_in (system T.turn_of setup.now) i n }
-    ensures { OnOk result (found.new ≡ turn_outcome (system T.turn_of setup.now) i n store.now.current) }
+    ensures { OnOk result (found.new
+        ≡ turn_outcome (system T.turn_of setup.now) i n store.now.current) }
 {
     let _ = n;
     setup
@@ -112,7 +115,8 @@ fn signed_cells(
     sign: Sign,
     receivers: &[u16],
 ) -> Result<EventList<Signed>, NoMemory>
-    ensures { IfOk result (λ cells. cells ≡ record { before = map (signed_to sign key action.now) receivers.now; after = [] }) }
+    ensures { IfOk result (λ cells. cells
+        ≡ record { before = map (signed_to sign key action.now) receivers.now; after = [] }) }
 {
     let mut cells = EventList::new();
     for receiver in receivers.iter().rev().copied() {
@@ -133,7 +137,8 @@ pub(crate) fn receivers_of_turn<T: Turns>(
     i: u16,
     outcome: &Outcome,
 ) -> Result<SmallVec<u16, 8>, NoMemory>
-    ensures { IfOk result (λ receivers. receivers.items ≡ turn_receivers (system T.turn_of setup.now) i outcome.now) }
+    ensures { IfOk result (λ receivers. receivers.items
+        ≡ turn_receivers (system T.turn_of setup.now) i outcome.now) }
 {
     match outcome {
         Outcome::Idle => Ok(SmallVec::new(alloc)),
@@ -150,7 +155,12 @@ pub(crate) fn messages_to(
     sign: Sign,
     receivers: &[u16],
 ) -> Result<EventList<Signed>, NoMemory>
-    ensures { IfOk result (λ cells. cells ≡ record { before = signed_by sign turned.now.key turned.now.outcome receivers.now; after = [] }) }
+    ensures { IfOk result (λ cells. cells
+        ≡
+        record {
+          before = signed_by sign turned.now.key turned.now.outcome receivers.now;
+          after = [];
+        }) }
 {
     match &turned.outcome {
         Outcome::Idle => Ok(EventList::new()),
@@ -192,9 +202,12 @@ pub(crate) fn take_input(
     spares: &mut Spares,
 ) -> Result<(), NoMemory>
     requires { IsTrue (is_nonempty pending.old.after) }
-    ensures state { OnOk result (IfSome (head pending.old.after) (λ first. store.new ≡ after_input plan.now i first store.old)) }
-    ensures done { OnOk result (IfSome (head pending.old.after) (λ first. done.new ≡ with_done (Done.Input first) done.old)) }
-    ensures pending { OnOk result (pending.new ≡ record pending.old { after = tail pending.old.after }) }
+    ensures state { OnOk result (IfSome (head pending.old.after)
+        (λ first. store.new ≡ after_input plan.now i first store.old)) }
+    ensures done { OnOk result (IfSome (head pending.old.after)
+        (λ first. done.new ≡ with_done (Done.Input first) done.old)) }
+    ensures pending { OnOk result (pending.new
+        ≡ record pending.old { after = tail pending.old.after }) }
     ensures store_kept { OnErr result (store.new ≡ store.old) }
     ensures done_kept { OnErr result (done.new ≡ done.old) }
     ensures pending_kept { OnErr result (pending.new ≡ pending.old) }
@@ -233,8 +246,9 @@ pub(crate) fn take_idle<T: Turns>(
 ) -> Result<(), NoMemory>
     ensures state { OnOk result (store.new ≡ after_turn (machine_of T.turn_of setup.now) i
         (record { key = key; outcome = Idle }) store.old) }
-    ensures done { OnOk result (done.new ≡ with_done
-        (done_turn (system T.turn_of setup.now) i (record { key = key; outcome = Idle })) done.old) }
+    ensures done { OnOk result (done.new
+        ≡ with_done (done_turn (system T.turn_of setup.now) i
+        (record { key = key; outcome = Idle })) done.old) }
     ensures store_kept { OnErr result (store.new ≡ store.old) }
     ensures done_kept { OnErr result (done.new ≡ done.old) }
 {
@@ -263,10 +277,14 @@ pub(crate) fn take_turn<T: Turns>(
     out: &mut Bag,
 ) -> Result<(), NoMemory>
     requires there { i < length (composition (plan_of setup.now)) }
-    requires receivers { receivers.now ≡ turn_receivers (system T.turn_of setup.now) i turned.outcome }
-    ensures state { OnOk result (store.new ≡ after_turn (machine_of T.turn_of setup.now) i turned store.old) }
-    ensures done { OnOk result (done.new ≡ with_done (done_turn (system T.turn_of setup.now) i turned) done.old) }
-    ensures sent { OnOk result (IsTurnSent (machine_of T.turn_of setup.now) i turned out.old out.new) }
+    requires receivers { receivers.now
+        ≡ turn_receivers (system T.turn_of setup.now) i turned.outcome }
+    ensures state { OnOk result (store.new
+        ≡ after_turn (machine_of T.turn_of setup.now) i turned store.old) }
+    ensures done { OnOk result (done.new
+        ≡ with_done (done_turn (system T.turn_of setup.now) i turned) done.old) }
+    ensures sent { OnOk result (IsTurnSent
+        (machine_of T.turn_of setup.now) i turned out.old out.new) }
     ensures store_kept { OnErr result (store.new ≡ store.old) }
     ensures done_kept { OnErr result (done.new ≡ done.old) }
     ensures out_kept { OnErr result (out.new ≡ out.old) }

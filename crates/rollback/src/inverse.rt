@@ -28,7 +28,9 @@ impl<T: Turns> Component<T> {
     /// sent.
     pub fn there_and_back(&mut self, alloc: Global, most: u32, out: &mut Bag) -> Trip
         ensures same { self.new ≡ self.old }
-        ensures trip { IsTrip (machine_at T.turn_of self.old) self.old.number self.old.history out.old out.new result.entries most result.stopped }
+        ensures trip { IsTrip
+            (machine_at T.turn_of self.old) self.old.number self.old.history out.old out.new
+            result.entries most result.stopped }
         ensures balance { GainsEvenly T.turn_of self.old out.old out.new }
         ensures most { result.entries ≤ most }
     {
@@ -43,8 +45,12 @@ impl<T: Turns> Component<T> {
     // Processes entries, at most `most` of them, until nothing is pending or memory is refused.
     fn process_some(&mut self, alloc: Global, most: u32, out: &mut Bag) -> Trip
         ensures rest { self.new ≡ record self.old { history = self.new.history } }
-        ensures run { IsRun (machine_at T.turn_of self.old) self.old.number self.old.history self.new.history out.old out.new result.entries }
-        ensures end { IsEnd (machine_at T.turn_of self.old) self.old.number self.new.history result.entries most result.stopped }
+        ensures run { IsRun
+            (machine_at T.turn_of self.old) self.old.number self.old.history self.new.history
+            out.old out.new result.entries }
+        ensures end { IsEnd
+            (machine_at T.turn_of self.old) self.old.number self.new.history result.entries most
+            result.stopped }
         ensures most { result.entries ≤ most }
     {
         for entries in 0..most {
@@ -66,8 +72,11 @@ impl<T: Turns> Component<T> {
 
     // Takes entries back, as many as are done but at most `count`.
     fn roll_back_some(&mut self, count: u32, out: &mut Bag)
-        ensures record { self.new ≡ record self.old { history = roll_back_times (machine_at T.turn_of self.old) count self.old.history } }
-        ensures sent { IsUnsent T.turn_of self.old (take count self.old.history.done) out.old out.new }
+        ensures record { self.new ≡ record self.old {
+          history = roll_back_times (machine_at T.turn_of self.old) count self.old.history;
+        } }
+        ensures sent { IsUnsent T.turn_of self.old
+            (take count self.old.history.done) out.old out.new }
     {
         for _k in 0..count {
             self.roll_back(out);

@@ -11,8 +11,10 @@ use task_seed::{Setup, Turns};
 
 /// Two components are equal exactly where their setups are, and their numbers, bases and records are the same.
 pub fn equal_law<T: Turns>(a: &Component<T>, b: &Component<T>)
-    ensures parts { ⟦<Component<T> as PartialEq>⟧.eq a.now b.now ≡ true → HaveEqualParts ⟦<Setup<T> as PartialEq>⟧.eq a.now b.now }
-    ensures equal { HaveEqualParts ⟦<Setup<T> as PartialEq>⟧.eq a.now b.now → ⟦<Component<T> as PartialEq>⟧.eq a.now b.now ≡ true }
+    ensures parts { ⟦<Component<T> as PartialEq>⟧.eq a.now b.now ≡ true
+        → HaveEqualParts ⟦<Setup<T> as PartialEq>⟧.eq a.now b.now }
+    ensures equal { HaveEqualParts ⟦<Setup<T> as PartialEq>⟧.eq a.now b.now
+        → ⟦<Component<T> as PartialEq>⟧.eq a.now b.now ≡ true }
 {}
 
 /// Entries processed one after the other: none, and one more.

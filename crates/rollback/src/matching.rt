@@ -22,7 +22,9 @@ impl<T: Turns> Component<T> {
     ///
     /// No memory is taken. Where they are, the time grows with the number of all these messages; where they are not, it grows as its square.
     pub fn has_taken(&self, taken: &Bag, tray: &Bag) -> bool
-        ensures { (result ≡ true) ↔ IsTaken (machine_at T.turn_of self.now) self.now.number self.now.history taken.now tray.now }
+        ensures { (result ≡ true)
+            ↔ IsTaken
+            (machine_at T.turn_of self.now) self.now.number self.now.history taken.now tray.now }
     {
         order_law(taken);
         order_law(tray);
@@ -42,7 +44,9 @@ impl<T: Turns> Component<T> {
     ///
     /// No memory is taken. Where they are, the time grows with the number of all these messages; where they are not, it grows as its square.
     pub fn has_standing(&self, standing: &Bag, out: &Bag) -> bool
-        ensures { (result ≡ true) ↔ IsStanding (machine_at T.turn_of self.now) self.now.number self.now.history standing.now out.now }
+        ensures { (result ≡ true)
+            ↔ IsStanding
+            (machine_at T.turn_of self.now) self.now.number self.now.history standing.now out.now }
     {
         is_short(self.number);
         receivers_law();

@@ -215,7 +215,8 @@ pub(crate) fn input_entry(
     spares: &mut Spares,
     input: EventCell<Signed>,
 ) -> Result<EventCell<Done>, Refused<Done>>
-    ensures { MatchResult result (λ cell. cell ≡ Input input) (λ refused. refused.value ≡ Input input) }
+    ensures { MatchResult result (λ cell. cell ≡ Input input)
+        (λ refused. refused.value ≡ Input input) }
 {
     match spares.input_entries.take_last() {
         Some(mut cell) => {

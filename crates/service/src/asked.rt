@@ -38,7 +38,9 @@ pub(crate) fn do_asked<F: Files, L: Looks + Sync, W: Write + Drop, R: Threads + 
     looks: &L,
     out: &mut Counted<W>,
 ) -> Report
-    ensures report { IsReportOn asked.entry (F.has files.now) (F.lacks files.now) (out.new ≡ out.old) (IsWritten W.contents out.old out.new) (IsStopped W.contents out.old out.new) result }
+    ensures report { IsReportOn asked.entry (F.has files.now) (F.lacks files.now)
+        (out.new ≡ out.old) (IsWritten W.contents out.old out.new)
+        (IsStopped W.contents out.old out.new) result }
 {
     match asked {
         Asked::Print { source } => print_file(alloc, source, files, out),
@@ -89,7 +91,9 @@ fn print_file<F: Files, W: Write>(
     files: &F,
     out: &mut Counted<W>,
 ) -> Report
-    ensures report { IsPrintReport (F.has files.now name.now) (F.lacks files.now name.now) (out.new ≡ out.old) (IsWritten W.contents out.old out.new) (IsStopped W.contents out.old out.new) result }
+    ensures report { IsPrintReport (F.has files.now name.now) (F.lacks files.now name.now)
+        (out.new ≡ out.old) (IsWritten W.contents out.old out.new)
+        (IsStopped W.contents out.old out.new) result }
 {
     let source = match read_front(alloc, name, SOURCE_BYTES, files) {
         Ok(source) => source,

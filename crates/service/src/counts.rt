@@ -103,8 +103,10 @@ fn write_counts<E: Write>(
     counts: &[Count],
     err: &mut Counted<E>,
 ) -> Result<(), WriteFault>
-    ensures ok { OnOk result (IsWritten E.contents err.old err.new (flat_map (count_line stats.now) counts.now)) }
-    ensures err { OnErr result (IsCut E.contents err.old err.new (flat_map (count_line stats.now) counts.now)) }
+    ensures ok { OnOk result (IsWritten E.contents err.old err.new
+        (flat_map (count_line stats.now) counts.now)) }
+    ensures err { OnErr result
+        (IsCut E.contents err.old err.new (flat_map (count_line stats.now) counts.now)) }
 {
     let mut rest = counts;
     while let Some((count, later)) = rest.split_first() {

@@ -219,7 +219,8 @@ fn table_refused<F: Files>(
 ) -> Result<Option<Vec<u8>>, u8>
     ensures ok { IfOk result (λ told. IsJudged (F.has files.now) (IsTable plan.now)
         (IsBadTable plan.now) (named table.entry) (option_map (λ v. v.items) told)) }
-    ensures err { IfErr result (LacksTable (F.has files.now) (F.lacks files.now) (named table.entry)) }
+    ensures err { IfErr result
+        (LacksTable (F.has files.now) (F.lacks files.now) (named table.entry)) }
 {
     match table {
         Some(name) => named_table_refused(alloc, plan, name, files),
@@ -235,7 +236,8 @@ fn named_table_refused<F: Files>(
 ) -> Result<Option<Vec<u8>>, u8>
     ensures ok { IfOk result (λ told. IsJudged (F.has files.now) (IsTable plan.now)
         (IsBadTable plan.now) (Some name.now) (option_map (λ v. v.items) told)) }
-    ensures err { IfErr result (IsFileFault (F.has files.now name.now) (F.lacks files.now name.now)) }
+    ensures err { IfErr result
+        (IsFileFault (F.has files.now name.now) (F.lacks files.now name.now)) }
 {
     let bytes = match read_whole(alloc, name, files) {
         Ok(bytes) => bytes,
@@ -265,7 +267,8 @@ fn steps_refused<F: Files>(
 ) -> Result<Option<Vec<u8>>, u8>
     ensures ok { IfOk result (λ told. IsJudged (F.has files.now) (AreSteps plan.now)
         (AreBadSteps plan.now) (named steps.entry) (option_map (λ v. v.items) told)) }
-    ensures err { IfErr result (LacksTable (F.has files.now) (F.lacks files.now) (named steps.entry)) }
+    ensures err { IfErr result
+        (LacksTable (F.has files.now) (F.lacks files.now) (named steps.entry)) }
 {
     match steps {
         Some(name) => named_steps_refused(alloc, plan, name, files),
@@ -281,7 +284,8 @@ fn named_steps_refused<F: Files>(
 ) -> Result<Option<Vec<u8>>, u8>
     ensures ok { IfOk result (λ told. IsJudged (F.has files.now) (AreSteps plan.now)
         (AreBadSteps plan.now) (Some name.now) (option_map (λ v. v.items) told)) }
-    ensures err { IfErr result (IsFileFault (F.has files.now name.now) (F.lacks files.now name.now)) }
+    ensures err { IfErr result
+        (IsFileFault (F.has files.now name.now) (F.lacks files.now name.now)) }
 {
     let bytes = match read_whole(alloc, name, files) {
         Ok(bytes) => bytes,
@@ -322,7 +326,8 @@ fn actions_refused<F: Files>(
 ) -> Result<Option<Vec<u8>>, u8>
     ensures ok { IfOk result (λ told. IsJudged (F.has files.now) (AreActions plan.now)
         (AreBadActions plan.now) (named actions.entry) (option_map (λ v. v.items) told)) }
-    ensures err { IfErr result (LacksTable (F.has files.now) (F.lacks files.now) (named actions.entry)) }
+    ensures err { IfErr result
+        (LacksTable (F.has files.now) (F.lacks files.now) (named actions.entry)) }
 {
     match actions {
         Some(name) => named_actions_refused(alloc, plan, name, files),
@@ -338,7 +343,8 @@ fn named_actions_refused<F: Files>(
 ) -> Result<Option<Vec<u8>>, u8>
     ensures ok { IfOk result (λ told. IsJudged (F.has files.now) (AreActions plan.now)
         (AreBadActions plan.now) (Some name.now) (option_map (λ v. v.items) told)) }
-    ensures err { IfErr result (IsFileFault (F.has files.now name.now) (F.lacks files.now name.now)) }
+    ensures err { IfErr result
+        (IsFileFault (F.has files.now name.now) (F.lacks files.now name.now)) }
 {
     let bytes = match read_whole(alloc, name, files) {
         Ok(bytes) => bytes,

@@ -130,9 +130,9 @@ pub(crate) fn hunt_file<F: Files, L: Looks + Sync, W: Write, R: Threads + Sync>(
     looks: &L,
     out: &mut Counted<W>,
 ) -> Report
-    ensures { IsHuntFileReport (F.has files.now name.now) (F.lacks files.now name.now) action.now hunting
-        (out.new ≡ out.old) (IsWritten W.contents out.old out.new)
-        (IsStopped W.contents out.old out.new) result }
+    ensures { IsHuntFileReport (F.has files.now name.now)
+        (F.lacks files.now name.now) action.now hunting (out.new ≡ out.old)
+        (IsWritten W.contents out.old out.new) (IsStopped W.contents out.old out.new) result }
 {
     match read_front(alloc, name, SOURCE_BYTES, files) {
         Ok(source) => hunt_source(rt, alloc, source.as_slice(), action, hunting, looks, out),

@@ -21,7 +21,8 @@ pub fn print_source<W: Write>(
     out: &mut Counted<W>,
 ) -> Result<(), PrintFault>
     ensures printed { OnOk result (IsPrinted source.now (IsWritten W.contents out.old out.new)) }
-    ensures unprinted { IfErr result (IsUnprinted source.now (out.new ≡ out.old) (IsStopped W.contents out.old out.new)) }
+    ensures unprinted { IfErr result
+        (IsUnprinted source.now (out.new ≡ out.old) (IsStopped W.contents out.old out.new)) }
 {
     let tree = match read(alloc, source) {
         Ok(tree) => tree,

@@ -109,8 +109,10 @@ fn setup_tabled<F: Files>(
 
 // All of a table or of a file of actions or steps, or the number of the fault.
 pub(crate) fn read_whole<F: Files>(alloc: Global, name: &str, files: &F) -> Result<Vec<u8>, u8>
-    ensures ok { IfOk result (λ bytes. F.has files.now name.now bytes.items × (length bytes.items ≤ most_bytes)) }
-    ensures err { IfErr result (λ number. IsFileFault (F.has files.now name.now) (F.lacks files.now name.now) number) }
+    ensures ok { IfOk result (λ bytes. F.has files.now name.now bytes.items
+        × (length bytes.items ≤ most_bytes)) }
+    ensures err { IfErr result
+        (λ number. IsFileFault (F.has files.now name.now) (F.lacks files.now name.now) number) }
 {
     match read_front(alloc, name, MOST_BYTES + 1, files) {
         Ok(bytes) if bytes.len() as u64 <= MOST_BYTES => Ok(bytes),

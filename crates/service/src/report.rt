@@ -51,7 +51,9 @@ impl Report {
     /// Writes the line of a report, if it has one, or one for each refused step or each count, up to the first write that fails.
     pub fn tell<E: Write>(&self, err: &mut Counted<E>)
         ensures said { IsSaid E.contents err.old err.new (line_of self.now) }
-        ensures quiet { (self.now ≡ Report.Done) ⊎ ((self.now ≡ Report.No) ⊎ ((self.now ≡ Report.Misused) ⊎ (self.now ≡ Report.Explained))) → err.new ≡ err.old }
+        ensures quiet { (self.now ≡ Report.Done)
+            ⊎ ((self.now ≡ Report.No)
+            ⊎ ((self.now ≡ Report.Misused) ⊎ (self.now ≡ Report.Explained))) → err.new ≡ err.old }
     {
         match self {
             Report::Done | Report::No | Report::Misused | Report::Explained => {}
@@ -76,8 +78,10 @@ impl Report {
 
 // The line of a refusal with its place.
 fn write_refused<E: Write>(number: u64, place: u64, err: &mut Counted<E>) -> Result<(), WriteFault>
-    ensures ok { OnOk result (IsWritten E.contents err.old err.new (line_of (Report.Refused number (Some place)))) }
-    ensures err { OnErr result (IsCut E.contents err.old err.new (line_of (Report.Refused number (Some place)))) }
+    ensures ok { OnOk result (IsWritten E.contents err.old err.new
+        (line_of (Report.Refused number (Some place)))) }
+    ensures err { OnErr result
+        (IsCut E.contents err.old err.new (line_of (Report.Refused number (Some place)))) }
 {
     write_number(b"refused ", number, err)?;
     write_line(b" at ", place, err)
@@ -85,8 +89,10 @@ fn write_refused<E: Write>(number: u64, place: u64, err: &mut Counted<E>) -> Res
 
 // The lines of refused steps.
 fn write_steps<E: Write>(refused: &[RefusedStep], err: &mut Counted<E>) -> Result<(), WriteFault>
-    ensures ok { OnOk result (IsWritten E.contents err.old err.new (flat_map refused_line refused.now)) }
-    ensures err { OnErr result (IsCut E.contents err.old err.new (flat_map refused_line refused.now)) }
+    ensures ok { OnOk result (IsWritten E.contents err.old err.new
+        (flat_map refused_line refused.now)) }
+    ensures err { OnErr result
+        (IsCut E.contents err.old err.new (flat_map refused_line refused.now)) }
 {
     let mut rest = refused;
     while let Some((step, later)) = rest.split_first() {
@@ -98,8 +104,11 @@ fn write_steps<E: Write>(refused: &[RefusedStep], err: &mut Counted<E>) -> Resul
 
 // The line of a refused step.
 fn write_step<E: Write>(step: u64, number: u64, err: &mut Counted<E>) -> Result<(), WriteFault>
-    ensures ok { OnOk result (IsWritten E.contents err.old err.new (refused_line (record { step = step; number = number }))) }
-    ensures err { OnErr result (IsCut E.contents err.old err.new (refused_line (record { step = step; number = number }))) }
+    ensures ok { OnOk result (IsWritten E.contents err.old err.new
+        (refused_line (record { step = step; number = number }))) }
+    ensures err { OnErr result
+        (IsCut E.contents err.old err.new
+        (refused_line (record { step = step; number = number }))) }
 {
     write_number(b"step ", step, err)?;
     write_line(b" refused ", number, err)

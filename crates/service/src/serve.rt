@@ -39,7 +39,10 @@ pub fn serve<F: Files, L: Looks + Sync, W: Write + Drop, E: Write, R: Threads + 
     out: &mut Counted<W>,
     err: &mut Counted<E>,
 ) -> u8
-    ensures status { (report : Report) × (result ≡ status_of report) × IsFlushedReport (map string_bytes words.now) (F.has files.now) (F.lacks files.now) (out.new ≡ out.old) (IsWritten W.contents out.old out.new) (IsStopped W.contents out.old out.new) report × IsTold E.contents err.old err.new report }
+    ensures status { (report : Report) × (result ≡ status_of report)
+        × IsFlushedReport (map string_bytes words.now) (F.has files.now) (F.lacks files.now)
+        (out.new ≡ out.old) (IsWritten W.contents out.old out.new)
+        (IsStopped W.contents out.old out.new) report × IsTold E.contents err.old err.new report }
 {
     let report = answer(rt, alloc, words, files, looks, out, err);
     report.tell(err);
@@ -55,7 +58,9 @@ fn answer<F: Files, L: Looks + Sync, W: Write + Drop, E: Write, R: Threads + Wai
     out: &mut Counted<W>,
     err: &mut Counted<E>,
 ) -> Report
-    ensures report { IsFlushedReport (map string_bytes words.now) (F.has files.now) (F.lacks files.now) (out.new ≡ out.old) (IsWritten W.contents out.old out.new) (IsStopped W.contents out.old out.new) result }
+    ensures report { IsFlushedReport (map string_bytes words.now) (F.has files.now)
+        (F.lacks files.now) (out.new ≡ out.old) (IsWritten W.contents out.old out.new)
+        (IsStopped W.contents out.old out.new) result }
     ensures warned { IsWarned E.contents err.old err.new result }
 {
     let report = answer_words(rt, alloc, words, files, looks, out, err);
@@ -94,7 +99,9 @@ fn answer_words<F: Files, L: Looks + Sync, W: Write + Drop, E: Write, R: Threads
     out: &mut Counted<W>,
     err: &mut Counted<E>,
 ) -> Report
-    ensures report { IsReport (map string_bytes words.now) (F.has files.now) (F.lacks files.now) (out.new ≡ out.old) (IsWritten W.contents out.old out.new) (IsStopped W.contents out.old out.new) result }
+    ensures report { IsReport (map string_bytes words.now) (F.has files.now) (F.lacks files.now)
+        (out.new ≡ out.old) (IsWritten W.contents out.old out.new)
+        (IsStopped W.contents out.old out.new) result }
     ensures warned { IsWarned E.contents err.old err.new result }
 {
     match read_words(alloc, words) {
@@ -110,7 +117,9 @@ fn refuse<W: Write, E: Write>(
     out: &mut Counted<W>,
     err: &mut Counted<E>,
 ) -> Report
-    ensures report { (words : List (List ℕ)) → IsRefused words refused.now → IsUnserved words (out.new ≡ out.old) (IsWritten W.contents out.old out.new) (IsStopped W.contents out.old out.new) result }
+    ensures report { (words : List (List ℕ)) → IsRefused words refused.now
+        → IsUnserved words (out.new ≡ out.old) (IsWritten W.contents out.old out.new)
+        (IsStopped W.contents out.old out.new) result }
     ensures warned { IsWarned E.contents err.old err.new result }
 {
     match refused {
@@ -140,7 +149,9 @@ fn text_of(alloc: Global, error: &Error) -> Result<String, AllocError>
 }
 
 fn help<W: Write>(alloc: Global, error: &Error, out: &mut Counted<W>) -> Report
-    ensures report { (words : List (List ℕ)) → HasFault words DisplayHelp → IsUnserved words (out.new ≡ out.old) (IsWritten W.contents out.old out.new) (IsStopped W.contents out.old out.new) result }
+    ensures report { (words : List (List ℕ)) → HasFault words DisplayHelp
+        → IsUnserved words (out.new ≡ out.old) (IsWritten W.contents out.old out.new)
+        (IsStopped W.contents out.old out.new) result }
     ensures other { result ≢ Report.Misused }
 {
     let text = match text_of(alloc, error) {
@@ -154,7 +165,9 @@ fn help<W: Write>(alloc: Global, error: &Error, out: &mut Counted<W>) -> Report
 }
 
 fn tell_version<W: Write>(out: &mut Counted<W>) -> Report
-    ensures report { (words : List (List ℕ)) → HasFault words DisplayVersion → IsUnserved words (out.new ≡ out.old) (IsWritten W.contents out.old out.new) (IsStopped W.contents out.old out.new) result }
+    ensures report { (words : List (List ℕ)) → HasFault words DisplayVersion
+        → IsUnserved words (out.new ≡ out.old) (IsWritten W.contents out.old out.new)
+        (IsStopped W.contents out.old out.new) result }
     ensures other { result ≢ Report.Misused }
 {
     match write_text(version().as_bytes(), out) {

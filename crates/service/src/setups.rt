@@ -89,7 +89,8 @@ fn turns_of(alloc: Global, plan: &Plan, given: GivenTurns) -> Result<AnyTurns, R
 
 // The turns of a seed.
 fn drawn(seed: u64, stream: u64, gap: u64, from_zero: bool) -> Result<AnyTurns, Report>
-    ensures ok { IfOk result (λ turns. any_turn turns ≡ drawn_turn seed stream (least_gap from_zero) gap) }
+    ensures ok { IfOk result (λ turns. any_turn turns
+        ≡ drawn_turn seed stream (least_gap from_zero) gap) }
     ensures within { IfOk result (λ turns. IsWithin gap) }
     ensures err { IfErr result (IsRefusal (IsBadGap gap) IsMemory) }
 {

@@ -35,8 +35,10 @@ pub(crate) fn write_line<W: Write>(
     number: u64,
     out: &mut Counted<W>,
 ) -> Result<(), WriteFault>
-    ensures ok { OnOk result (IsWritten W.contents out.old out.new ((label.now ++ decimal number) ++ codes "\n")) }
-    ensures err { OnErr result (IsCut W.contents out.old out.new ((label.now ++ decimal number) ++ codes "\n")) }
+    ensures ok { OnOk result (IsWritten W.contents out.old out.new
+        ((label.now ++ decimal number) ++ codes "\n")) }
+    ensures err { OnErr result
+        (IsCut W.contents out.old out.new ((label.now ++ decimal number) ++ codes "\n")) }
 {
     write_number(label, number, out)?;
     write_text(b"\n", out)

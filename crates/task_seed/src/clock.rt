@@ -72,7 +72,8 @@ impl Clock {
     /// `NoMemory`; then nothing has changed.
     pub fn reach<T: Turns>(&mut self, setup: &Setup<T>, n: u64) -> Result<(), NoMemory>
         requires { CanReach T.turn_of setup.now self.old.component self.old n }
-        ensures ok { OnOk result (Reaching T.turn_of setup.now self.old.component self.old n self.new) }
+        ensures ok { OnOk result
+            (Reaching T.turn_of setup.now self.old.component self.old n self.new) }
         ensures err { OnErr result (self.new ≡ record self.old { ticks = self.new.ticks }) }
         ensures err_ticks { OnErr result (self.new.ticks.items ≡ self.old.ticks.items) }
     {
@@ -94,7 +95,8 @@ impl Clock {
     // Reaches the first turn.
     fn reach_first<T: Turns>(&mut self, setup: &Setup<T>) -> Result<(), NoMemory>
         requires { CanReach T.turn_of setup.now self.old.component self.old 0 }
-        ensures ok { OnOk result (Reaching T.turn_of setup.now self.old.component self.old 0 self.new) }
+        ensures ok { OnOk result
+            (Reaching T.turn_of setup.now self.old.component self.old 0 self.new) }
         ensures err { OnErr result (self.new ≡ record self.old { ticks = self.new.ticks }) }
         ensures err_ticks { OnErr result (self.new.ticks.items ≡ self.old.ticks.items) }
     {
@@ -107,7 +109,8 @@ impl Clock {
     // Reaches the first turn, where none was reached.
     fn start<T: Turns>(&mut self, setup: &Setup<T>) -> Result<(), NoMemory>
         requires { self.old.ticks.items ≡ [] }
-        ensures ok { OnOk result (Reaching T.turn_of setup.now self.old.component self.old 0 self.new) }
+        ensures ok { OnOk result
+            (Reaching T.turn_of setup.now self.old.component self.old 0 self.new) }
         ensures err { OnErr result (self.new ≡ record self.old { ticks = self.new.ticks }) }
         ensures err_ticks { OnErr result (self.new.ticks.items ≡ self.old.ticks.items) }
     {
@@ -149,12 +152,15 @@ impl Clock {
         setup: &Setup<T>,
         key: Key,
     ) -> Result<Option<Key>, NoMemory>
-        requires there { Some key ≡ key_of (system T.turn_of setup.now) self.old.component key.number }
+        requires there { Some key ≡ key_of
+            (system T.turn_of setup.now) self.old.component key.number }
         requires small { key.number < 4294967296 }
         requires reached { HasReached T.turn_of setup.now self.old.component self.old key.number }
-        ensures key { IfOk result (λ next. next ≡ key_of (system T.turn_of setup.now) self.old.component (key.number + 1)) }
+        ensures key { IfOk result (λ next. next
+            ≡ key_of (system T.turn_of setup.now) self.old.component (key.number + 1)) }
         ensures small { IfOk result (λ next. IfSome next IsTurnKey) }
-        ensures ok { OnOk result (Reaching T.turn_of setup.now self.old.component self.old (key.number + 1) self.new) }
+        ensures ok { OnOk result (Reaching T.turn_of setup.now self.old.component self.old
+            (key.number + 1) self.new) }
         ensures err { OnErr result (self.new ≡ record self.old { ticks = self.new.ticks }) }
         ensures err_ticks { OnErr result (self.new.ticks.items ≡ self.old.ticks.items) }
     {
@@ -179,13 +185,16 @@ impl Clock {
     // the turn is read in one place, so that the turns whose ticks aren't kept, which are most, don't pay for the others.
     #[inline(always)]
     fn move_on<T: Turns>(&mut self, setup: &Setup<T>, key: Key) -> Option<Key>
-        requires there { Some key ≡ key_of (system T.turn_of setup.now) self.old.component key.number }
+        requires there { Some key ≡ key_of
+            (system T.turn_of setup.now) self.old.component key.number }
         requires small { key.number < 4294967296 }
         requires room { HasRoom self.old (key.number + 1) }
         requires tasks { KnowsTasks setup.now self.old.component self.old }
-        ensures key { result ≡ key_of (system T.turn_of setup.now) self.old.component (key.number + 1) }
+        ensures key { result ≡ key_of (system T.turn_of setup.now) self.old.component
+            (key.number + 1) }
         ensures small { IfSome result IsTurnKey }
-        ensures reaching { Reaching T.turn_of setup.now self.old.component self.old (key.number + 1) self.new }
+        ensures reaching { Reaching T.turn_of setup.now self.old.component self.old
+            (key.number + 1) self.new }
     {
         let next = self.read_on(setup, key)?;
         if self.is_due(next.number) {
@@ -197,13 +206,16 @@ impl Clock {
     // Reads the turn after the one of this key.
     #[inline(always)]
     fn read_on<T: Turns>(&mut self, setup: &Setup<T>, key: Key) -> Option<Key>
-        requires there { Some key ≡ key_of (system T.turn_of setup.now) self.old.component key.number }
+        requires there { Some key ≡ key_of
+            (system T.turn_of setup.now) self.old.component key.number }
         requires small { key.number < 4294967296 }
         requires tasks { KnowsTasks setup.now self.old.component self.old }
-        ensures key { result ≡ key_of (system T.turn_of setup.now) self.old.component (key.number + 1) }
+        ensures key { result ≡ key_of (system T.turn_of setup.now) self.old.component
+            (key.number + 1) }
         ensures small { IfSome result IsTurnKey }
         ensures kept { self.new.tasks ≡ self.old.tasks }
-        ensures own { IsClock T.turn_of setup.now self.old.component self.old → IsClock T.turn_of setup.now self.old.component self.new }
+        ensures own { IsClock T.turn_of setup.now self.old.component self.old
+            → IsClock T.turn_of setup.now self.old.component self.new }
         ensures ticks { self.new.ticks ≡ self.old.ticks }
     {
         let next = setup.turn_after(self.component, key, &mut self.walk)?;

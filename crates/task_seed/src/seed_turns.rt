@@ -56,9 +56,12 @@ impl SeedTurns {
 
     /// The turns of a seed, whose gaps are 1 to `gap` ticks, where `gap` is 1 to 65,535.
     pub fn new(seed: u64, stream: u64, gap: u32) -> Result<SeedTurns, SeedTurnsError>
-        ensures numbers { IfOk result (λ t. (t.seed ≡ seed) × (t.stream ≡ stream) × (t.least ≡ 1) × (t.gap ≡ gap)) }
-        ensures turns { IfOk result (λ t. (i n : ℕ) → seed_turn t i n ≡ drawn_turn seed stream 1 gap i n) }
-        ensures refused { IsErrOf result SeedTurnsError.GapOutOfRange ↔ ((gap < 1) ⊎ (65535 < gap)) }
+        ensures numbers { IfOk result (λ t. (t.seed ≡ seed) × (t.stream ≡ stream) × (t.least ≡ 1)
+            × (t.gap ≡ gap)) }
+        ensures turns { IfOk result (λ t. (i n : ℕ)
+            → seed_turn t i n ≡ drawn_turn seed stream 1 gap i n) }
+        ensures refused { IsErrOf result SeedTurnsError.GapOutOfRange
+            ↔ ((gap < 1) ⊎ (65535 < gap)) }
         ensures memory { IsErrOf result SeedTurnsError.NoMemory → ⊥ }
     {
         SeedTurns::from(seed, stream, 1, gap)
@@ -66,9 +69,12 @@ impl SeedTurns {
 
     /// The turns of a seed, whose gaps are 0 to `gap - 1` ticks, where `gap` is 1 to 65,535.
     pub fn from_zero(seed: u64, stream: u64, gap: u32) -> Result<SeedTurns, SeedTurnsError>
-        ensures numbers { IfOk result (λ t. (t.seed ≡ seed) × (t.stream ≡ stream) × (t.least ≡ 0) × (t.gap ≡ gap)) }
-        ensures turns { IfOk result (λ t. (i n : ℕ) → seed_turn t i n ≡ drawn_turn seed stream 0 gap i n) }
-        ensures refused { IsErrOf result SeedTurnsError.GapOutOfRange ↔ ((gap < 1) ⊎ (65535 < gap)) }
+        ensures numbers { IfOk result (λ t. (t.seed ≡ seed) × (t.stream ≡ stream) × (t.least ≡ 0)
+            × (t.gap ≡ gap)) }
+        ensures turns { IfOk result (λ t. (i n : ℕ)
+            → seed_turn t i n ≡ drawn_turn seed stream 0 gap i n) }
+        ensures refused { IsErrOf result SeedTurnsError.GapOutOfRange
+            ↔ ((gap < 1) ⊎ (65535 < gap)) }
         ensures memory { IsErrOf result SeedTurnsError.NoMemory → ⊥ }
     {
         SeedTurns::from(seed, stream, 0, gap)
@@ -77,8 +83,10 @@ impl SeedTurns {
     // The turns of a seed, whose gaps are so many from the least one on.
     fn from(seed: u64, stream: u64, least: u32, gap: u32) -> Result<SeedTurns, SeedTurnsError>
         requires { least ≤ 1 }
-        ensures numbers { IfOk result (λ t. (t.seed ≡ seed) × (t.stream ≡ stream) × (t.least ≡ least) × (t.gap ≡ gap)) }
-        ensures refused { IsErrOf result SeedTurnsError.GapOutOfRange ↔ ((gap < 1) ⊎ (65535 < gap)) }
+        ensures numbers { IfOk result (λ t. (t.seed ≡ seed) × (t.stream ≡ stream)
+            × (t.least ≡ least) × (t.gap ≡ gap)) }
+        ensures refused { IsErrOf result SeedTurnsError.GapOutOfRange
+            ↔ ((gap < 1) ⊎ (65535 < gap)) }
         ensures memory { IsErrOf result SeedTurnsError.NoMemory → ⊥ }
     {
         if gap >= 1 && gap <= GREATEST_GAP {

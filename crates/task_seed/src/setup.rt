@@ -64,7 +64,8 @@ impl<T: Turns> Setup<T> {
 
     /// A setup of the plan, its turns and its horizon, the last tick.
     pub fn new(plan: Plan, turns: T, horizon: u64) -> Result<Setup<T>, SetupError>
-        ensures ok { IfOk result (λ s. (plan_of s ≡ plan) × (source_of s ≡ turns) × (horizon_of s ≡ horizon)) }
+        ensures ok { IfOk result (λ s. (plan_of s ≡ plan) × (source_of s ≡ turns)
+            × (horizon_of s ≡ horizon)) }
         ensures refused { IsErrOf result SetupError.HorizonTooLarge ↔ (4294967296 < horizon) }
         ensures memory { IsErrOf result SetupError.NoMemory → ⊥ }
     {
@@ -117,8 +118,10 @@ impl<T: Turns> Setup<T> {
     #[inline(always)]
     fn walk_after(&self, i: u16, n: u64, tick: u64, walk: &mut Walk) -> Option<Timed>
         requires { tick ≤ horizon_of self.now }
-        ensures value { option_map (λ (timed : Timed). timed.tick) result ≡ tick_after (system T.turn_of self.now) i n tick }
-        ensures turn { IfSome result (λ timed. (system T.turn_of self.now).turn i n ≡ Some timed.turn) }
+        ensures value { option_map (λ (timed : Timed). timed.tick) result
+            ≡ tick_after (system T.turn_of self.now) i n tick }
+        ensures turn { IfSome result
+            (λ timed. (system T.turn_of self.now).turn i n ≡ Some timed.turn) }
         ensures later { IfSome result (λ timed. tick ≤ timed.tick) }
     {
         if n >= MOST_TURNS {
@@ -134,7 +137,8 @@ impl<T: Turns> Setup<T> {
     pub fn next_tick(&self, i: u16, n: u64, tick: u64) -> Option<u64>
         requires { Reaches (system T.turn_of self.now) i n tick }
         ensures key { option_map (key_at i n) result ≡ key_of (system T.turn_of self.now) i n }
-        ensures reached { IfSome result (λ next. Reaches (system T.turn_of self.now) i (n + 1) next) }
+        ensures reached { IfSome result
+            (λ next. Reaches (system T.turn_of self.now) i (n + 1) next) }
         ensures later { IfSome result (λ next. tick ≤ next) }
         ensures bounded { IfSome result (λ _. n < 4294967296) }
     {
@@ -146,8 +150,10 @@ impl<T: Turns> Setup<T> {
     #[inline(always)]
     fn next_turn(&self, i: u16, n: u64, tick: u64, walk: &mut Walk) -> Option<Timed>
         requires { Reaches (system T.turn_of self.now) i n tick }
-        ensures key { option_map (λ (timed : Timed). key_at i n timed.tick) result ≡ key_of (system T.turn_of self.now) i n }
-        ensures turn { IfSome result (λ timed. (system T.turn_of self.now).turn i n ≡ Some timed.turn) }
+        ensures key { option_map (λ (timed : Timed). key_at i n timed.tick) result
+            ≡ key_of (system T.turn_of self.now) i n }
+        ensures turn { IfSome result
+            (λ timed. (system T.turn_of self.now).turn i n ≡ Some timed.turn) }
         ensures bounded { IfSome result (λ _. n < 4294967296) }
     {
         self.walk_after(i, n, tick, walk)
@@ -201,8 +207,10 @@ impl<T: Turns> Setup<T> {
     pub fn turn_after(&self, i: u16, key: Key, walk: &mut Walk) -> Option<KeyedTurn>
         requires there { Some key ≡ key_of (system T.turn_of self.now) i key.number }
         requires small { key.number < 4294967296 }
-        ensures key { option_map (λ (next : KeyedTurn). next.key) result ≡ key_of (system T.turn_of self.now) i (key.number + 1) }
-        ensures turn { IfSome result (λ next. (system T.turn_of self.now).turn i next.key.number ≡ Some next.turn) }
+        ensures key { option_map (λ (next : KeyedTurn). next.key) result
+            ≡ key_of (system T.turn_of self.now) i (key.number + 1) }
+        ensures turn { IfSome result
+            (λ next. (system T.turn_of self.now).turn i next.key.number ≡ Some next.turn) }
         ensures bounded { IfSome result (λ next. next.key.number < 4294967296) }
     {
         let number = key.number + 1;

@@ -93,9 +93,11 @@ ghost use Rattle.plans.specs.Plans.{composition};
 // The first fault of a row on a line, in the order of their numbers.
 fn check_row(plan: &Plan, row: &Row, line: usize) -> Result<(), TableTurnsError>
     ensures ok { OnOk result ((number : ℕ) → HasFault (composition plan.now) row.now number → ⊥) }
-    ensures err { IfErr result (λ e. (table_turns_place e ≡ Some line)
+    ensures err { IfErr result
+        (λ e. (table_turns_place e ≡ Some line)
         × HasFault (composition plan.now) row.now (table_turns_number e)
-        × ((number : ℕ) → HasFault (composition plan.now) row.now number → table_turns_number e ≤ number)) }
+        × ((number : ℕ) → HasFault (composition plan.now) row.now number
+        → table_turns_number e ≤ number)) }
 {
     if row.gap > GREATEST_GAP {
         return Err(TableTurnsError::GapOutOfRange(line));
@@ -113,8 +115,11 @@ fn check_row(plan: &Plan, row: &Row, line: usize) -> Result<(), TableTurnsError>
 
 // The first fault of the rows, the first of which stands on line 1.
 fn check_rows(plan: &Plan, rows: &[Row]) -> Result<(), TableTurnsError>
-    ensures ok { OnOk result (All (λ row. (number : ℕ) → HasFault (composition plan.now) row number → ⊥) rows.now) }
-    ensures err { IfErr result (λ e. IsFirstFault (composition plan.now) rows.now (table_turns_number e) (table_turns_place e)) }
+    ensures ok { OnOk result (All
+        (λ row. (number : ℕ) → HasFault (composition plan.now) row number → ⊥) rows.now) }
+    ensures err { IfErr result
+        (λ e. IsFirstFault (composition plan.now) rows.now (table_turns_number e)
+        (table_turns_place e)) }
 {
     for (k, row) in rows.iter().enumerate() {
         check_row(plan, row, k + 1)?;
@@ -160,11 +165,14 @@ impl TableTurns {
 
     /// The turns that the rows give to the components of the plan; row `k` stands on line `k + 1`.
     pub fn new(alloc: Global, plan: &Plan, rows: &[Row]) -> Result<TableTurns, TableTurnsError>
-        ensures turns { IfOk result (λ t. (i n : ℕ) → table_turn t i n ≡ slice_get (turns_of rows.now i) n) }
+        ensures turns { IfOk result (λ t. (i n : ℕ)
+            → table_turn t i n ≡ slice_get (turns_of rows.now i) n) }
         ensures sound { OnOk result
             (All (λ row. (number : ℕ) → HasFault (composition plan.now) row number → ⊥) rows.now) }
-        ensures refused { IfErr result (λ e. e ≢ TableTurnsError.NoMemory
-            → IsFirstFault (composition plan.now) rows.now (table_turns_number e) (table_turns_place e)) }
+        ensures refused { IfErr result
+            (λ e. e ≢ TableTurnsError.NoMemory
+            → IsFirstFault (composition plan.now) rows.now (table_turns_number e)
+            (table_turns_place e)) }
     {
         check_rows(plan, rows)?;
         let mut turns = empty_lists(alloc, plan.components())?;

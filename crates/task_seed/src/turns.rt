@@ -55,7 +55,8 @@ pub trait Turns: Eq + Send + Sync + Drop {
     }
 
     // Every gap is 0 to 65,535 ticks.
-    ghost gap_range: { (t : Self) (i n : ℕ) (turn : Turn) → turn_of t i n ≡ Some turn → turn.gap ≤ 65535 };
+    ghost gap_range: { (t : Self) (i n : ℕ) (turn : Turn) → turn_of t i n ≡ Some turn
+        → turn.gap ≤ 65535 };
 
     // Equal values answer every question alike.
     ghost alike: { (s t : Self) → Self.eq s t ≡ true → (i n : ℕ) → turn_of s i n ≡ turn_of t i n };

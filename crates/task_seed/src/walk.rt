@@ -62,7 +62,8 @@ impl Walk {
         requires gap { (1 ≤ gap) × (gap ≤ 65535) }
         requires least { least ≤ 1 }
         requires number { self.old.number < 4294967296 }
-        ensures turn { result ≡ turn_after (start_of self.old.seed self.old.stream) least gap self.old.number }
+        ensures turn { result ≡ turn_after
+            (start_of self.old.seed self.old.stream) least gap self.old.number }
         ensures walk { self.new ≡ record self.old { number = self.old.number + 1 } }
     {
         let gap = least + self.words.next_u32() % gap;

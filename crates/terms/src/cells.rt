@@ -28,7 +28,8 @@ pub trait Cells {
 
     /// Puts a scalar into a cell, as [`set`](Cells::set) puts a value.
     fn set_scalar(&mut self, cell: usize, scalar: Scalar) -> Result<(), NoMemory>
-        ensures ok { OnOk result (values self.new ≡ slice_set (values self.old) cell (Just scalar)) }
+        ensures ok { OnOk result (values self.new
+            ≡ slice_set (values self.old) cell (Just scalar)) }
         ensures err { OnErr result (values self.new ≡ values self.old) }
         ensures marked { marked self.new ≡ marked self.old };
 

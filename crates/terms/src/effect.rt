@@ -53,7 +53,8 @@ impl Effect {
     /// The parts, one after the other, and then the effect.
     #[tactic(auto, using(crate::specs::Linked::behind_parts))]
     pub fn behind(self, before: Vec<Part>) -> Result<Effect, AllocError>
-        ensures { IfOk result (λ effect. effect_tree effect ≡ ended (map part_tree before.items) (effect_tree self)) }
+        ensures { IfOk result (λ effect. effect_tree effect
+            ≡ ended (map part_tree before.items) (effect_tree self)) }
     {
         let Effect { mut parts, last } = self;
         let mut all = before;

@@ -10,7 +10,8 @@ use crate::{Effect, Shape, Term};
 /// Two types are equal exactly where they are the same tree.
 #[tactic(auto, using(crate::specs::DerivedSame::equal_shapes))]
 pub fn equal_shapes_law(a: &Shape, b: &Shape)
-    ensures { Decides (⟦<Shape as PartialEq>⟧.eq a.now b.now) (shape_tree a.now ≡ shape_tree b.now) }
+    ensures { Decides (⟦<Shape as PartialEq>⟧.eq a.now b.now)
+        (shape_tree a.now ≡ shape_tree b.now) }
 {}
 
 /// Two terms are equal exactly where they are the same tree.
@@ -22,5 +23,6 @@ pub fn equal_terms_law(a: &Term, b: &Term)
 /// Two effects are equal exactly where they are the same tree.
 #[tactic(auto, using(crate::specs::SameTreeLaws::effect_decides))]
 pub fn equal_effects_law(a: &Effect, b: &Effect)
-    ensures { Decides (⟦<Effect as PartialEq>⟧.eq a.now b.now) (effect_tree a.now ≡ effect_tree b.now) }
+    ensures { Decides (⟦<Effect as PartialEq>⟧.eq a.now b.now)
+        (effect_tree a.now ≡ effect_tree b.now) }
 {}

@@ -151,7 +151,8 @@ impl Value {
 
     /// Whether it is a sequence or an array, and not a scalar.
     pub fn is_list(&self) -> bool
-        ensures { self.now ≡ (if result then pack (items_of self.now) else Just (scalar_of self.now)) }
+        ensures { self.now ≡ (if result then pack (items_of self.now) else Just
+            (scalar_of self.now)) }
     {
         match &self.node {
             Node::Scalar(_) => false,

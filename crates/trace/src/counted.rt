@@ -39,8 +39,10 @@ impl<W: Write> Counted<W> {
     #[inline]
     pub fn write(&mut self, piece: &[u8]) -> io::Result<usize>
         ensures bound { WritesAtMost result piece.now }
-        ensures bytes { WriteAppends (W.contents (writer_of self.old)) (W.contents (writer_of self.new)) result piece.now }
-        ensures failures { failures_of self.new ≡ failures_after (failures_of self.old) (is_failure result piece.now) }
+        ensures bytes { WriteAppends (W.contents (writer_of self.old))
+            (W.contents (writer_of self.new)) result piece.now }
+        ensures failures { failures_of self.new
+            ≡ failures_after (failures_of self.old) (is_failure result piece.now) }
     {
         let Counted { writer, failures } = self;
         let taken = writer.write(piece);
@@ -58,11 +60,15 @@ impl<W: Write> Counted<W> {
     /// that went out before it, from the front; then one more failure is counted.
     #[inline]
     pub fn write_piece(&mut self, piece: &[u8]) -> Result<(), usize>
-        ensures ok { OnOk result (Appends (W.contents (writer_of self.old)) (W.contents (writer_of self.new)) piece.now) }
+        ensures ok { OnOk result (Appends (W.contents (writer_of self.old))
+            (W.contents (writer_of self.new)) piece.now) }
         ensures ok_failures { OnOk result (failures_of self.new ≡ failures_of self.old) }
-        ensures err { IfErr result (λ written. Appends (W.contents (writer_of self.old)) (W.contents (writer_of self.new)) (take written piece.now)) }
+        ensures err { IfErr result
+            (λ written. Appends (W.contents (writer_of self.old)) (W.contents (writer_of self.new))
+            (take written piece.now)) }
         ensures err_short { IfErr result (λ written. written < length piece.now) }
-        ensures err_failures { OnErr result (failures_of self.new ≡ one_more (failures_of self.old)) }
+        ensures err_failures { OnErr result
+            (failures_of self.new ≡ one_more (failures_of self.old)) }
     {
         if piece.is_empty() {
             return Ok(());
@@ -87,11 +93,15 @@ impl<W: Write> Counted<W> {
     #[cold]
     #[inline(never)]
     fn write_rest(&mut self, piece: &[u8]) -> Result<(), usize>
-        ensures ok { OnOk result (Appends (W.contents (writer_of self.old)) (W.contents (writer_of self.new)) piece.now) }
+        ensures ok { OnOk result (Appends (W.contents (writer_of self.old))
+            (W.contents (writer_of self.new)) piece.now) }
         ensures ok_failures { OnOk result (failures_of self.new ≡ failures_of self.old) }
-        ensures err { IfErr result (λ written. Appends (W.contents (writer_of self.old)) (W.contents (writer_of self.new)) (take written piece.now)) }
+        ensures err { IfErr result
+            (λ written. Appends (W.contents (writer_of self.old)) (W.contents (writer_of self.new))
+            (take written piece.now)) }
         ensures err_short { IfErr result (λ written. written < length piece.now) }
-        ensures err_failures { OnErr result (failures_of self.new ≡ one_more (failures_of self.old)) }
+        ensures err_failures { OnErr result
+            (failures_of self.new ≡ one_more (failures_of self.old)) }
     {
         let mut written = 0;
         while written < piece.len() {

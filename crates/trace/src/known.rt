@@ -42,7 +42,8 @@ pub(crate) fn is_name(alloc: Global, word: &str) -> Result<bool, NoMemory>
 
 fn action_number(plan: &Plan, text: &str) -> Option<u16>
     ensures some { IfSome result (λ number. IsNumberOf (action_texts plan.now) text.now number) }
-    ensures none { IfNone result ((number : ℕ) → IsNumberOf (action_texts plan.now) text.now number → ⊥) }
+    ensures none { IfNone result
+        ((number : ℕ) → IsNumberOf (action_texts plan.now) text.now number → ⊥) }
 {
     let mut number: u16 = 0;
     while let Some(name) = plan.action_name(number) {
@@ -56,7 +57,8 @@ fn action_number(plan: &Plan, text: &str) -> Option<u16>
 
 pub(crate) fn member_number(plan: &Plan, text: &str) -> Option<u16>
     ensures some { IfSome result (λ number. IsNumberOf (member_texts plan.now) text.now number) }
-    ensures none { IfNone result ((number : ℕ) → IsNumberOf (member_texts plan.now) text.now number → ⊥) }
+    ensures none { IfNone result
+        ((number : ℕ) → IsNumberOf (member_texts plan.now) text.now number → ⊥) }
 {
     let mut number: u16 = 0;
     while let Some(name) = plan.member_name(number) {
@@ -97,8 +99,12 @@ fn are_of(shapes: &[Shape], arguments: &[Scalar]) -> bool
 
 // The action of the composition that has the name and the arguments.
 pub(crate) fn action_of(plan: &Plan, name: &str, args: Vec<Scalar>) -> Result<Action, LineFault>
-    ensures ok { IfOk result (λ action. IsKnown plan.now (record { name = name.now; args = args.items }) action) }
-    ensures err { IfErr result (λ fault. Blames ⊥ ((action : Named) → IsKnown plan.now (record { name = name.now; args = args.items }) action → ⊥) fault) }
+    ensures ok { IfOk result (λ action. IsKnown plan.now
+        (record { name = name.now; args = args.items }) action) }
+    ensures err { IfErr result
+        (λ fault. Blames ⊥
+        ((action : Named) → IsKnown plan.now (record { name = name.now; args = args.items }) action
+        → ⊥) fault) }
 {
     let Some(number) = action_number(plan, name) else {
         return Err(LineFault::Unknown);

@@ -23,24 +23,36 @@ ghost use Rattle.trace.specs.WrittenTurns.{IsTurn, actions_done, shown_turns};
 /// A text is that of one line, lines give one list of actions, a file that gives actions has no fault, and a file has one
 /// fault at most, beside the want of memory.
 pub fn one_reading_law()
-    ensures line { (plan : Plan) (line other : Line) → IsLine plan line → IsLine plan other → line_text plan line ≡ line_text plan other → line ≡ other }
-    ensures actions { (plan : Plan) (texts : List (List ℕ)) (actions others : List Named) → Gives plan texts actions → Gives plan texts others → actions ≡ others }
-    ensures apart { (plan : Plan) (bytes : List ℕ) (actions : List Named) (error : TraceError) → Gives plan (lines_of bytes) actions → IsTraceFault plan bytes error → error ≡ NoMemory }
-    ensures fault { (plan : Plan) (bytes : List ℕ) (error other : TraceError) → error ≢ NoMemory → other ≢ NoMemory → IsTraceFault plan bytes error → IsTraceFault plan bytes other → error ≡ other }
+    ensures line { (plan : Plan) (line other : Line) → IsLine plan line → IsLine plan other
+        → line_text plan line ≡ line_text plan other → line ≡ other }
+    ensures actions { (plan : Plan) (texts : List (List ℕ)) (actions others : List Named)
+        → Gives plan texts actions → Gives plan texts others → actions ≡ others }
+    ensures apart { (plan : Plan) (bytes : List ℕ) (actions : List Named) (error : TraceError)
+        → Gives plan (lines_of bytes) actions → IsTraceFault plan bytes error → error ≡ NoMemory }
+    ensures fault { (plan : Plan) (bytes : List ℕ) (error other : TraceError) → error ≢ NoMemory
+        → other ≢ NoMemory → IsTraceFault plan bytes error → IsTraceFault plan bytes other
+        → error ≡ other }
 {}
 
 /// A text is that of one line of steps, lines give one list of steps, a file that gives steps has no fault, and a file has
 /// one fault at most, beside the want of memory.
 pub fn one_step_reading_law()
-    ensures line { (plan : Plan) (line other : StepLine) → IsStepLine plan line → IsStepLine plan other → step_text plan line ≡ step_text plan other → line ≡ other }
-    ensures steps { (plan : Plan) (texts : List (List ℕ)) (steps others : List Step) → GivesSteps plan texts steps → GivesSteps plan texts others → steps ≡ others }
-    ensures apart { (plan : Plan) (bytes : List ℕ) (steps : List Step) (error : TraceError) → GivesSteps plan (lines_of bytes) steps → IsStepsFault plan bytes error → error ≡ NoMemory }
-    ensures fault { (plan : Plan) (bytes : List ℕ) (error other : TraceError) → error ≢ NoMemory → other ≢ NoMemory → IsStepsFault plan bytes error → IsStepsFault plan bytes other → error ≡ other }
+    ensures line { (plan : Plan) (line other : StepLine) → IsStepLine plan line
+        → IsStepLine plan other → step_text plan line ≡ step_text plan other → line ≡ other }
+    ensures steps { (plan : Plan) (texts : List (List ℕ)) (steps others : List Step)
+        → GivesSteps plan texts steps → GivesSteps plan texts others → steps ≡ others }
+    ensures apart { (plan : Plan) (bytes : List ℕ) (steps : List Step) (error : TraceError)
+        → GivesSteps plan (lines_of bytes) steps → IsStepsFault plan bytes error
+        → error ≡ NoMemory }
+    ensures fault { (plan : Plan) (bytes : List ℕ) (error other : TraceError) → error ≢ NoMemory
+        → other ≢ NoMemory → IsStepsFault plan bytes error → IsStepsFault plan bytes other
+        → error ≡ other }
 {}
 
 /// The text of turns, as [`write_turns`](crate::write_turns) writes all of them, is a trace that gives their actions.
 pub fn read_back_law()
-    ensures { (plan : Plan) (turns : List Turned) → AllByRecursion (IsTurn plan) turns → Gives plan (lines_of (text_of plan All turns)) (actions_done turns) }
+    ensures { (plan : Plan) (turns : List Turned) → AllByRecursion (IsTurn plan) turns
+        → Gives plan (lines_of (text_of plan All turns)) (actions_done turns) }
 {}
 
 /// A trace file, of either version, gives one list of actions; one that gives actions has no fault; and one has one fault

@@ -48,9 +48,13 @@ pub fn write_turns<'a, W: Write, I: Iterator<Item = &'a Turned> + Drop>(
 ) -> Result<(), WriteFault>
     requires can { I.can_next turns }
     requires ends { IsFinite (I.remaining turns) }
-    ensures ok { OnOk result ((given : List (Bor Turned)) × Drains I.next_gives turns given × Appends (W.contents (writer_of out.old)) (W.contents (writer_of out.new)) (text_of plan.now lines (turns_at given))) }
+    ensures ok { OnOk result ((given : List (Bor Turned)) × Drains I.next_gives turns given
+        × Appends (W.contents (writer_of out.old)) (W.contents (writer_of out.new))
+        (text_of plan.now lines (turns_at given))) }
     ensures ok_failures { OnOk result (failures_of out.new ≡ failures_of out.old) }
-    ensures err { IfErr result (λ fault. (given : List (Bor Turned)) × (rest : I) × Yields I.next_gives turns given rest × Stops W.contents out.old out.new 0 (text_of plan.now lines (turns_at given)) fault) }
+    ensures err { IfErr result
+        (λ fault. (given : List (Bor Turned)) × (rest : I) × Yields I.next_gives turns given rest
+        × Stops W.contents out.old out.new 0 (text_of plan.now lines (turns_at given)) fault) }
     ensures err_failures { OnErr result (failures_of out.new ≡ one_more (failures_of out.old)) }
 {
     match append_turns(plan, turns, lines, 0, out) {
@@ -71,8 +75,11 @@ pub fn append_turns<'a, W: Write, I: Iterator<Item = &'a Turned> + Drop>(
 ) -> Result<u64, WriteFault>
     requires can { I.can_next turns }
     requires ends { IsFinite (I.remaining turns) }
-    ensures ok { IfOk result (λ after. (given : List (Bor Turned)) × Drains I.next_gives turns given × Puts W.contents out.old out.new before after (text_of plan.now lines (turns_at given))) }
-    ensures err { IfErr result (λ fault. (given : List (Bor Turned)) × (rest : I) × Yields I.next_gives turns given rest × Stops W.contents out.old out.new before (text_of plan.now lines (turns_at given)) fault) }
+    ensures ok { IfOk result (λ after. (given : List (Bor Turned)) × Drains I.next_gives turns given
+        × Puts W.contents out.old out.new before after (text_of plan.now lines (turns_at given))) }
+    ensures err { IfErr result
+        (λ fault. (given : List (Bor Turned)) × (rest : I) × Yields I.next_gives turns given rest
+        × Stops W.contents out.old out.new before (text_of plan.now lines (turns_at given)) fault) }
 {
     let mut written = before;
     for turned in turns {
@@ -90,8 +97,11 @@ pub fn append_turn<W: Write>(
     before: u64,
     out: &mut Counted<W>,
 ) -> Result<u64, WriteFault>
-    ensures ok { IfOk result (λ after. Puts W.contents out.old out.new before after (shown_text plan.now lines turned.now)) }
-    ensures err { IfErr result (λ fault. Stops W.contents out.old out.new before (shown_text plan.now lines turned.now) fault) }
+    ensures ok { IfOk result (λ after. Puts W.contents out.old out.new before after
+        (shown_text plan.now lines turned.now)) }
+    ensures err { IfErr result
+        (λ fault. Stops W.contents out.old out.new before
+        (shown_text plan.now lines turned.now) fault) }
 {
     let found = action_in(&turned.outcome);
     append_taken(plan, turned.key, found, lines, before, out)

@@ -20,7 +20,8 @@ use terms::Action;
 // The action that is written in the text.
 pub(crate) fn read_action(alloc: Global, plan: &Plan, text: &str) -> Result<Action, LineFault>
     ensures ok { IfOk result (λ action. IsAction plan.now text.now action) }
-    ensures err { IfErr result (λ fault. Blames (IsNoAction plan.now text.now) (IsForeign plan.now text.now) fault) }
+    ensures err { IfErr result
+        (λ fault. Blames (IsNoAction plan.now text.now) (IsForeign plan.now text.now) fault) }
 {
     let (name, args) = written(alloc, plan, text)?;
     action_of(plan, name, args)
@@ -28,8 +29,11 @@ pub(crate) fn read_action(alloc: Global, plan: &Plan, text: &str) -> Result<Acti
 
 // The action of a turn, and none of an idle one.
 fn read_outcome(alloc: Global, plan: &Plan, text: &str) -> Result<Option<Action>, LineFault>
-    ensures ok { IfOk result (λ action. (key : Key) → IsKey key → IsGiven plan.now (key_text key ++ text.now) (option_to_list action)) }
-    ensures err { IfErr result (λ fault. Blames ((key : Key) → IsKey key → IsBad plan.now (key_text key ++ text.now)) ((key : Key) → IsKey key → IsUnknown plan.now (key_text key ++ text.now)) fault) }
+    ensures ok { IfOk result (λ action. (key : Key) → IsKey key
+        → IsGiven plan.now (key_text key ++ text.now) (option_to_list action)) }
+    ensures err { IfErr result
+        (λ fault. Blames ((key : Key) → IsKey key → IsBad plan.now (key_text key ++ text.now))
+        ((key : Key) → IsKey key → IsUnknown plan.now (key_text key ++ text.now)) fault) }
 {
     if text == "idle" {
         Ok(None)
@@ -40,7 +44,8 @@ fn read_outcome(alloc: Global, plan: &Plan, text: &str) -> Result<Option<Action>
 
 fn read_text(alloc: Global, plan: &Plan, text: &str) -> Result<Option<Action>, LineFault>
     ensures ok { IfOk result (λ action. IsGiven plan.now text.now (option_to_list action)) }
-    ensures err { IfErr result (λ fault. Blames (IsBad plan.now text.now) (IsUnknown plan.now text.now) fault) }
+    ensures err { IfErr result
+        (λ fault. Blames (IsBad plan.now text.now) (IsUnknown plan.now text.now) fault) }
 {
     if !text.contains(' ') {
         return Ok(Some(read_action(alloc, plan, text)?));
@@ -53,7 +58,8 @@ fn read_text(alloc: Global, plan: &Plan, text: &str) -> Result<Option<Action>, L
 
 fn read_line(alloc: Global, plan: &Plan, line: &[u8]) -> Result<Option<Action>, LineFault>
     ensures ok { IfOk result (λ action. IsGiven plan.now line.now (option_to_list action)) }
-    ensures err { IfErr result (λ fault. Blames (IsBad plan.now line.now) (IsUnknown plan.now line.now) fault) }
+    ensures err { IfErr result
+        (λ fault. Blames (IsBad plan.now line.now) (IsUnknown plan.now line.now) fault) }
 {
     match str::from_utf8(line) {
         Ok(text) => read_text(alloc, plan, text),

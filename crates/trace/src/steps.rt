@@ -29,8 +29,10 @@ fn component(word: &str) -> Option<u16>
 
 // The component before the first space, and the text after it.
 fn component_before(text: &str) -> Option<(u16, &str)>
-    ensures some { IfSome result (λ r. (r.0 < 2 ^ 16) × (text.now ≡ decimal r.0 ++ (32 ∷ r.1.now))) }
-    ensures only { (n : ℕ) (rest : List ℕ) → n < 2 ^ 16 → text.now ≡ decimal n ++ (32 ∷ rest) → IsSomeAnd result (λ r. (r.0 ≡ n) × (r.1.now ≡ rest)) }
+    ensures some { IfSome result
+        (λ r. (r.0 < 2 ^ 16) × (text.now ≡ decimal r.0 ++ (32 ∷ r.1.now))) }
+    ensures only { (n : ℕ) (rest : List ℕ) → n < 2 ^ 16 → text.now ≡ decimal n ++ (32 ∷ rest)
+        → IsSomeAnd result (λ r. (r.0 ≡ n) × (r.1.now ≡ rest)) }
 {
     let (value, rest) = number_before(text)?;
     Some((u16::try_from(value).ok()?, rest))
@@ -39,7 +41,8 @@ fn component_before(text: &str) -> Option<(u16, &str)>
 // The key at the front, and the text after it.
 pub(crate) fn key_before(text: &str) -> Option<(Key, &str)>
     ensures some { IfSome result (λ r. IsStepKey r.0 × (text.now ≡ key_text r.0 ++ r.1.now)) }
-    ensures only { (key : Time) (rest : List ℕ) → IsStepKey key → text.now ≡ key_text key ++ rest → IsSomeAnd result (λ r. (r.0 ≡ key) × (r.1.now ≡ rest)) }
+    ensures only { (key : Time) (rest : List ℕ) → IsStepKey key → text.now ≡ key_text key ++ rest
+        → IsSomeAnd result (λ r. (r.0 ≡ key) × (r.1.now ≡ rest)) }
 {
     let (tick, rest) = number_before(text)?;
     let (component, rest) = component_before(rest)?;
@@ -53,8 +56,12 @@ pub(crate) fn key_before(text: &str) -> Option<(Key, &str)>
 }
 
 fn last_key(text: &str) -> Option<Key>
-    ensures some { IfSome result (λ key. IsStepKey key × (text.now ≡ number_text key.tick ++ (number_text key.component ++ decimal key.number))) }
-    ensures only { (key : Time) → IsStepKey key → text.now ≡ number_text key.tick ++ (number_text key.component ++ decimal key.number) → result ≡ Some key }
+    ensures some { IfSome result
+        (λ key. IsStepKey key
+        × (text.now ≡ number_text key.tick ++ (number_text key.component ++ decimal key.number))) }
+    ensures only { (key : Time) → IsStepKey key
+        → text.now ≡ number_text key.tick ++ (number_text key.component ++ decimal key.number)
+        → result ≡ Some key }
 {
     let (tick, rest) = number_before(text)?;
     let (component, rest) = component_before(rest)?;
@@ -68,7 +75,8 @@ fn last_key(text: &str) -> Option<Key>
 
 fn bound(text: &str) -> Option<Bound>
     ensures some { IfSome result (λ bound. IsStepBound bound × (text.now ≡ bound_text bound)) }
-    ensures only { (bound : Until) → IsStepBound bound → text.now ≡ bound_text bound → result ≡ Some bound }
+    ensures only { (bound : Until) → IsStepBound bound → text.now ≡ bound_text bound
+        → result ≡ Some bound }
 {
     if text == "end" {
         Some(Bound::End)
@@ -79,8 +87,12 @@ fn bound(text: &str) -> Option<Bound>
 
 // The receiver and the key at the front, and the text after them.
 fn address_before(text: &str) -> Option<(u16, Key, &str)>
-    ensures some { IfSome result (λ r. (r.0 < 2 ^ 16) × IsStepKey r.1 × (text.now ≡ number_text r.0 ++ (key_text r.1 ++ r.2.now))) }
-    ensures only { (to : ℕ) (key : Time) (rest : List ℕ) → to < 2 ^ 16 → IsStepKey key → text.now ≡ number_text to ++ (key_text key ++ rest) → IsSomeAnd result (λ r. (r.0 ≡ to) × (r.1 ≡ key) × (r.2.now ≡ rest)) }
+    ensures some { IfSome result
+        (λ r. (r.0 < 2 ^ 16) × IsStepKey r.1
+        × (text.now ≡ number_text r.0 ++ (key_text r.1 ++ r.2.now))) }
+    ensures only { (to : ℕ) (key : Time) (rest : List ℕ) → to < 2 ^ 16 → IsStepKey key
+        → text.now ≡ number_text to ++ (key_text key ++ rest)
+        → IsSomeAnd result (λ r. (r.0 ≡ to) × (r.1 ≡ key) × (r.2.now ≡ rest)) }
 {
     let (to, rest) = component_before(text)?;
     let (key, rest) = key_before(rest)?;
@@ -89,7 +101,9 @@ fn address_before(text: &str) -> Option<(u16, Key, &str)>
 
 fn message(alloc: Global, plan: &Plan, text: &str) -> Result<Message, LineFault>
     ensures ok { IfOk result (λ message. IsMessageText plan.now text.now message) }
-    ensures err { IfErr result (λ fault. Blames (IsNoMessage plan.now text.now) (IsForeignMessage plan.now text.now) fault) }
+    ensures err { IfErr result
+        (λ fault. Blames (IsNoMessage plan.now text.now)
+        (IsForeignMessage plan.now text.now) fault) }
 {
     let (to, key, rest) = address_before(text).ok_or(LineFault::Bad)?;
     let action = read_action(alloc, plan, rest)?;
@@ -99,7 +113,8 @@ fn message(alloc: Global, plan: &Plan, text: &str) -> Result<Message, LineFault>
 // The sign at the front, and the text after it.
 fn sign_before(text: &str) -> Option<(Sign, &str)>
     ensures some { IfSome result (λ r. text.now ≡ sign_text r.0 ++ r.1.now) }
-    ensures only { (sign : Mark) (rest : List ℕ) → text.now ≡ sign_text sign ++ rest → IsSomeAnd result (λ r. (r.0 ≡ sign) × (r.1.now ≡ rest)) }
+    ensures only { (sign : Mark) (rest : List ℕ) → text.now ≡ sign_text sign ++ rest
+        → IsSomeAnd result (λ r. (r.0 ≡ sign) × (r.1.now ≡ rest)) }
 {
     let (word, rest) = text.split_once(' ')?;
     match word {
@@ -110,8 +125,14 @@ fn sign_before(text: &str) -> Option<(Sign, &str)>
 }
 
 fn signed(alloc: Global, plan: &Plan, text: &str) -> Result<Signed, LineFault>
-    ensures ok { IfOk result (λ signed. (rest : List ℕ) × (text.now ≡ sign_text signed.sign ++ rest) × IsMessageText plan.now rest signed.message) }
-    ensures err { IfErr result (λ fault. Blames ((sign : Mark) (rest : List ℕ) → text.now ≡ sign_text sign ++ rest → IsNoMessage plan.now rest) ((sign : Mark) × (rest : List ℕ) × (text.now ≡ sign_text sign ++ rest) × IsForeignMessage plan.now rest) fault) }
+    ensures ok { IfOk result (λ signed. (rest : List ℕ) × (text.now ≡ sign_text signed.sign ++ rest)
+        × IsMessageText plan.now rest signed.message) }
+    ensures err { IfErr result
+        (λ fault. Blames
+        ((sign : Mark) (rest : List ℕ) → text.now ≡ sign_text sign ++ rest
+        → IsNoMessage plan.now rest)
+        ((sign : Mark) × (rest : List ℕ) × (text.now ≡ sign_text sign ++ rest)
+        × IsForeignMessage plan.now rest) fault) }
 {
     let (sign, rest) = sign_before(text).ok_or(LineFault::Bad)?;
     let message = message(alloc, plan, rest)?;
@@ -120,7 +141,8 @@ fn signed(alloc: Global, plan: &Plan, text: &str) -> Result<Signed, LineFault>
 
 fn read_text(alloc: Global, plan: &Plan, text: &str) -> Result<Step, LineFault>
     ensures ok { IfOk result (λ step. SaysStep plan.now text.now step) }
-    ensures err { IfErr result (λ fault. Blames (IsBadStep plan.now text.now) (IsUnknownStep plan.now text.now) fault) }
+    ensures err { IfErr result
+        (λ fault. Blames (IsBadStep plan.now text.now) (IsUnknownStep plan.now text.now) fault) }
 {
     let (word, rest) = text.split_once(' ').ok_or(LineFault::Bad)?;
     match word {
@@ -135,7 +157,8 @@ fn read_text(alloc: Global, plan: &Plan, text: &str) -> Result<Step, LineFault>
 
 fn read_line(alloc: Global, plan: &Plan, line: &[u8]) -> Result<Step, LineFault>
     ensures ok { IfOk result (λ step. SaysStep plan.now line.now step) }
-    ensures err { IfErr result (λ fault. Blames (IsBadStep plan.now line.now) (IsUnknownStep plan.now line.now) fault) }
+    ensures err { IfErr result
+        (λ fault. Blames (IsBadStep plan.now line.now) (IsUnknownStep plan.now line.now) fault) }
 {
     match str::from_utf8(line) {
         Ok(text) => read_text(alloc, plan, text),

@@ -26,7 +26,8 @@ pub struct Form {
 /// `WriteFailed` where a write failed, with the number of the text's bytes that went out before; one more failure is counted.
 pub fn write_text<W: Write>(text: &[u8], out: &mut Counted<W>) -> Result<(), WriteFault>
     ensures ok { OnOk result (IsWritten W.contents out.old out.new text.now) }
-    ensures err { IfErr result (λ fault. IsStopped W.contents out.old out.new text.now (written_of fault)) }
+    ensures err { IfErr result
+        (λ fault. IsStopped W.contents out.old out.new text.now (written_of fault)) }
 {
     match out.write_piece(text) {
         Ok(()) => Ok(()),

@@ -21,8 +21,10 @@ use terms::Scalar;
 
 // The text after the first space, where a number stands before it.
 fn after_number(text: &str) -> Option<&str>
-    ensures some { IfSome result (λ rest. (n : ℕ) × (n < 2 ^ 64) × (text.now ≡ decimal n ++ (32 ∷ rest.now))) }
-    ensures only { (n : ℕ) (rest : List ℕ) → n < 2 ^ 64 → text.now ≡ decimal n ++ (32 ∷ rest) → IsSomeAnd result (λ r. r.now ≡ rest) }
+    ensures some { IfSome result
+        (λ rest. (n : ℕ) × (n < 2 ^ 64) × (text.now ≡ decimal n ++ (32 ∷ rest.now))) }
+    ensures only { (n : ℕ) (rest : List ℕ) → n < 2 ^ 64 → text.now ≡ decimal n ++ (32 ∷ rest)
+        → IsSomeAnd result (λ r. r.now ≡ rest) }
 {
     let (_, rest) = number_before(text)?;
     Some(rest)
@@ -30,8 +32,10 @@ fn after_number(text: &str) -> Option<&str>
 
 // The text after a turn's key.
 pub(crate) fn after_key(text: &str) -> Option<&str>
-    ensures some { IfSome result (λ rest. (key : Key) × IsKey key × (text.now ≡ key_text key ++ rest.now)) }
-    ensures only { (key : Key) (rest : List ℕ) → IsKey key → text.now ≡ key_text key ++ rest → IsSomeAnd result (λ r. r.now ≡ rest) }
+    ensures some { IfSome result
+        (λ rest. (key : Key) × IsKey key × (text.now ≡ key_text key ++ rest.now)) }
+    ensures only { (key : Key) (rest : List ℕ) → IsKey key → text.now ≡ key_text key ++ rest
+        → IsSomeAnd result (λ r. r.now ≡ rest) }
 {
     let rest = after_number(text)?;
     let rest = after_number(rest)?;
@@ -49,8 +53,12 @@ fn whole(word: &str) -> Option<i64>
 }
 
 fn member(alloc: Global, plan: &Plan, word: &str) -> Result<Scalar, LineFault>
-    ensures ok { IfOk result (λ argument. IsArgument plan.now argument × (word.now ≡ argument_text plan.now argument)) }
-    ensures err { IfErr result (λ fault. Blames ((member : ℕ) → IsMember plan.now member → word.now ≡ argument_text plan.now (Member member) → ⊥) ⊥ fault) }
+    ensures ok { IfOk result (λ argument. IsArgument plan.now argument
+        × (word.now ≡ argument_text plan.now argument)) }
+    ensures err { IfErr result
+        (λ fault. Blames
+        ((member : ℕ) → IsMember plan.now member → word.now ≡ argument_text plan.now (Member member)
+        → ⊥) ⊥ fault) }
 {
     match member_number(plan, word) {
         Some(member) if is_name(alloc, word)? => Ok(Scalar::Member(member)),
@@ -59,8 +67,12 @@ fn member(alloc: Global, plan: &Plan, word: &str) -> Result<Scalar, LineFault>
 }
 
 fn argument(alloc: Global, plan: &Plan, word: &str) -> Result<Scalar, LineFault>
-    ensures ok { IfOk result (λ argument. IsArgument plan.now argument × (word.now ≡ argument_text plan.now argument)) }
-    ensures err { IfErr result (λ fault. Blames ((argument : Argument) → IsArgument plan.now argument → word.now ≡ argument_text plan.now argument → ⊥) ⊥ fault) }
+    ensures ok { IfOk result (λ argument. IsArgument plan.now argument
+        × (word.now ≡ argument_text plan.now argument)) }
+    ensures err { IfErr result
+        (λ fault. Blames
+        ((argument : Argument) → IsArgument plan.now argument
+        → word.now ≡ argument_text plan.now argument → ⊥) ⊥ fault) }
 {
     match word {
         "true" => Ok(Scalar::Bool(true)),
@@ -75,7 +87,9 @@ fn argument(alloc: Global, plan: &Plan, word: &str) -> Result<Scalar, LineFault>
 // The arguments between commas.
 fn arguments(alloc: Global, plan: &Plan, text: &str) -> Result<Vec<Scalar>, LineFault>
     ensures ok { IfOk result (λ args. IsSeparated plan.now text.now args.items) }
-    ensures err { IfErr result (λ fault. Blames ((args : List Argument) → IsSeparated plan.now text.now args → ⊥) ⊥ fault) }
+    ensures err { IfErr result
+        (λ fault. Blames
+        ((args : List Argument) → IsSeparated plan.now text.now args → ⊥) ⊥ fault) }
 {
     let mut args = Vec::new(alloc);
     let mut rest = text;
@@ -89,7 +103,8 @@ fn arguments(alloc: Global, plan: &Plan, text: &str) -> Result<Vec<Scalar>, Line
 
 fn bracketed(alloc: Global, plan: &Plan, text: &str) -> Result<Vec<Scalar>, LineFault>
     ensures ok { IfOk result (λ args. IsClosed plan.now text.now args.items) }
-    ensures err { IfErr result (λ fault. Blames ((args : List Argument) → IsClosed plan.now text.now args → ⊥) ⊥ fault) }
+    ensures err { IfErr result
+        (λ fault. Blames ((args : List Argument) → IsClosed plan.now text.now args → ⊥) ⊥ fault) }
 {
     match text.strip_suffix(')') {
         Some(inner) => arguments(alloc, plan, inner),
@@ -105,8 +120,12 @@ fn name_and_arguments<'a>(
 ) -> Result<(&'a str, Vec<Scalar>), LineFault>
     ensures args { IfOk result (λ r. AllByRecursion (IsArgument plan.now) r.1.items) }
     ensures text { IfOk result (λ r. text.now ≡ r.0.now ++ arguments_text plan.now r.1.items) }
-    ensures name { IfOk result (λ r. (written : Written) → IsWritten plan.now written → text.now ≡ written_text plan.now written → written.name ≡ r.0.now) }
-    ensures err { IfErr result (λ fault. Blames ((written : Written) → IsWritten plan.now written → text.now ≡ written_text plan.now written → ⊥) ⊥ fault) }
+    ensures name { IfOk result (λ r. (written : Written) → IsWritten plan.now written
+        → text.now ≡ written_text plan.now written → written.name ≡ r.0.now) }
+    ensures err { IfErr result
+        (λ fault. Blames
+        ((written : Written) → IsWritten plan.now written → text.now ≡ written_text plan.now written
+        → ⊥) ⊥ fault) }
 {
     match text.split_once('(') {
         Some((name, rest)) => Ok((name, bracketed(alloc, plan, rest)?)),
@@ -120,8 +139,12 @@ pub(crate) fn written<'a>(
     plan: &Plan,
     text: &'a str,
 ) -> Result<(&'a str, Vec<Scalar>), LineFault>
-    ensures ok { IfOk result (λ r. IsWritten plan.now (record { name = r.0.now; args = r.1.items }) × (text.now ≡ written_text plan.now (record { name = r.0.now; args = r.1.items }))) }
-    ensures err { IfErr result (λ fault. Blames ((written : Written) → IsWritten plan.now written → text.now ≡ written_text plan.now written → ⊥) ⊥ fault) }
+    ensures ok { IfOk result (λ r. IsWritten plan.now (record { name = r.0.now; args = r.1.items })
+        × (text.now ≡ written_text plan.now (record { name = r.0.now; args = r.1.items }))) }
+    ensures err { IfErr result
+        (λ fault. Blames
+        ((written : Written) → IsWritten plan.now written → text.now ≡ written_text plan.now written
+        → ⊥) ⊥ fault) }
 {
     let (name, args) = name_and_arguments(alloc, plan, text)?;
     if is_name(alloc, name)? {

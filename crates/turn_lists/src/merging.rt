@@ -42,8 +42,11 @@ fn is_last_from(turns: &EventList<Turned>, bound: Bound) -> bool
 
 // Puts a turn in its place before the cursor, and then the cursor before it. What is passed isn't earlier.
 fn put(held: &mut EventList<Turned>, cell: EventCell<Turned>)
-    ensures placed { onto (map turn_of held.new.after) (map turn_of held.new.before) ≡ onto (map turn_of held.old.after) (put_turn (turn_of cell) (map turn_of held.old.before)) }
-    ensures passed { Each (λ u. rank cell.key ≤ rank u.key) held.old.after → Each (λ u. rank cell.key ≤ rank u.key) held.new.after }
+    ensures placed { onto (map turn_of held.new.after) (map turn_of held.new.before)
+        ≡ onto (map turn_of held.old.after)
+        (put_turn (turn_of cell) (map turn_of held.old.before)) }
+    ensures passed { Each (λ u. rank cell.key ≤ rank u.key) held.old.after
+        → Each (λ u. rank cell.key ≤ rank u.key) held.new.after }
 {
     let bound = Bound::At(cell.value().key);
     while is_last_from(held, bound) {
@@ -74,7 +77,8 @@ pub fn merge(held: &mut EventList<Turned>, mut turns: EventList<Turned>)
     requires turns_front { turns.before ≡ [] }
     requires falls { Falls (turns_of turns.after) }
     ensures front { held.new.before ≡ [] }
-    ensures all { turns_of held.new.after ≡ put_turns (turns_of turns.after) (turns_of held.old.after) }
+    ensures all { turns_of held.new.after
+        ≡ put_turns (turns_of turns.after) (turns_of held.old.after) }
 {
     let Some(first) = turns.peek_next() else {
         return;
@@ -92,7 +96,8 @@ fn merge_among(held: &mut EventList<Turned>, mut turns: EventList<Turned>)
     requires turns_front { turns.before ≡ [] }
     requires falls { Falls (turns_of turns.after) }
     ensures front { held.new.before ≡ [] }
-    ensures all { turns_of held.new.after ≡ put_turns (turns_of turns.after) (turns_of held.old.after) }
+    ensures all { turns_of held.new.after
+        ≡ put_turns (turns_of turns.after) (turns_of held.old.after) }
 {
     pass_to_end(held);
     pass_to_end(&mut turns);

@@ -55,7 +55,8 @@ impl Change {
     /// Whether one of the last few changes replaced all that this one did, so that it need not be kept: it is the same whether it
     /// is put back.
     pub(crate) fn is_covered(&self, earlier: &[Change]) -> bool
-        ensures { result ≡ true → (state : List Datum) → unwound earlier.now (restored self.now state) ≡ unwound earlier.now state }
+        ensures { result ≡ true → (state : List Datum)
+            → unwound earlier.now (restored self.now state) ≡ unwound earlier.now state }
     {
         let count = earlier.len();
         for at in count.saturating_sub(RECENT)..count {

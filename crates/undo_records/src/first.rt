@@ -35,7 +35,10 @@ pub(crate) fn is_same_first(a: Traced, b: Traced) -> bool
 
 // Whether the items of two cells are the same in the first states, where both are lists of so many.
 fn have_same_parts(a: Traced, b: Traced, count: usize) -> bool
-    ensures { length (items_of (first_value a.entry)) ≡ count → length (items_of (first_value b.entry)) ≡ count → result ≡ pointwise same (items_of (first_value a.entry)) (items_of (first_value b.entry)) }
+    ensures { length (items_of (first_value a.entry)) ≡ count
+        → length (items_of (first_value b.entry)) ≡ count
+        → result ≡ pointwise same (items_of (first_value a.entry))
+        (items_of (first_value b.entry)) }
 {
     for index in 0..count {
         if first_part(a, index) != first_part(b, index) {
@@ -47,7 +50,8 @@ fn have_same_parts(a: Traced, b: Traced, count: usize) -> bool
 
 // What the oldest change of a cell as a whole replaced.
 fn first_whole<'a>(traced: Traced<'a>) -> &'a Value
-    ensures { result.now ≡ whole_earliest traced.entry.cell (written_in traced.entry) traced.entry.current.now }
+    ensures { result.now ≡ whole_earliest traced.entry.cell
+        (written_in traced.entry) traced.entry.current.now }
 {
     let mut value = whole_in(traced.newest.as_slice(), traced.cell, traced.current);
     for changes in traced.older {
@@ -70,7 +74,8 @@ fn whole_in<'a>(changes: &'a [Change], cell: usize, later: &'a Value) -> &'a Val
 
 // What the oldest change of an item, or of its whole cell, replaced.
 fn first_part<'a>(traced: Traced<'a>, index: usize) -> &'a Value
-    ensures { result.now ≡ part_earliest traced.entry.cell index (written_in traced.entry) (part index traced.entry.current.now) }
+    ensures { result.now ≡ part_earliest traced.entry.cell index (written_in traced.entry)
+        (part index traced.entry.current.now) }
 {
     let item = part_of(traced.current, index);
     let mut item = part_in(traced.newest.as_slice(), traced.cell, index, item);

@@ -42,7 +42,8 @@ impl Model for Store {
 
     ghost view = { λ s. record {
       current = s.current.items;
-      below = states_below (marks_of s.is_marked s.newest.items (map changes_in s.older.items)) s.current.items;
+      below = states_below
+          (marks_of s.is_marked s.newest.items (map changes_in s.older.items)) s.current.items;
     } };
 
     ghost invariant = { λ s. IsPlain s.is_marked s.newest.items (map changes_in s.older.items)
@@ -221,7 +222,8 @@ impl Cells for Store {
     }
 
     fn set(&mut self, cell: usize, value: Value) -> Result<(), NoMemory>
-        ensures ok { OnOk result (self.new ≡ record self.old { current = slice_set self.old.current cell value }) }
+        ensures ok { OnOk result (self.new
+            ≡ record self.old { current = slice_set self.old.current cell value }) }
         ensures err { OnErr result (self.new ≡ self.old) }
     {
         if cell >= self.current.len() {
@@ -235,7 +237,8 @@ impl Cells for Store {
 
     #[inline(always)]
     fn set_scalar(&mut self, cell: usize, scalar: Scalar) -> Result<(), NoMemory>
-        ensures ok { OnOk result (self.new ≡ record self.old { current = slice_set self.old.current cell (Just scalar) }) }
+        ensures ok { OnOk result (self.new
+            ≡ record self.old { current = slice_set self.old.current cell (Just scalar) }) }
         ensures err { OnErr result (self.new ≡ self.old) }
     {
         if cell == self.noted && cell < self.current.len() {
@@ -246,7 +249,8 @@ impl Cells for Store {
     }
 
     fn set_at(&mut self, cell: usize, index: usize, value: Value) -> Result<(), NoMemory>
-        ensures ok { OnOk result (self.new ≡ record self.old { current = set_item cell index value self.old.current }) }
+        ensures ok { OnOk result (self.new
+            ≡ record self.old { current = set_item cell index value self.old.current }) }
         ensures err { OnErr result (self.new ≡ self.old) }
     {
         if cell >= self.current.len() {
@@ -314,7 +318,8 @@ fn note_scalar(newest: &mut Vec<Change>, noted: &mut usize, cell: usize, old: &V
         unwound newest.new.items state ≡ unwound newest.old.items (slice_set state cell old.now) }
     ensures covered { result ≡ true → IsCovered cell newest.new.items }
     ensures last { result ≡ true → noted.new ≡ cell }
-    ensures none { result ≡ false → (newest.new.items ≡ newest.old.items) × (noted.new ≡ noted.old) }
+    ensures none { result ≡ false → (newest.new.items ≡ newest.old.items)
+        × (noted.new ≡ noted.old) }
 {
     if is_cell_covered(cell, newest.as_slice()) {
         *noted = cell;

@@ -13,7 +13,8 @@ use std::thread::Threads;
 use terms::Refusal;
 use trace::Counted;
 
-// The numbers of workers and the budgets with which each run that is done to its end has to come out the same.
+// The numbers of workers and the budgets with which each run that is done to its end has to come out the same, unless its case is for its own
+// words alone.
 const CREWS: [(&str, &str); 8] = [
     ("1", "1"),
     ("1", "64"),
@@ -203,7 +204,7 @@ impl Case {
         self.number("number") == Some(u64::from(number)) && self.number("place") == place
     }
 
-    // Whether the service answers with the wanted status and texts: to the words of the case, and to a run with every other crew.
+    // Whether the service answers with the wanted status and texts: to the words of the case, and to a run for each crew with every other one.
     fn is_served<R: Threads + Wait + Sync>(
         &self,
         rt: &R,
@@ -213,7 +214,7 @@ impl Case {
         if !self.is_answered(rt, alloc, words.as_slice())? {
             return Ok(false);
         }
-        if !self.is_done_run(words.as_slice()) {
+        if !self.is_for_each_crew(words.as_slice()) {
             return Ok(true);
         }
         for (workers, budget) in CREWS {
@@ -244,8 +245,11 @@ impl Case {
         Ok(status_is_right && out_is_right && err_is_right)
     }
 
-    fn is_done_run(&self, words: &[String]) -> bool {
-        self.number("status") == Some(0) && words.first().is_some_and(|word| word.as_str() == "run")
+    // Whether it is a run that is done to its end, and the case doesn't say that it is for its own words alone.
+    fn is_for_each_crew(&self, words: &[String]) -> bool {
+        self.number("status") == Some(0)
+            && words.first().is_some_and(|word| word.as_str() == "run")
+            && self.value.get("alone").is_none()
     }
 
     fn words(&self, alloc: Global) -> Result<Vec<String>, AllocError> {

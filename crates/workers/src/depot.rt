@@ -67,7 +67,8 @@ impl<T: Turns> Model for Depot<T> {
 
     ghost Value = { Setup T };
 
-    ghost coded = { Prim.hlevel (codes, shape.the_row.coded, term.the_row.coded, effect.the_row.coded, datum_code) };
+    ghost coded = { Prim.hlevel
+        (codes, shape.the_row.coded, term.the_row.coded, effect.the_row.coded, datum_code) };
 
     ghost view = { λ d. d.waiting };
 }

@@ -58,7 +58,8 @@ pub fn run_ahead<T: Turns>(
     budget: u32,
 ) -> Result<u32, NoMemory>
     ensures same { StaysItself T.turn_of lease.old lease.new }
-    ensures ahead { IfOk result (λ count. IsAhead (machine_of T.turn_of lease.old.component.setup) lease.old lease.new count) }
+    ensures ahead { IfOk result (λ count. IsAhead
+        (machine_of T.turn_of lease.old.component.setup) lease.old lease.new count) }
     ensures most { IfOk result (λ count. count ≤ budget) }
     ensures none { IfOk result (λ count. count ≡ 0 → (budget ≡ 0)
         ⊎ ((next_entry T.turn_of lease.old.component ≡ None)

@@ -66,8 +66,10 @@ pub fn run<T: Turns, W: Write + Drop, G: Gate<T>, R: Threads + Wait + Sync>(
 ) -> Result<Summary, RunFault>
     requires workers { (1 ≤ workers) × (workers ≤ 64) }
     requires budget { (1 ≤ budget) × (budget ≤ 65535) }
-    ensures whole { IfOk result (λ summary. WroteAll T.turn_of W.contents (arc_value setup) lines out.old out.new summary.turns) }
-    ensures unfinished { IfErr result (WroteSome T.turn_of W.contents (arc_value setup) lines out.old out.new 0) }
+    ensures whole { IfOk result (λ summary. WroteAll T.turn_of W.contents
+        (arc_value setup) lines out.old out.new summary.turns) }
+    ensures unfinished { IfErr result
+        (WroteSome T.turn_of W.contents (arc_value setup) lines out.old out.new 0) }
 {
     run_lines(rt, alloc, None, setup, workers, budget, gate, lines, out)
 }
@@ -198,7 +200,8 @@ fn start<T: Turns, R: Wait>(
 ) -> Result<Begun<T>, NoMemory>
     requires workers { (1 ≤ workers) × (workers ≤ 64) }
     ensures crew { IfOk result (λ begun. All (IsOf begun.shared) begun.crew.items) }
-    ensures caller { IfOk result (λ begun. IsCallerOf begun.shared (arc_value setup.now) begun.caller) }
+    ensures caller { IfOk result (λ begun. IsCallerOf begun.shared
+        (arc_value setup.now) begun.caller) }
 {
     let lent = Vec::from_array(alloc, [lend_out(alloc, window, setup, workers)?])?;
     let (exchange, mut locks) = Pool::new(rt, alloc, lent, workers + 1)?;
@@ -273,7 +276,8 @@ fn start_exchange<T: Turns>(
     window: Option<Window>,
     setup: &Arc<Setup<T>>,
 ) -> Result<(Exchange<T>, Vec<Lease<T>>), NoMemory>
-    ensures leases { IfOk result (λ both. All (λ lease. setup_of lease ≡ arc_value setup.now) both.1.items) }
+    ensures leases { IfOk result (λ both. All
+        (λ lease. setup_of lease ≡ arc_value setup.now) both.1.items) }
     ensures exchange { IfOk result (λ both. both.0.setup ≡ arc_value setup.now) }
 {
     Ok(Exchange::start(alloc, Arc::try_clone(setup)?, window)?)
@@ -323,8 +327,10 @@ fn run_begun<T: Turns, W: Write + Drop, G: Gate<T>, R: Threads + Wait + Sync>(
 ) -> Result<Stats, RunFault>
     requires crew { All (IsOf begun.shared) begun.crew.items }
     requires caller { IsCallerOf begun.shared own.now begun.caller }
-    ensures whole { IfOk result (λ stats. WroteAll T.turn_of W.contents own.now lines out.old out.new stats.turns) }
-    ensures unfinished { IfErr result (WroteSome T.turn_of W.contents own.now lines out.old out.new before) }
+    ensures whole { IfOk result
+        (λ stats. WroteAll T.turn_of W.contents own.now lines out.old out.new stats.turns) }
+    ensures unfinished { IfErr result
+        (WroteSome T.turn_of W.contents own.now lines out.old out.new before) }
 {
     let Begun {
         shared,
@@ -352,8 +358,10 @@ fn lend<'x, T: Turns, W: Write + Drop, G: Gate<T>, R: Threads + Wait + Sync>(
 ) -> Result<Stats, RunFault>
     requires crew { All (IsOf shared.now) crew.items }
     requires caller { IsCallerOf shared.now own.now caller }
-    ensures whole { IfOk result (λ stats. WroteAll T.turn_of W.contents own.now lines out.old out.new stats.turns) }
-    ensures unfinished { IfErr result (WroteSome T.turn_of W.contents own.now lines out.old out.new before) }
+    ensures whole { IfOk result
+        (λ stats. WroteAll T.turn_of W.contents own.now lines out.old out.new stats.turns) }
+    ensures unfinished { IfErr result
+        (WroteSome T.turn_of W.contents own.now lines out.old out.new before) }
 {
     replace_with(
         out,
@@ -363,8 +371,11 @@ fn lend<'x, T: Turns, W: Write + Drop, G: Gate<T>, R: Threads + Wait + Sync>(
             Result<Stats, RunFault>,
         )
             requires { All (IsOf shared.now) hands.0.items × IsCallerOf shared.now own.now hands.1 }
-            ensures whole { IfOk result.1 (λ stats. WroteAll T.turn_of W.contents own.entry.now lines lent result.0 stats.turns) }
-            ensures unfinished { IfErr result.1 (WroteSome T.turn_of W.contents own.entry.now lines lent result.0 before) }
+            ensures whole { IfOk result.1
+                (λ stats. WroteAll T.turn_of W.contents own.entry.now lines lent result.0
+                stats.turns) }
+            ensures unfinished { IfErr result.1
+                (WroteSome T.turn_of W.contents own.entry.now lines lent result.0 before) }
         {
             in_scope(
                 rt, alloc, shared, own, hands.0, hands.1, budget, gate, lines, before, lent,
@@ -389,16 +400,21 @@ fn in_scope<'x, T: Turns, W: Write + Drop, G: Gate<T>, R: Threads + Wait + Sync>
 ) -> (Counted<W>, Result<Stats, RunFault>)
     requires crew { All (IsOf shared.now) crew.items }
     requires caller { IsCallerOf shared.now own.now caller }
-    ensures whole { IfOk result.1 (λ stats. WroteAll T.turn_of W.contents own.now lines out result.0 stats.turns) }
-    ensures unfinished { IfErr result.1 (WroteSome T.turn_of W.contents own.now lines out result.0 before) }
+    ensures whole { IfOk result.1
+        (λ stats. WroteAll T.turn_of W.contents own.now lines out result.0 stats.turns) }
+    ensures unfinished { IfErr result.1
+        (WroteSome T.turn_of W.contents own.now lines out result.0 before) }
 {
     thread::scope(
         thread::scope_env(),
         rt,
         move |scope| -> (Counted<W>, Result<Stats, RunFault>)
             requires { All (IsOf shared.now) crew.items × IsCallerOf shared.now own.now caller }
-            ensures whole { IfOk result.1 (λ stats. WroteAll T.turn_of W.contents own.entry.now lines out result.0 stats.turns) }
-            ensures unfinished { IfErr result.1 (WroteSome T.turn_of W.contents own.entry.now lines out result.0 before) }
+            ensures whole { IfOk result.1
+                (λ stats. WroteAll T.turn_of W.contents own.entry.now lines out result.0
+                stats.turns) }
+            ensures unfinished { IfErr result.1
+                (WroteSome T.turn_of W.contents own.entry.now lines out result.0 before) }
         {
             for worker in crew {
                 if !gate.may_start(worker.number) {

@@ -119,8 +119,10 @@ fn put_portion<W: Write>(
     out: &mut Counted<W>,
 ) -> Result<u64, WriteFault>
     requires front { turns.now.before ≡ [] }
-    ensures ok { IfOk result (λ after. Puts W.contents out.old out.new before after (text_of plan.now lines turns.now.after)) }
-    ensures err { IfErr result (Stops W.contents out.old out.new before (text_of plan.now lines turns.now.after)) }
+    ensures ok { IfOk result (λ after. Puts W.contents out.old out.new before after
+        (text_of plan.now lines turns.now.after)) }
+    ensures err { IfErr result
+        (Stops W.contents out.old out.new before (text_of plan.now lines turns.now.after)) }
 {
     append_turns(plan, turns.iter(), lines, before, out)
 }
@@ -144,8 +146,10 @@ pub(crate) fn write_all<T: Turns, W: Write, R: Wait>(
     out: &mut Counted<W>,
 ) -> Result<Stats, RunFault>
     requires { IsCallerOf shared.now own.now caller.old }
-    ensures whole { IfOk result (λ stats. WroteAll T.turn_of W.contents own.now lines out.old out.new stats.turns) }
-    ensures unfinished { IfErr result (WroteSome T.turn_of W.contents own.now lines out.old out.new before) }
+    ensures whole { IfOk result
+        (λ stats. WroteAll T.turn_of W.contents own.now lines out.old out.new stats.turns) }
+    ensures unfinished { IfErr result
+        (WroteSome T.turn_of W.contents own.now lines out.old out.new before) }
 {
     turns_are_schedule(own);
     let mut written = 0;

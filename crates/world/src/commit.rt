@@ -34,13 +34,16 @@ pub(crate) fn drop_between<T: Turns>(
     to: usize,
     bound: Bound,
 ) -> EventList<Turned>
-    requires orderly { AreOrderly (machine_of T.turn_of setup.now) from to setup.now components.old }
+    requires orderly { AreOrderly
+        (machine_of T.turn_of setup.now) from to setup.now components.old }
     requires there { to ≤ length components.old }
     ensures many { length components.new ≡ length components.old }
-    ensures cut { AreCut (machine_of T.turn_of setup.now) from to bound components.old components.new }
+    ensures cut { AreCut
+        (machine_of T.turn_of setup.now) from to bound components.old components.new }
     ensures front { result.before ≡ [] }
     ensures falls { Falls (turns_of result.after) }
-    ensures turns { AreDropped (machine_of T.turn_of setup.now) from to bound components.old (turns_of result.after) }
+    ensures turns { AreDropped (machine_of T.turn_of setup.now) from to bound components.old
+        (turns_of result.after) }
 {
     machine_is_lawful(setup);
     dropped_law::<State, Action>();
@@ -63,7 +66,8 @@ pub(crate) fn append(committed: &mut EventList<Turned>, mut turns: EventList<Tur
     requires end { committed.old.after ≡ [] }
     requires front { turns.before ≡ [] }
     requires few { length turns.after < 2 ^ 64 }
-    ensures all { committed.new ≡ record { before = onto turns.after committed.old.before; after = [] } }
+    ensures all { committed.new
+        ≡ record { before = onto turns.after committed.old.before; after = [] } }
     ensures count { result ≡ length turns.after }
 {
     committed.append_all(&mut turns);

@@ -11,7 +11,7 @@ use task_seed::{Setup, Turns};
 pub fn equal_world_law<T: Turns>(a: &World<T>, b: &World<T>)
     ensures parts { ⟦<World<T> as PartialEq>⟧.eq a.now b.now ≡ true →
         HaveEqualParts ⟦<Setup<T> as PartialEq>⟧.eq ⟦<Component<T> as PartialEq>⟧.eq a.now b.now }
-    ensures equal { HaveEqualParts ⟦<Setup<T> as PartialEq>⟧.eq ⟦<Component<T> as PartialEq>⟧.eq a.now b.now →
-        ⟦<World<T> as PartialEq>⟧.eq a.now b.now ≡ true }
+    ensures equal { HaveEqualParts ⟦<Setup<T> as PartialEq>⟧.eq ⟦<Component<T> as PartialEq>⟧.eq
+        a.now b.now → ⟦<World<T> as PartialEq>⟧.eq a.now b.now ≡ true }
     ensures same { a.now ≡ b.now → ⟦<World<T> as PartialEq>⟧.eq a.now b.now ≡ true }
 {}

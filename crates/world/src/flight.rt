@@ -28,9 +28,12 @@ fn process_at<T: Turns>(
     flight: &mut Bag,
 ) -> Result<Key, ProcessRefused>
     requires { i < length components.old }
-    ensures key { IfOk result (λ key. (c : ComponentView (SetupValue T)) → slice_get components.old i ≡ Some c → HasNextKey T.turn_of c key) }
-    ensures done { OnOk result (IsSteppedAt T.turn_of i components.old flight.old components.new flight.new) }
-    ensures nothing { OfComponent i components.old (λ c. IsErrOf result ProcessRefused.NothingPending ↔ (next_entry T.turn_of c ≡ None)) }
+    ensures key { IfOk result (λ key. (c : ComponentView (SetupValue T))
+        → slice_get components.old i ≡ Some c → HasNextKey T.turn_of c key) }
+    ensures done { OnOk result
+        (IsSteppedAt T.turn_of i components.old flight.old components.new flight.new) }
+    ensures nothing { OfComponent i components.old
+        (λ c. IsErrOf result ProcessRefused.NothingPending ↔ (next_entry T.turn_of c ≡ None)) }
     ensures kept { OnErr result ((components.new ≡ components.old) × (flight.new ≡ flight.old)) }
 {
     components[usize::from(i)].process(alloc, flight)
@@ -39,8 +42,10 @@ fn process_at<T: Turns>(
 // The key of the entry that was taken back, where one was done.
 fn roll_back_at<T: Turns>(components: &mut [Component<T>], i: u16, flight: &mut Bag) -> Option<Key>
     requires { i < length components.old }
-    ensures key { (c : ComponentView (SetupValue T)) → slice_get components.old i ≡ Some c → option_map rank result ≡ last_key c.history.done }
-    ensures done { IfSome result (λ _. IsRolledBackAt T.turn_of i components.old flight.old components.new flight.new) }
+    ensures key { (c : ComponentView (SetupValue T)) → slice_get components.old i ≡ Some c
+        → option_map rank result ≡ last_key c.history.done }
+    ensures done { IfSome result
+        (λ _. IsRolledBackAt T.turn_of i components.old flight.old components.new flight.new) }
     ensures kept { IfNone result ((components.new ≡ components.old) × (flight.new ≡ flight.old)) }
 {
     let component = &mut components[usize::from(i)];
@@ -56,9 +61,12 @@ fn deliver_at<T: Turns>(
     flight: &mut Bag,
 ) -> u64
     requires there { cell.message.to < length components.old }
-    requires number { (c : ComponentView (SetupValue T)) → slice_get components.old cell.message.to ≡ Some c → c.number ≡ cell.message.to }
-    ensures done { IsComeTo T.turn_of cell.message.to components.old flight.old components.new flight.new cell }
-    ensures count { OfComponent cell.message.to components.old (λ c. result ≡ length (taken_back T.turn_of c cell)) }
+    requires number { (c : ComponentView (SetupValue T))
+        → slice_get components.old cell.message.to ≡ Some c → c.number ≡ cell.message.to }
+    ensures done { IsComeTo T.turn_of cell.message.to components.old flight.old components.new
+        flight.new cell }
+    ensures count { OfComponent cell.message.to components.old
+        (λ c. result ≡ length (taken_back T.turn_of c cell)) }
 {
     let to = usize::from(cell.value().message.to);
     components[to].deliver(cell, flight)
@@ -90,7 +98,8 @@ pub(crate) fn process<T: Turns>(
     i: u16,
     flight: &mut Bag,
 ) -> Result<Key, StepRefused>
-    ensures step { Steps T.turn_of setup.now components.old flight.old components.new flight.new (Process i) (answer_by Reply.Processed result) }
+    ensures step { Steps T.turn_of setup.now components.old flight.old components.new flight.new
+        (Process i) (answer_by Reply.Processed result) }
     ensures many { length components.new ≡ length components.old }
     ensures kept { OnErr result ((components.new ≡ components.old) × (flight.new ≡ flight.old)) }
 {
@@ -112,7 +121,8 @@ pub(crate) fn roll_back<T: Turns>(
     i: u16,
     flight: &mut Bag,
 ) -> Result<Key, StepRefused>
-    ensures step { Steps T.turn_of setup.now components.old flight.old components.new flight.new (RollBack i) (answer_by Reply.RolledBack result) }
+    ensures step { Steps T.turn_of setup.now components.old flight.old components.new flight.new
+        (RollBack i) (answer_by Reply.RolledBack result) }
     ensures many { length components.new ≡ length components.old }
     ensures kept { OnErr result ((components.new ≡ components.old) × (flight.new ≡ flight.old)) }
 {
@@ -134,7 +144,8 @@ pub(crate) fn deliver<T: Turns>(
     flight: &mut Bag,
 ) -> Result<u64, StepRefused>
     requires { HasWorld T.turn_of setup.now components.old flight.old }
-    ensures step { Delivers T.turn_of setup.now components.old flight.old components.new flight.new signed.now (answer_by Reply.Delivered result) }
+    ensures step { Delivers T.turn_of setup.now components.old flight.old components.new flight.new
+        signed.now (answer_by Reply.Delivered result) }
     ensures many { length components.new ≡ length components.old }
     ensures kept { OnErr result ((components.new ≡ components.old) × (flight.new ≡ flight.old)) }
 {
@@ -156,7 +167,8 @@ pub(crate) fn meet<T: Turns>(
     message: &Message,
     flight: &mut Bag,
 ) -> Result<(), StepRefused>
-    ensures step { Meets T.turn_of setup.now components.now flight.old flight.new message.now (answer_by (λ _. Reply.Met) result) }
+    ensures step { Meets T.turn_of setup.now components.now flight.old flight.new message.now
+        (answer_by (λ _. Reply.Met) result) }
     ensures kept { OnErr result (flight.new ≡ flight.old) }
 {
     laws(setup);

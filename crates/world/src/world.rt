@@ -70,17 +70,34 @@ impl<T: Turns> Model for World<T> {
 
     ghost Value = { Simulation (Setup T) };
 
-    ghost coded = { Prim.hlevel (codes, shape.the_row.coded, term.the_row.coded, effect.the_row.coded, datum_code) };
+    ghost coded = { Prim.hlevel
+        (codes, shape.the_row.coded, term.the_row.coded, effect.the_row.coded, datum_code) };
 
-    ghost view = { λ w. record { setup = arc_value w.setup; components = w.components.items; flight = w.flight; bound = w.bound; committed = w.committed.before } };
+    ghost view = { λ w.
+        record {
+          setup = arc_value w.setup;
+          components = w.components.items;
+          flight = w.flight;
+          bound = w.bound;
+          committed = w.committed.before;
+        } };
 
-    ghost invariant = { λ w. (w.committed.after ≡ []) × IsSimulation (system T.turn_of (arc_value w.setup)) (record { setup = arc_value w.setup; components = w.components.items; flight = w.flight; bound = w.bound; committed = w.committed.before }) };
+    ghost invariant = { λ w. (w.committed.after ≡ [])
+        × IsSimulation (system T.turn_of (arc_value w.setup))
+        (record {
+          setup = arc_value w.setup;
+          components = w.components.items;
+          flight = w.flight;
+          bound = w.bound;
+          committed = w.committed.before;
+        }) };
 }
 
 impl<T: Turns> World<T> {
     /// The world of a setup at its start.
     pub fn new(alloc: Global, setup: Arc<Setup<T>>) -> Result<World<T>, NoMemory>
-        ensures value { IfOk result (λ world. world ≡ start_simulation T.turn_of (arc_value setup)) }
+        ensures value { IfOk result (λ world. world
+            ≡ start_simulation T.turn_of (arc_value setup)) }
         ensures start { IfOk result (IsAtStart T.turn_of (arc_value setup)) }
     {
         let mut components = Vec::new(alloc);
@@ -107,7 +124,8 @@ impl<T: Turns> World<T> {
     /// nothing.
     pub fn soundness_law(&self)
         ensures reached { IsReachedBySteps T.turn_of self.now }
-        ensures sound { IsWorld (machine_of T.turn_of self.now.setup) (world_of (machine_of T.turn_of self.now.setup) self.now) }
+        ensures sound { IsWorld (machine_of T.turn_of self.now.setup)
+            (world_of (machine_of T.turn_of self.now.setup) self.now) }
         ensures simulation { IsSimulation (system T.turn_of self.now.setup) self.now }
         ensures order { IsInOrder self.now.flight }
     {
@@ -129,7 +147,8 @@ impl<T: Turns> World<T> {
     /// the committed bound.
     pub fn committed(&self) -> &EventList<Turned>
         ensures turns { result.now ≡ record { before = self.now.committed; after = [] } }
-        ensures reference { IsReference (machine_of T.turn_of self.now.setup) (rank_of_bound self.now.bound) (map turn_of self.now.committed) }
+        ensures reference { IsReference (machine_of T.turn_of self.now.setup)
+            (rank_of_bound self.now.bound) (map turn_of self.now.committed) }
     {
         laws(&self.setup);
         &self.committed
@@ -143,7 +162,8 @@ impl<T: Turns> World<T> {
     /// `NoMemory`, `NoSuchComponent` and `NothingPending` of `Process`; `NoSuchMessage` of `Deliver` and `Meet`; `NoSuchComponent` and
     /// `NothingToRollBack` of `RollBack`; `AheadOfTime` and `BehindCommit` of `Commit`.
     pub fn step(&mut self, alloc: Global, step: &Step) -> Result<Reply, StepRefused>
-        ensures answers { Answered T.turn_of self.old (step_of step.now) (answer_of result) self.new }
+        ensures answers { Answered T.turn_of self.old (step_of step.now)
+            (answer_of result) self.new }
         ensures stays { StaysCommitted T.turn_of self.old self.new }
         ensures rises { VirtualTimeRises T.turn_of self.old (step_of step.now) self.new }
         ensures setup { self.new.setup ≡ self.old.setup }
@@ -158,7 +178,8 @@ impl<T: Turns> World<T> {
     }
 
     fn answer(&mut self, alloc: Global, step: &Step) -> Result<Reply, StepRefused>
-        ensures answers { Answered T.turn_of self.old (step_of step.now) (answer_of result) self.new }
+        ensures answers { Answered T.turn_of self.old (step_of step.now)
+            (answer_of result) self.new }
         ensures setup { self.new.setup ≡ self.old.setup }
         ensures keeps { Keeps self.old self.new }
         ensures kept { OnErr result (self.new ≡ self.old) }
@@ -176,7 +197,8 @@ impl<T: Turns> World<T> {
     }
 
     fn process(&mut self, alloc: Global, i: u16) -> Result<Key, StepRefused>
-        ensures answers { Answered T.turn_of self.old (Process i) (answer_by Reply.Processed result) self.new }
+        ensures answers { Answered T.turn_of self.old (Process i)
+            (answer_by Reply.Processed result) self.new }
         ensures setup { self.new.setup ≡ self.old.setup }
         ensures keeps { Keeps self.old self.new }
         ensures kept { OnErr result (self.new ≡ self.old) }
@@ -191,7 +213,8 @@ impl<T: Turns> World<T> {
     }
 
     fn roll_back(&mut self, i: u16) -> Result<Key, StepRefused>
-        ensures answers { Answered T.turn_of self.old (RollBack i) (answer_by Reply.RolledBack result) self.new }
+        ensures answers { Answered T.turn_of self.old (RollBack i)
+            (answer_by Reply.RolledBack result) self.new }
         ensures setup { self.new.setup ≡ self.old.setup }
         ensures keeps { Keeps self.old self.new }
         ensures kept { OnErr result (self.new ≡ self.old) }
@@ -200,7 +223,8 @@ impl<T: Turns> World<T> {
     }
 
     fn deliver(&mut self, signed: &Signed) -> Result<u64, StepRefused>
-        ensures answers { Answered T.turn_of self.old (delivering signed.now) (answer_by Reply.Delivered result) self.new }
+        ensures answers { Answered T.turn_of self.old (delivering signed.now)
+            (answer_by Reply.Delivered result) self.new }
         ensures setup { self.new.setup ≡ self.old.setup }
         ensures keeps { Keeps self.old self.new }
         ensures kept { OnErr result (self.new ≡ self.old) }
@@ -209,7 +233,8 @@ impl<T: Turns> World<T> {
     }
 
     fn meet(&mut self, message: &Message) -> Result<(), StepRefused>
-        ensures answers { Answered T.turn_of self.old (meeting message.now) (answer_by (λ _. Reply.Met) result) self.new }
+        ensures answers { Answered T.turn_of self.old (meeting message.now)
+            (answer_by (λ _. Reply.Met) result) self.new }
         ensures setup { self.new.setup ≡ self.old.setup }
         ensures keeps { Keeps self.old self.new }
         ensures kept { OnErr result (self.new ≡ self.old) }
@@ -218,7 +243,8 @@ impl<T: Turns> World<T> {
     }
 
     fn commit(&mut self, bound: Bound) -> Result<u64, StepRefused>
-        ensures answers { Answered T.turn_of self.old (Commit (rank_of_bound bound)) (answer_by Reply.Committed result) self.new }
+        ensures answers { Answered T.turn_of self.old (Commit (rank_of_bound bound))
+            (answer_by Reply.Committed result) self.new }
         ensures setup { self.new.setup ≡ self.old.setup }
         ensures keeps { Keeps self.old self.new }
         ensures kept { OnErr result (self.new ≡ self.old) }
@@ -252,8 +278,11 @@ impl<T: Turns> World<T> {
         alloc: Global,
         steps: &[Step],
     ) -> Result<Vec<Result<Reply, StepRefused>>, NoMemory>
-        ensures ran { IfOk result (λ answers. Ran T.turn_of self.old (map step_of steps.now) (map answer_of answers.items) self.new) }
-        ensures back { IfOk result (λ answers. (i : ℕ) → ThereAndBack T.turn_of self.old i steps.now answers.items self.new → self.new ≡ self.old) }
+        ensures ran { IfOk result (λ answers. Ran T.turn_of self.old (map step_of steps.now)
+            (map answer_of answers.items) self.new) }
+        ensures back { IfOk result (λ answers. (i : ℕ)
+            → ThereAndBack T.turn_of self.old i steps.now answers.items self.new
+            → self.new ≡ self.old) }
         ensures first { IfOk result (λ a. ComesBack T.turn_of self.old steps.now a.items self.new) }
         ensures stays { IfOk result (λ _. StaysCommitted T.turn_of self.old self.new) }
         ensures setup { self.new.setup ≡ self.old.setup }

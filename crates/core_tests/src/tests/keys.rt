@@ -51,8 +51,10 @@ fn rise<T: Ord>(values: &[T]) -> bool {
 
 // 2 * 2^80, 2^80 + 2^64 and 2^144.
 fn ranks_by_hand()
-    ensures tick { rank (record { tick = 2; component = 0; number = 0 }) ≡ 2417851639229258349412352 }
-    ensures component { rank (record { tick = 1; component = 1; number = 0 }) ≡ 1208944266358702884257792 }
+    ensures tick { rank (record { tick = 2; component = 0; number = 0 })
+        ≡ 2417851639229258349412352 }
+    ensures component { rank (record { tick = 1; component = 1; number = 0 })
+        ≡ 1208944266358702884257792 }
     ensures number { rank (record { tick = 0; component = 0; number = 7 }) ≡ 7 }
     ensures owner { owner_of 1208944266358702884257792 ≡ 1 }
     ensures end { rank_of_bound Bound.End ≡ 22300745198530623141535718272648361505980416 }

@@ -1,16 +1,16 @@
 //! Advice on names that mean nothing, and on names that stand twice.
 
-use crate::advice::near::nearest;
+use crate::advice::brackets::open_before;
 use crate::advice::saying::Advice;
 use crate::outline::{
-    Declared, Part, Sort, Spot, entry_sort, name_at, spot_at, word_at, word_before,
+    Declared, Part, Sort, Spot, entry_sort, find_own, spelling_at, spot_at, word_at, word_before,
 };
 use ioa_tokens::{Token, Word};
 use std::alloc::Global;
 use terms::NoMemory;
 
 /// What is needed where a name stands.
-#[derive(Clone, Copy, Debug, PartialEq, Eq)]
+#[derive(Clone, Copy)]
 pub(crate) enum Needed {
     Type,
     Formal,
@@ -23,11 +23,17 @@ pub(crate) enum Needed {
     Argument,
     /// An entry of this sort.
     Entry(Sort),
+    /// An output or internal.
+    Local,
+    Automaton,
+    /// A name that has a type and stands before.
+    Typed,
+    /// A name that stands before and can be seen.
+    Seen,
 }
 
 /// The advice on a name that isn't known: the names that could stand there, the nearest first.
 pub(crate) fn advise_unknown(
-    alloc: Global,
     tokens: &[Token],
     declared: &[Declared],
     at: usize,
@@ -37,30 +43,78 @@ pub(crate) fn advise_unknown(
     let needed = needed_at(tokens, at, spot);
     advice.say(phrase(needed))?;
     advice.say(" is needed")?;
-    let mut names: Vec<&str> = Vec::new(alloc);
+    let names = names_of(advice.alloc, declared, needed, spot, at)?;
+    let wanted = spelling_at(tokens, at);
+    advise_names(
+        wanted,
+        names.as_slice(),
+        ", and there is none",
+        "; there is ",
+        advice,
+    )
+}
+
+/// The names that are nearest to one, or that there is none.
+pub(crate) fn advise_names(
+    wanted: &str,
+    names: &[&str],
+    none: &str,
+    some: &str,
+    advice: &mut Advice,
+) -> Result<(), NoMemory> {
+    if names.is_empty() {
+        return advice.say(none);
+    }
+    advice.say(some)?;
+    advice.list_nearest(wanted, names, true)
+}
+
+/// The names that can stand at a token where this is needed.
+pub(crate) fn names_of<'a>(
+    alloc: Global,
+    declared: &[Declared<'a>],
+    needed: Needed,
+    spot: Spot,
+    at: usize,
+) -> Result<Vec<&'a str>, NoMemory> {
+    let mut names = Vec::new(alloc);
     for known in declared {
         if known.at != at && can_stand(known, needed, spot, at) {
             names.push(known.name)?;
         }
     }
-    if names.is_empty() {
-        return advice.say(", and there is none");
-    }
-    let wanted = name_at(tokens, at).unwrap_or("");
-    let near = nearest(alloc, wanted, names.as_slice())?;
-    advice.say("; there is ")?;
-    advice.list(near.as_slice(), " and ")?;
-    advise_more(names.len() - near.len().min(names.len()), advice)
+    Ok(names)
 }
 
-/// How many names more there are.
-pub(crate) fn advise_more(more: usize, advice: &mut Advice) -> Result<(), NoMemory> {
-    if more == 0 {
-        return Ok(());
+/// The first of this name that can stand at a token where this is needed.
+pub(crate) fn first_named<'a>(
+    declared: &[Declared<'a>],
+    needed: Needed,
+    spot: Spot,
+    at: usize,
+    name: &str,
+) -> Option<Declared<'a>> {
+    for known in declared {
+        if known.name == name && can_stand(known, needed, spot, at) {
+            return Some(*known);
+        }
     }
-    advice.say(", and ")?;
-    advice.count(more)?;
-    advice.say(" more")
+    None
+}
+
+/// The last one that can stand at a token where this is needed.
+pub(crate) fn last_needed<'a>(
+    declared: &[Declared<'a>],
+    needed: Needed,
+    at: usize,
+) -> Option<Declared<'a>> {
+    let mut last = None;
+    for known in declared {
+        if can_stand(known, needed, known.spot, at) {
+            last = Some(*known);
+        }
+    }
+    last
 }
 
 fn phrase(needed: Needed) -> &'static str {
@@ -68,10 +122,10 @@ fn phrase(needed: Needed) -> &'static str {
         Needed::Type => "a type",
         Needed::Formal => "a formal",
         Needed::Variable => "a state variable",
-        Needed::Value | Needed::Start | Needed::Argument => "a value",
         Needed::Entry(Sort::Input) => "an input of the signature",
         Needed::Entry(Sort::Output) => "an output of the signature",
         Needed::Entry(_) => "an internal of the signature",
+        _ => "a value",
     }
 }
 
@@ -96,7 +150,8 @@ fn needed_at(tokens: &[Token], at: usize, spot: Spot) -> Needed {
     }
 }
 
-fn begins_statement(before: Option<Word>) -> bool {
+/// Whether a statement begins behind this word.
+pub(crate) fn begins_statement(before: Option<Word>) -> bool {
     match before {
         Some(Word::Eff | Word::Semicolon | Word::Then | Word::Else | Word::Do) => true,
         _ => false,
@@ -111,15 +166,15 @@ pub(crate) fn is_type_place(tokens: &[Token], at: usize, part: Part) -> bool {
     match word_before(tokens, at) {
         Some(Word::Colon) => true,
         Some(Word::Equal) => part == Part::Types,
-        Some(Word::OpenBracket) => is_type_bracket(tokens, at.saturating_sub(1)),
+        Some(Word::OpenBracket) => has_types(word_before(tokens, at.saturating_sub(1))),
         Some(Word::Comma) => is_second_type(tokens, at.saturating_sub(1)),
         _ => false,
     }
 }
 
-// Whether the bracket at a token is that of a type.
-fn is_type_bracket(tokens: &[Token], bracket: usize) -> bool {
-    match word_before(tokens, bracket) {
+// Whether a type stands in the bracket behind this word.
+fn has_types(word: Option<Word>) -> bool {
+    match word {
         Some(Word::Seq | Word::Array) => true,
         _ => false,
     }
@@ -127,19 +182,13 @@ fn is_type_bracket(tokens: &[Token], bracket: usize) -> bool {
 
 // Whether the comma at a token stands in the brackets of an array's type.
 fn is_second_type(tokens: &[Token], comma: usize) -> bool {
-    let mut depth: usize = 0;
-    for back in 1..comma {
-        match word_at(tokens, comma.saturating_sub(back)) {
-            Some(Word::CloseBracket | Word::Close) => depth = depth.saturating_add(1),
-            Some(Word::OpenBracket) if depth == 0 => {
-                return word_before(tokens, comma.saturating_sub(back)) == Some(Word::Array);
-            }
-            Some(Word::Open) if depth == 0 => return false,
-            Some(Word::OpenBracket | Word::Open) => depth = depth.saturating_sub(1),
-            _ => {}
+    match open_before(tokens, comma).0 {
+        Some(open) => {
+            word_at(tokens, open) == Some(Word::OpenBracket)
+                && word_before(tokens, open) == Some(Word::Array)
         }
+        None => false,
     }
-    false
 }
 
 // Whether a name can stand at a token where this is needed.
@@ -154,6 +203,21 @@ fn can_stand(known: &Declared, needed: Needed, spot: Spot, at: usize) -> bool {
         }
         Needed::Value => is_value(known, spot, at),
         Needed::Entry(sort) => known.sort == sort && is_near(known, spot),
+        Needed::Local => is_local(known.sort) && is_near(known, spot),
+        Needed::Automaton => known.sort == Sort::Automaton,
+        Needed::Typed => is_typed(known.sort) && known.at < at,
+        Needed::Seen => is_seen(known, spot) && known.at < at,
+    }
+}
+
+fn is_local(sort: Sort) -> bool {
+    sort == Sort::Output || sort == Sort::Internal
+}
+
+fn is_typed(sort: Sort) -> bool {
+    match sort {
+        Sort::Formal | Sort::Parameter | Sort::Variable | Sort::Loop | Sort::Component => true,
+        _ => false,
     }
 }
 
@@ -180,50 +244,34 @@ pub(crate) fn advise_double(
     at: usize,
     advice: &mut Advice,
 ) -> Result<(), NoMemory> {
-    let name = name_at(tokens, at).unwrap_or("");
-    match first_stand(tokens, declared, at, name) {
-        Some(first) => {
-            advice.quote(name)?;
-            advice.say(" stands first at ")?;
-            advice.address(source, tokens, first)?;
-            advice.say("; give one of them another name")
-        }
-        None => advice.say("give it another name"),
-    }
+    let name = spelling_at(tokens, at);
+    let Some(first) = first_stand(declared, spot_at(tokens, at), at, name) else {
+        return advice.say("give it another name");
+    };
+    advice.quote("", name, " stands first at ")?;
+    advice.address(source, tokens, first)?;
+    advice.say("; give one of them another name")
 }
 
 // Where a name stood before: declared where it can be seen from here, or hidden.
-fn first_stand(tokens: &[Token], declared: &[Declared], at: usize, name: &str) -> Option<usize> {
-    let spot = spot_at(tokens, at);
+fn first_stand(declared: &[Declared], spot: Spot, at: usize, name: &str) -> Option<usize> {
     if spot.part == Part::Hidden {
-        return first_hidden(tokens, at, name);
+        return match find_own(declared, Sort::Hidden, spot.automaton, name, usize::MAX).0 {
+            Some(first) if first < at => Some(first),
+            _ => None,
+        };
     }
-    for known in declared {
-        if known.at < at && known.name == name && is_seen(known, spot) {
-            return Some(known.at);
-        }
+    match first_named(declared, Needed::Seen, spot, at, name) {
+        Some(first) => Some(first.at),
+        None => None,
     }
-    None
 }
 
 // Whether a declared name is visible from a spot.
 fn is_seen(known: &Declared, spot: Spot) -> bool {
     match known.sort {
-        Sort::Type | Sort::Member | Sort::Automaton => true,
+        Sort::Type | Sort::Member | Sort::Automaton | Sort::Composition => true,
         Sort::Parameter | Sort::Loop => known.spot.entry == spot.entry,
         _ => is_near(known, spot),
     }
-}
-
-fn first_hidden(tokens: &[Token], at: usize, name: &str) -> Option<usize> {
-    let mut is_hidden = false;
-    for number in 0..at {
-        if word_at(tokens, number) == Some(Word::Hidden) {
-            is_hidden = true;
-        }
-        if is_hidden && name_at(tokens, number) == Some(name) {
-            return Some(number);
-        }
-    }
-    None
 }

@@ -7,13 +7,6 @@ use terms::NoMemory;
 /// How many names are told.
 const MOST_NAMES: usize = 8;
 
-/// A name with the number of edits that lead to it.
-#[derive(Clone, Copy)]
-struct Near<'a> {
-    edits: usize,
-    name: &'a str,
-}
-
 /// The names that are nearest to one, by the number of letters to insert, leave out or change; at most eight. Those that are equally
 /// near stay in their order.
 pub(crate) fn nearest<'a>(
@@ -21,17 +14,26 @@ pub(crate) fn nearest<'a>(
     wanted: &str,
     names: &[&'a str],
 ) -> Result<Vec<&'a str>, NoMemory> {
-    let mut near = Vec::new(alloc);
-    for name in names {
-        near.push(Near {
-            edits: levenshtein(alloc, wanted, *name)?,
-            name: *name,
-        })?;
-    }
-    near.sort_by_key(|near| near.edits)?;
+    let near = places_by_nearness(alloc, wanted, names)?;
     let mut nearest = Vec::new(alloc);
-    for near in near.iter().take(MOST_NAMES) {
-        nearest.push(near.name)?;
+    for (_, place) in near.iter().take(MOST_NAMES) {
+        if let Some(name) = names.get(*place) {
+            nearest.push(*name)?;
+        }
     }
     Ok(nearest)
+}
+
+// The names' places behind the number of edits that lead to each, in order.
+fn places_by_nearness(
+    alloc: Global,
+    wanted: &str,
+    names: &[&str],
+) -> Result<Vec<(usize, usize)>, NoMemory> {
+    let mut near = Vec::new(alloc);
+    for (place, name) in names.iter().enumerate() {
+        near.push((levenshtein(alloc, wanted, *name)?, place))?;
+    }
+    near.sort()?;
+    Ok(near)
 }

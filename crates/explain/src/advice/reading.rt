@@ -72,68 +72,75 @@ const WORDS: [&str; 61] = [
 
 /// The advice on bytes that aren't read.
 pub(crate) fn advise_bytes(
-    alloc: Global,
     source: &[u8],
     refused: ReadError,
-) -> Result<Vec<u8>, NoMemory> {
-    let mut advice = Advice::new(alloc);
-    match refused {
-        ReadError::NoMemory => {}
-        ReadError::NotAscii(_) => {
-            advice.say("write it in letters, digits and signs of ASCII, in comments too")?;
-        }
-        ReadError::BadToken(at) => advise_bad_token(source, at, &mut advice)?,
-        ReadError::Syntax(at) => advise_syntax(alloc, source, at, &mut advice)?,
-        ReadError::TooLarge => {
-            advice.say("a source has at most 65536 bytes; comments and blanks count")?;
-        }
-        ReadError::TooDeep => {
-            advice.say(
-                "at most 64 parentheses, brackets, `if`, `for`, `not` and prefix `-` stand round a token; keep a part of it in a variable",
-            )?;
-        }
-    }
-    Ok(advice.into_bytes())
-}
-
-fn advise_bad_token(source: &[u8], at: usize, advice: &mut Advice) -> Result<(), NoMemory> {
-    let is_number = match source.get(at) {
-        Some(byte) => b'0' <= *byte && *byte <= b'9',
-        None => false,
-    };
-    advice.say(if is_number {
-        "a number has digits only, and is at most 9223372036854775807"
-    } else {
-        "a name is a letter followed by letters, digits and `_`; a comment begins with `%`"
-    })
-}
-
-fn advise_syntax(
-    alloc: Global,
-    source: &[u8],
-    at: usize,
     advice: &mut Advice,
 ) -> Result<(), NoMemory> {
+    match refused {
+        ReadError::NoMemory => Ok(()),
+        ReadError::NotAscii(_) => {
+            advice.say("write it in letters, digits and signs of ASCII, in comments too")
+        }
+        ReadError::BadToken(at) => advice.say(bad_token_phrase(source, at)),
+        ReadError::Syntax(at) => advise_syntax(source, at, advice),
+        ReadError::TooLarge => {
+            advice.say("a source has at most 65536 bytes; comments and blanks count")
+        }
+        ReadError::TooDeep => advice.say(
+            "at most 64 parentheses, brackets, `if`, `for`, `not` and prefix `-` stand round a token; keep a part of it in a variable",
+        ),
+    }
+}
+
+fn bad_token_phrase(source: &[u8], at: usize) -> &'static str {
+    match source.get(at) {
+        Some(byte) if b'0' <= *byte && *byte <= b'9' => {
+            "a number has digits only, and is at most 9223372036854775807"
+        }
+        _ => "a name is a letter followed by letters, digits and `_`; a comment begins with `%`",
+    }
+}
+
+fn advise_syntax(source: &[u8], at: usize, advice: &mut Advice) -> Result<(), NoMemory> {
     let (front, _) = source.split_at(at.min(source.len()));
+    let words = words_behind(advice.alloc, front)?;
+    let has_name = can_follow(advice.alloc, front, "a")?;
+    let has_number = can_follow(advice.alloc, front, "1")?;
+    advice.say("here can stand ")?;
+    advice.say(kinds_phrase(has_name, has_number))?;
+    if has_name || has_number {
+        advice.say(joint(words.len()))?;
+    }
+    advice.list(words.as_slice(), " or ")
+}
+
+fn kinds_phrase(has_name: bool, has_number: bool) -> &'static str {
+    match (has_name, has_number) {
+        (true, true) => "a name, a number",
+        (true, false) => "a name",
+        (false, true) => "a number",
+        (false, false) => "",
+    }
+}
+
+// What stands before so many words.
+fn joint(words: usize) -> &'static str {
+    match words {
+        0 => "",
+        1 => " or ",
+        _ => ", ",
+    }
+}
+
+// The words and signs that can stand behind these bytes.
+fn words_behind(alloc: Global, front: &[u8]) -> Result<Vec<&'static str>, NoMemory> {
     let mut words: Vec<&str> = Vec::new(alloc);
     for word in &WORDS {
-        if !word.is_empty() && can_follow(alloc, front, *word)? {
+        if can_follow(alloc, front, *word)? {
             words.push(*word)?;
         }
     }
-    advice.say("here can stand ")?;
-    let has_name = can_follow(alloc, front, "a")?;
-    let has_number = can_follow(alloc, front, "1")?;
-    if has_name {
-        advice.say("a name")?;
-    }
-    if has_number {
-        advice.say(if has_name { ", a number" } else { "a number" })?;
-    }
-    if (has_name || has_number) && !words.is_empty() {
-        advice.say(if words.len() == 1 { " or " } else { ", " })?;
-    }
-    advice.list(words.as_slice(), " or ")
+    Ok(words)
 }
 
 // Whether a source can go on with this word behind these bytes: they are read up to their end then.

@@ -1,5 +1,6 @@
 //! The text of an advice.
 
+use crate::advice::near::nearest;
 use excerpts::{column_at, line_at};
 use ioa_tokens::{Kind, Page, Token};
 use itoa::Buffer;
@@ -10,7 +11,7 @@ use terms::NoMemory;
 #[derive(Drop)]
 pub(crate) struct Advice {
     text: Vec<u8>,
-    alloc: Global,
+    pub alloc: Global,
 }
 
 impl Advice {
@@ -21,23 +22,41 @@ impl Advice {
         }
     }
 
-    pub(crate) fn into_bytes(self) -> Vec<u8> {
-        self.text
+    pub(crate) fn as_bytes(&self) -> &[u8] {
+        self.text.as_slice()
     }
 
     pub(crate) fn say(&mut self, text: &str) -> Result<(), NoMemory> {
-        Ok(self.text.extend_from_slice(text.as_bytes())?)
+        self.add(text.as_bytes())
     }
 
-    /// A name or word between backquotes.
-    pub(crate) fn quote(&mut self, name: &str) -> Result<(), NoMemory> {
+    fn add(&mut self, bytes: &[u8]) -> Result<(), NoMemory> {
+        Ok(self.text.extend_from_slice(bytes)?)
+    }
+
+    fn add_quoted(&mut self, before: &str, bytes: &[u8], behind: &str) -> Result<(), NoMemory> {
+        self.say(before)?;
         self.say("`")?;
-        self.say(name)?;
-        self.say("`")
+        self.add(bytes)?;
+        self.say("`")?;
+        self.say(behind)
     }
 
-    pub(crate) fn count(&mut self, number: usize) -> Result<(), NoMemory> {
-        self.say(Buffer::new().format(number as u64))
+    /// A name or word between backquotes, and what stands before and behind it.
+    pub(crate) fn quote(&mut self, before: &str, name: &str, behind: &str) -> Result<(), NoMemory> {
+        self.add_quoted(before, name.as_bytes(), behind)
+    }
+
+    /// A number, and what stands before and behind it.
+    pub(crate) fn count(
+        &mut self,
+        before: &str,
+        number: usize,
+        behind: &str,
+    ) -> Result<(), NoMemory> {
+        self.say(before)?;
+        self.say(Buffer::new().format(number as u64))?;
+        self.say(behind)
     }
 
     /// The line and column of a token.
@@ -51,45 +70,65 @@ impl Advice {
             return Ok(());
         };
         let place = token.at.min(source.len());
-        self.count(line_at(source, place))?;
-        self.say(":")?;
-        self.count(column_at(source, place))
+        self.count("", line_at(source, place), ":")?;
+        self.count("", column_at(source, place), "")
     }
 
     /// Tokens between backquotes, in the layout of sources.
     pub(crate) fn quote_tokens(&mut self, tokens: &[Token]) -> Result<(), NoMemory> {
-        let mut page = Page::new(self.alloc);
-        for token in tokens {
-            match token.kind {
-                Kind::Name(name) => page.put_name(name)?,
-                Kind::Number(number) => page.put_number(number)?,
-                Kind::Word(word) => page.put_word(word)?,
-            }
-        }
-        let mut text = page.into_bytes()?;
+        let mut text = layout_of(self.alloc, tokens)?;
         let _line_feed = text.pop();
-        self.say("`")?;
-        self.text.extend_from_slice(text.as_slice())?;
-        self.say("`")
+        self.add_quoted("", text.as_slice(), "")
     }
 
     /// Names with commas between them, the last one behind `and` or `or`.
     pub(crate) fn list(&mut self, names: &[&str], last: &str) -> Result<(), NoMemory> {
         for (place, name) in names.iter().enumerate() {
-            self.separate(place, names.len(), last)?;
-            self.quote(*name)?;
+            self.quote(separator(place, names.len(), last), *name, "")?;
         }
         Ok(())
     }
 
-    // What stands before the name at a place of so many.
-    fn separate(&mut self, place: usize, count: usize, last: &str) -> Result<(), NoMemory> {
-        if place == 0 {
-            return Ok(());
+    /// Those of the names that are nearest to one, and how many more there are where `is_counted`.
+    pub(crate) fn list_nearest(
+        &mut self,
+        wanted: &str,
+        names: &[&str],
+        is_counted: bool,
+    ) -> Result<(), NoMemory> {
+        let near = nearest(self.alloc, wanted, names)?;
+        let more = names.len().saturating_sub(near.len());
+        self.list(near.as_slice(), " and ")?;
+        if is_counted && more > 0 {
+            return self.count(", and ", more, " more");
         }
-        if place.saturating_add(1) == count {
-            return self.say(last);
-        }
-        self.say(", ")
+        Ok(())
+    }
+}
+
+// What stands before the name at a place of so many.
+fn separator(place: usize, count: usize, last: &str) -> &str {
+    if place == 0 {
+        ""
+    } else if place.saturating_add(1) == count {
+        last
+    } else {
+        ", "
+    }
+}
+
+fn layout_of(alloc: Global, tokens: &[Token]) -> Result<Vec<u8>, NoMemory> {
+    let mut page = Page::new(alloc);
+    for token in tokens {
+        put(&mut page, token.kind)?;
+    }
+    page.into_bytes()
+}
+
+fn put<'a>(page: &mut Page<'a>, kind: Kind<'a>) -> Result<(), NoMemory> {
+    match kind {
+        Kind::Name(name) => page.put_name(name),
+        Kind::Number(number) => page.put_number(number),
+        Kind::Word(word) => page.put_word(word),
     }
 }

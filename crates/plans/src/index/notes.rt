@@ -149,7 +149,8 @@ fn number_of(name: u16, formals: &[Scalar], params: &[Param]) -> usize
 }
 
 fn has_mask(masks: &[Vec<bool>], mask: &[bool]) -> bool
-    ensures { result ≡ list_any (λ other. pointwise ⟦<bool as PartialEq>⟧.eq other.items mask.now) masks.now }
+    ensures { result ≡ list_any
+        (λ other. pointwise ⟦<bool as PartialEq>⟧.eq other.items mask.now) masks.now }
 {
     masks.iter().any(|other| other.as_slice() == mask)
 }

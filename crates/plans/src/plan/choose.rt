@@ -35,7 +35,8 @@ impl Plan {
     }
 
     fn entry_at(&self, i: u16, place: usize) -> Option<&Entry>
-        ensures { option_map transition_of (option_copied result) ≡ slice_get (component_at (composition self.now) i).entries place }
+        ensures { option_map transition_of (option_copied result)
+            ≡ slice_get (component_at (composition self.now) i).entries place }
     {
         self.entries(i).get(place)
     }
@@ -49,7 +50,8 @@ impl Plan {
         task: u32,
         cells: &C,
     ) -> Result<Vec<Action>, NoMemory>
-        ensures { IfOk result (λ actions. actions.items ≡ enabled_of (composition self.now) i task (C.values cells.now)) }
+        ensures { IfOk result (λ actions. actions.items
+            ≡ enabled_of (composition self.now) i task (C.values cells.now)) }
     {
         let formals = self.formals(i);
         let mut actions = Vec::new(alloc);
@@ -75,7 +77,8 @@ impl Plan {
         choice: u32,
         cells: &C,
     ) -> Result<Option<Action>, NoMemory>
-        ensures { IfOk result (λ outcome. outcome ≡ outcome_of (composition self.now) i task choice (C.values cells.now)) }
+        ensures { IfOk result (λ outcome. outcome
+            ≡ outcome_of (composition self.now) i task choice (C.values cells.now)) }
     {
         let mut found = None;
         self.outcome_into(alloc, i, task, choice, cells, &mut found)?;
@@ -158,7 +161,8 @@ fn put_outcome_of_each<C: Cells>(
     found: &mut Option<Action>,
 ) -> Result<(), NoMemory>
     ensures ok { OnOk result (let enabled = enabled_by formals.now (C.values cells.now)
-        (Some (transition_of entry.now)) in found.new ≡ slice_get enabled (choice % length enabled)) }
+        (Some (transition_of entry.now)) in
+        found.new ≡ slice_get enabled (choice % length enabled)) }
     ensures err { OnErr result (found.new ≡ found.old) }
 {
     let outcome = outcome_of_each(alloc, entry, formals, choice, cells)?;
@@ -191,7 +195,9 @@ fn add_entry<C: Cells>(
     cells: &C,
     out: &mut Vec<Action>,
 ) -> Result<(), NoMemory>
-    ensures { OnOk result (out.new.items ≡ out.old.items ++ enabled_by formals.now (C.values cells.now) (option_map transition_of (option_copied entry.entry))) }
+    ensures { OnOk result (out.new.items ≡ out.old.items
+        ++ enabled_by formals.now (C.values cells.now)
+        (option_map transition_of (option_copied entry.entry))) }
 {
     match entry {
         Some(entry) => {

@@ -37,13 +37,17 @@ impl Plan {
     }
 
     fn has_each_component_of(&self, other: &Plan) -> bool
-        ensures { result ≡ list_all (λ i. same_instance (component_at (composition self.now) i) (component_at (composition other.now) i)) (range_with_len 0 (length (composition self.now))) }
+        ensures { result ≡ list_all
+            (λ i. same_instance (component_at (composition self.now) i)
+            (component_at (composition other.now) i))
+            (range_with_len 0 (length (composition self.now))) }
     {
         (0..self.components()).all(|i| self.has_component_of(other, i))
     }
 
     fn has_component_of(&self, other: &Plan, i: u16) -> bool
-        ensures { result ≡ same_instance (component_at (composition self.now) i) (component_at (composition other.now) i) }
+        ensures { result ≡ same_instance (component_at (composition self.now) i)
+            (component_at (composition other.now) i) }
     {
         self.has_entries_of(other, i)
             && self.has_start_of(other, i)
@@ -52,25 +56,29 @@ impl Plan {
     }
 
     fn has_entries_of(&self, other: &Plan, i: u16) -> bool
-        ensures { result ≡ pointwise same_transition (component_at (composition self.now) i).entries (component_at (composition other.now) i).entries }
+        ensures { result ≡ pointwise same_transition (component_at (composition self.now) i).entries
+            (component_at (composition other.now) i).entries }
     {
         self.entries(i) == other.entries(i)
     }
 
     fn has_start_of(&self, other: &Plan, i: u16) -> bool
-        ensures { result ≡ pointwise same_term (component_at (composition self.now) i).start (component_at (composition other.now) i).start }
+        ensures { result ≡ pointwise same_term (component_at (composition self.now) i).start
+            (component_at (composition other.now) i).start }
     {
         self.start_terms(i) == other.start_terms(i)
     }
 
     fn has_tasks_of(&self, other: &Plan, i: u16) -> bool
-        ensures { result ≡ same_texts (component_at (composition self.now) i).tasks (component_at (composition other.now) i).tasks }
+        ensures { result ≡ same_texts (component_at (composition self.now) i).tasks
+            (component_at (composition other.now) i).tasks }
     {
         self.task_list(i) == other.task_list(i)
     }
 
     fn has_formals_of(&self, other: &Plan, i: u16) -> bool
-        ensures { result ≡ same_formals (component_at (composition self.now) i).formals (component_at (composition other.now) i).formals }
+        ensures { result ≡ same_formals (component_at (composition self.now) i).formals
+            (component_at (composition other.now) i).formals }
     {
         self.formals(i) == other.formals(i)
     }

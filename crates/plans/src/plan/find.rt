@@ -17,7 +17,8 @@ impl Plan {
     ghost use Rattle.terms.specs.TermTree.{term_tree};
 
     fn automaton(&self, i: u16) -> Option<&Automaton>
-        ensures { option_copied result ≡ automaton_in self.now.automata.items (slice_get self.now.components.items i) }
+        ensures { option_copied result
+            ≡ automaton_in self.now.automata.items (slice_get self.now.components.items i) }
     {
         match self.components.get(i as usize) {
             Some(component) => self.automata.get(component.automaton),

@@ -10,9 +10,12 @@ impl Plan {
 
     /// The name of an action and the types of its parameters, by the name's number, and whether outputs of this name are hidden.
     pub fn action_name(&self, name: u16) -> Option<&ActionName>
-        ensures text { option_map text_of (option_copied result) ≡ slice_get (action_texts self.now) name }
-        ensures types { option_map types_of (option_copied result) ≡ slice_get (action_types self.now) name }
-        ensures marks { option_map mark_of (option_copied result) ≡ slice_get (hidden_marks self.now) name }
+        ensures text { option_map text_of (option_copied result)
+            ≡ slice_get (action_texts self.now) name }
+        ensures types { option_map types_of (option_copied result)
+            ≡ slice_get (action_types self.now) name }
+        ensures marks { option_map mark_of (option_copied result)
+            ≡ slice_get (hidden_marks self.now) name }
     {
         self.actions.get(name as usize)
     }

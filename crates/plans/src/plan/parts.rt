@@ -26,7 +26,8 @@ impl Plan {
         requires few { vec_len components < 2 ^ 16 }
         requires compatible { IsCompatible (composed automata.items components.items) }
         requires formed { IsWellFormed (composed automata.items components.items) }
-        ensures composition { IfOk result (λ plan. composition plan ≡ composed automata.items components.items) }
+        ensures composition { IfOk result (λ plan. composition plan
+            ≡ composed automata.items components.items) }
         ensures actions { IfOk result (λ plan. action_texts plan ≡ map text_of actions.items) }
         ensures types { IfOk result (λ plan. action_types plan ≡ map types_of actions.items) }
         ensures marks { IfOk result (λ plan. hidden_marks plan ≡ map mark_of actions.items) }

@@ -21,7 +21,8 @@ impl Plan {
 
     #[inline(always)]
     pub(super) fn entry(&self, i: u16, action: &Action) -> Option<&Entry>
-        ensures { option_map transition_of (option_copied result) ≡ entry_in (component_at (composition self.now) i) action.now }
+        ensures { option_map transition_of (option_copied result)
+            ≡ entry_in (component_at (composition self.now) i) action.now }
     {
         let name = name_of(action);
         let args = args_of(action);
@@ -46,7 +47,8 @@ impl Plan {
         action: &Action,
         sender: u16,
     ) -> Result<SmallVec<u16, 8>, NoMemory>
-        ensures { IfOk result (λ receivers. receivers.items ≡ receivers_of (composition self.now) action.now sender) }
+        ensures { IfOk result (λ receivers. receivers.items
+            ≡ receivers_of (composition self.now) action.now sender) }
     {
         match self.lent(action) {
             Some(numbers) => self.receivers_among(alloc, numbers, action, sender),
@@ -99,7 +101,8 @@ impl Plan {
         action: &Action,
         sender: u16,
     ) -> Result<SmallVec<u16, 8>, NoMemory>
-        ensures { IfOk result (λ receivers. receivers.items ≡ receivers_of (composition self.now) action.now sender) }
+        ensures { IfOk result (λ receivers. receivers.items
+            ≡ receivers_of (composition self.now) action.now sender) }
     {
         let candidates = self.merged(alloc, action)?;
         let receivers = self.receivers_among(alloc, candidates.as_slice(), action, sender);
@@ -129,7 +132,9 @@ impl Plan {
 
     // Those that take the action are its receivers, whoever sends it.
     fn merged(&self, alloc: Global, action: &Action) -> Result<Vec<u16>, NoMemory>
-        ensures { IfOk result (λ found. (sender : ℕ) → filter (receives (composition self.now) sender action.now) found.items ≡ receivers_of (composition self.now) action.now sender) }
+        ensures { IfOk result (λ found. (sender : ℕ)
+            → filter (receives (composition self.now) sender action.now) found.items
+            ≡ receivers_of (composition self.now) action.now sender) }
     {
         let found = self.index.candidates(alloc, action)?;
         Ok(found)
@@ -219,7 +224,8 @@ impl Plan {
     }
 
     fn is_open_somewhere(&self, action: &Action) -> bool
-        ensures { result ≡ some_component (composition self.now) (λ j. is_open (kind_of (composition self.now) j action.now)) }
+        ensures { result ≡ some_component (composition self.now)
+            (λ j. is_open (kind_of (composition self.now) j action.now)) }
     {
         (0..self.components()).any(|j| is_open(self.kind(j, action)))
     }

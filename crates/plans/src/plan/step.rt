@@ -34,7 +34,8 @@ impl Plan {
         action: &Action,
         cells: &C,
     ) -> Result<bool, NoMemory>
-        ensures { IfOk result (λ enabled. enabled ≡ is_enabled (composition self.now) i action.now (C.values cells.now)) }
+        ensures { IfOk result (λ enabled. enabled
+            ≡ is_enabled (composition self.now) i action.now (C.values cells.now)) }
     {
         match self.entry(i, action) {
             Some(entry) => holds(alloc, entry, self.formals(i), action.args.as_slice(), cells),
@@ -52,8 +53,11 @@ impl Plan {
         action: &Action,
         cells: &mut C,
     ) -> Result<(), NoMemory>
-        ensures ok { OnOk result (C.values cells.new ≡ applied (composition self.now) i action.now (C.values cells.old)) }
-        ensures err { OnErr result (IsPartApplied (composition self.now) i action.now (C.values cells.old) (C.values cells.new)) }
+        ensures ok { OnOk result (C.values cells.new
+            ≡ applied (composition self.now) i action.now (C.values cells.old)) }
+        ensures err { OnErr result
+            (IsPartApplied (composition self.now) i action.now (C.values cells.old)
+            (C.values cells.new)) }
         ensures marked { C.marked cells.new ≡ C.marked cells.old }
     {
         match self.entry(i, action) {
@@ -75,8 +79,10 @@ impl Plan {
         action: &Action,
         cells: &mut C,
     ) -> Result<(), NoMemory>
-        ensures ok { OnOk result (C.values cells.new ≡ cond (inputs (composition self.now) j action.now)
-            (applied (composition self.now) j action.now (C.values cells.old)) (C.values cells.old)) }
+        ensures ok { OnOk result (C.values cells.new
+            ≡ cond (inputs (composition self.now) j action.now)
+            (applied (composition self.now) j action.now (C.values cells.old))
+            (C.values cells.old)) }
         ensures err { OnErr result (IsPartApplied (composition self.now) j action.now
             (C.values cells.old) (C.values cells.new)) }
         ensures marked { C.marked cells.new ≡ C.marked cells.old }
@@ -96,7 +102,8 @@ impl Plan {
 }
 
 fn start_values(alloc: Global, terms: &[Term], formals: &[Scalar]) -> Result<Vec<Value>, NoMemory>
-    ensures { IfOk result (λ values. values.items ≡ map (start_value formals.now) (map term_tree terms.now)) }
+    ensures { IfOk result (λ values. values.items
+        ≡ map (start_value formals.now) (map term_tree terms.now)) }
 {
     let env = env_of(formals, &[]);
     let nothing = State::new(Vec::new(alloc));
@@ -126,7 +133,8 @@ pub(super) fn holds<C: Cells>(
     args: &[Scalar],
     cells: &C,
 ) -> Result<bool, NoMemory>
-    ensures { IfOk result (λ holding. holding ≡ holds (transition_of entry.now) formals.now (C.values cells.now) args.now) }
+    ensures { IfOk result (λ holding. holding
+        ≡ holds (transition_of entry.now) formals.now (C.values cells.now) args.now) }
 {
     let env = env_of(formals, args);
     is_true(alloc, &entry.pre, &env, cells)

@@ -17,10 +17,10 @@ pub returns-clause-has : goal.returns-clause-has
 returns-clause-has c =
     let h = hunted c.args.source.now c.args.action.now c.args.course in
     let setup = c.in-Ok-sow.setup in
-    looked_has h c.args.seed c.in-Ok.plan (plan_of setup) (system seed_turn setup) c.in-Ok-named.wanted c.in-Ok-sow.ensures.plan c.in-Ok.ensures.ok c.in-Ok-sow.ensures.sown c.in-Ok-named.ensures.ok (λ text. text.items) c.watch.result c.watch.ensures.shown
+    looked_has h c.args.seed c.in-Ok.plan (plan_of setup) (system seed_turn setup) c.in-Ok-named.wanted c.in-Ok-sow.ensures.plan c.in-Ok.ensures.ok c.in-Ok-sow.ensures.sown c.in-Ok-named.ensures.ok (λ text. text.items) c.watch-found.result c.watch-found.ensures.shown
 
 pub returns-clause-lacks : goal.returns-clause-lacks
 returns-clause-lacks c =
     let h = hunted c.args.source.now c.args.action.now c.args.course in
     let setup = c.in-Ok-sow.setup in
-    looked_lacks h c.args.seed c.in-Ok.plan (plan_of setup) (system seed_turn setup) c.in-Ok-named.wanted c.in-Ok-sow.ensures.plan c.in-Ok.ensures.ok c.in-Ok-sow.ensures.sown c.in-Ok-named.ensures.ok c.watch.result c.watch.ensures.never
+    looked_lacks h c.args.seed c.in-Ok.plan (plan_of setup) (system seed_turn setup) c.in-Ok-named.wanted c.in-Ok-sow.ensures.plan c.in-Ok.ensures.ok c.in-Ok-sow.ensures.sown c.in-Ok-named.ensures.ok c.watch-found.result c.watch-found.ensures.never

@@ -146,7 +146,8 @@ fn count_if<C: Cells>(
 ) -> usize
     requires told { number ≡ alike (transition_of entry.now) }
     requires some { 0 < number }
-    requires holding { holding ≡ holds (transition_of entry.now) formals.now (C.values cells.now) [] }
+    requires holding { holding ≡ holds (transition_of entry.now) formals.now
+        (C.values cells.now) [] }
     ensures { result ≡ length
         (enabled_by formals.now (C.values cells.now) (Some (transition_of entry.now))) }
 {
