@@ -1,5 +1,5 @@
-use Rattle.rollback_tests.proofs.Stepwise.{next_can_be}
-use Rattle.rollback_tests.proofs.tests.turns.reached.Goals as goal
+use Rattle.core_tests.proofs.Stepwise.{next_can_be}
+use Rattle.core_tests.proofs.components.turns.reached.Goals as goal
 
 pub loop-n-preserved : goal.loop-n-preserved
 loop-n-preserved g c =
