@@ -24,7 +24,7 @@ use virtual_time::reference::{reference_is_complete, reference_is_one};
 use world::{Reply, Step, StepRefused, World};
 
 /// A step that was refused.
-#[derive(Clone, Copy, Debug, PartialEq, Eq)]
+#[derive(Clone, Copy, PartialEq, Eq)]
 pub struct RefusedStep {
     /// Its place among all steps, counted from 1.
     pub step: u64,

@@ -5,7 +5,7 @@ ghost use Rattle.compatibility.specs.Rules.{is_barred, suits_all, suits_inputs};
 use plans::Kind;
 
 /// A rule of compatible signatures (Lynch, Distributed Algorithms, sections 8.1 and 8.2.1).
-#[derive(Clone, Copy, Debug, PartialEq, Eq)]
+#[derive(Clone, Copy, PartialEq, Eq)]
 pub enum Rule {
     /// The input, output and internal actions of a component are disjoint.
     Own,

@@ -10,7 +10,7 @@ use terms::cells::slot_of;
 use terms::{Listed, Scalar};
 
 /// A set of neighbouring scalars of one sort.
-#[derive(Clone, Copy, Debug, PartialEq, Eq)]
+#[derive(Clone, Copy, PartialEq, Eq)]
 pub enum Span {
     /// Every whole number.
     Whole,

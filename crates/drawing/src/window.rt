@@ -5,7 +5,7 @@ ghost use Rattle.std.specs.Prelude.{◌≤◌};
 pub const MOST_TURNS: usize = 2_000;
 
 /// The ticks of the turns that are drawn, both included.
-#[derive(Clone, Copy, Debug, PartialEq, Eq)]
+#[derive(Clone, Copy, PartialEq, Eq)]
 pub struct Window {
     pub from: u64,
     pub to: u64,

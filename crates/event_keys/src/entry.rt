@@ -15,7 +15,7 @@ use terms::Action;
 
 /// An event of a component: an own turn, or an input that another component's turn sent. It is compared by key, then
 /// action (an idle turn before any), then an own turn before an input, then receiver.
-#[derive(Clone, Debug, Drop)]
+#[derive(Clone, Drop)]
 pub enum Entry {
     Own(Turned),
     Input(Message),

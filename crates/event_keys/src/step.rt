@@ -4,7 +4,7 @@ use crate::key::Bound;
 use crate::message::{Message, Signed};
 
 /// A step of a world. A component is told by its number, from 0. (Jefferson 1985, local and global control.)
-#[derive(Clone, Debug, PartialEq, Eq, Drop)]
+#[derive(Clone, PartialEq, Eq, Drop)]
 pub enum Step {
     /// The component does its next entry.
     Process(u16),

@@ -8,7 +8,7 @@ use std::alloc::Global;
 use terms::NoMemory;
 
 /// The bytes of a text that are marked.
-#[derive(Clone, Copy, Debug, PartialEq, Eq)]
+#[derive(Clone, Copy, PartialEq, Eq)]
 pub struct Mark {
     /// The first one, counted from 0.
     pub at: usize,
@@ -17,7 +17,7 @@ pub struct Mark {
 }
 
 /// What is told of a refusal beside its place.
-#[derive(Clone, Copy, Debug)]
+#[derive(Clone, Copy)]
 pub struct Told<'a> {
     pub number: u8,
     pub sentence: &'a str,

@@ -36,7 +36,7 @@ pub struct Lease<T: Turns> {
 }
 
 /// Why a lease that ran ahead stopped.
-#[derive(Clone, Copy, Debug, PartialEq, Eq)]
+#[derive(Clone, Copy, PartialEq, Eq)]
 pub enum Stop {
     /// So many entries were processed as it was allowed.
     Budget,
@@ -49,7 +49,7 @@ pub enum Stop {
 }
 
 /// How far a lease ran ahead.
-#[derive(Clone, Copy, Debug, PartialEq, Eq)]
+#[derive(Clone, Copy, PartialEq, Eq)]
 pub struct Ran {
     /// How many entries were processed.
     pub count: u32,

@@ -3,7 +3,7 @@ use antimessage::Bag;
 use event_keys::Sign;
 
 /// What happened at an exchange since its start. Each count ends at the greatest `u64`.
-#[derive(Clone, Copy, Debug, Default, PartialEq, Eq)]
+#[derive(Clone, Copy, Default, PartialEq, Eq)]
 pub struct Tally {
     /// How many leases met it.
     pub meetings: u64,
@@ -20,7 +20,7 @@ pub struct Tally {
 }
 
 /// What was done of a component since its lease was last asked. Each count ends at the greatest `u64`.
-#[derive(Clone, Copy, Debug, Default, PartialEq, Eq)]
+#[derive(Clone, Copy, Default, PartialEq, Eq)]
 pub struct Effort {
     /// How many entries were processed: turns of its own, and messages that it received.
     pub processed: u64,

@@ -4,7 +4,7 @@ ghost use Rattle.exchange.specs.Windows.{same_window};
 
 /// A window: so many turns of its own a component may have done since its base. Before one more it waits until the bound has risen and its
 /// lease has met the exchange.
-#[derive(Clone, Copy, Debug, PartialEq, Eq)]
+#[derive(Clone, Copy, PartialEq, Eq)]
 pub struct Window {
     pub(crate) turns: u32,
 }

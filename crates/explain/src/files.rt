@@ -11,7 +11,7 @@ use std::alloc::Global;
 use terms::NoMemory;
 
 /// A file of lines.
-#[derive(Clone, Copy, Debug, PartialEq, Eq)]
+#[derive(Clone, Copy, PartialEq, Eq)]
 pub enum FileKind {
     /// A table of turns.
     Table,

@@ -12,7 +12,7 @@ use terms::NoMemory;
 
 /// A source that was read: a tree of the grammar within the limit, whose names are names and whose numbers have 63 bits, of at most
 /// 65,536 tokens. Only `read` makes one.
-#[derive(Debug, Drop)]
+#[derive(Drop)]
 pub struct Source {
     pub(crate) tree: SourceTree,
 }

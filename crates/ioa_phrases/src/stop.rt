@@ -6,7 +6,7 @@ ghost use Rattle.ioa_phrases.specs.declared.stop.Stop.TheVariants.{Memory};
 use std::alloc::{AllocError, AllocFailed};
 
 /// Why a reader stops. A fault has the number of tokens that are left, the first of them at fault.
-#[derive(Clone, Copy, Debug)]
+#[derive(Clone, Copy)]
 pub enum Stop {
     /// No memory.
     Memory,

@@ -12,7 +12,7 @@ use crate::word::Word;
 use std::str;
 
 /// What begins some bytes.
-#[derive(Clone, Copy, Debug)]
+#[derive(Clone, Copy)]
 pub(crate) enum Found<'a> {
     Blank,
     Comment,

@@ -12,7 +12,7 @@ pub enum Kind<'a> {
 }
 
 /// A token and the place of its first byte in the source, counted from 0.
-#[derive(Clone, Copy, Debug, PartialEq, Eq)]
+#[derive(Clone, Copy, PartialEq, Eq)]
 pub struct Token<'a> {
     pub kind: Kind<'a>,
     pub at: usize,

@@ -1,14 +1,14 @@
 // The trees that sources spell. Parentheses are kept, and each repetition is a list.
 
 /// A whole number as it stands in a range.
-#[derive(Clone, Copy, PartialEq, Eq, Debug)]
+#[derive(Clone, Copy, PartialEq, Eq)]
 pub struct Signed {
     pub is_negative: bool,
     pub size: u64,
 }
 
 /// A type as it is written.
-#[derive(Debug, Drop)]
+#[derive(Drop)]
 #[cycle(of_types)]
 pub enum TypeTree {
     Bool,
@@ -20,14 +20,14 @@ pub enum TypeTree {
 }
 
 /// Whether something is added or taken away.
-#[derive(Clone, Copy, PartialEq, Eq, Debug)]
+#[derive(Clone, Copy, PartialEq, Eq)]
 pub enum Sign {
     Plus,
     Minus,
 }
 
 /// A comparison.
-#[derive(Clone, Copy, PartialEq, Eq, Debug)]
+#[derive(Clone, Copy, PartialEq, Eq)]
 pub enum Relation {
     Equal,
     NotEqual,
@@ -38,7 +38,7 @@ pub enum Relation {
 }
 
 /// What is asked of a sequence.
-#[derive(Clone, Copy, PartialEq, Eq, Debug)]
+#[derive(Clone, Copy, PartialEq, Eq)]
 pub enum Call {
     Head,
     Tail,
@@ -46,7 +46,7 @@ pub enum Call {
 }
 
 /// A term. Each list has at least one element.
-#[derive(Debug, Drop)]
+#[derive(Drop)]
 #[cycle(of_terms)]
 pub enum Term {
     Number(u64),
@@ -67,7 +67,7 @@ pub enum Term {
 }
 
 /// What a product goes on with.
-#[derive(Debug, Drop)]
+#[derive(Drop)]
 #[cycle(of_terms)]
 pub enum Factor {
     Times(Term),
@@ -75,7 +75,7 @@ pub enum Factor {
 }
 
 /// What is added or taken away.
-#[derive(Debug, Drop)]
+#[derive(Drop)]
 #[cycle(of_terms)]
 pub struct Addend {
     pub sign: Sign,
@@ -83,7 +83,7 @@ pub struct Addend {
 }
 
 /// What is put in a place.
-#[derive(Debug, Drop)]
+#[derive(Drop)]
 #[cycle(of_values)]
 pub enum Init {
     Empty,
@@ -92,14 +92,14 @@ pub enum Init {
 }
 
 /// A name and its type.
-#[derive(Debug, Drop)]
+#[derive(Drop)]
 pub struct Declared {
     pub name: String,
     pub of: TypeTree,
 }
 
 /// A statement of an effect.
-#[derive(Debug, Drop)]
+#[derive(Drop)]
 #[cycle(of_statements)]
 pub enum Statement {
     /// The name, the index where there is one, and what is put there.
@@ -110,7 +110,7 @@ pub enum Statement {
 }
 
 /// A condition and what is done where it holds.
-#[derive(Debug, Drop)]
+#[derive(Drop)]
 #[cycle(of_statements)]
 pub struct Branch {
     pub test: Term,
@@ -118,7 +118,7 @@ pub struct Branch {
 }
 
 /// Who controls an action.
-#[derive(Clone, Copy, PartialEq, Eq, Debug)]
+#[derive(Clone, Copy, PartialEq, Eq)]
 pub enum EntryKind {
     Input,
     Output,
@@ -126,14 +126,14 @@ pub enum EntryKind {
 }
 
 /// A parameter of an action.
-#[derive(Debug, Drop)]
+#[derive(Drop)]
 pub enum Parameter {
     Constant(String),
     Typed(Declared),
 }
 
 /// An entry of a signature. No parameters: no parentheses.
-#[derive(Debug, Drop)]
+#[derive(Drop)]
 pub struct Entry {
     pub kind: EntryKind,
     pub name: String,
@@ -141,14 +141,14 @@ pub struct Entry {
 }
 
 /// A state variable and its start value.
-#[derive(Debug, Drop)]
+#[derive(Drop)]
 pub struct Variable {
     pub declared: Declared,
     pub start: Init,
 }
 
 /// A transition. An empty list of statements: no `eff`.
-#[derive(Debug, Drop)]
+#[derive(Drop)]
 pub struct Transition {
     pub entry: Entry,
     pub pre: Option<Term>,
@@ -156,7 +156,7 @@ pub struct Transition {
 }
 
 /// An automaton that isn't composed. An empty list stands for a part that isn't there.
-#[derive(Debug, Drop)]
+#[derive(Drop)]
 pub struct Automaton {
     pub name: String,
     pub formals: Vec<Declared>,
@@ -167,7 +167,7 @@ pub struct Automaton {
 }
 
 /// A component and the arguments of its automaton.
-#[derive(Debug, Drop)]
+#[derive(Drop)]
 pub struct ComponentTree {
     pub name: String,
     pub automaton: String,
@@ -175,7 +175,7 @@ pub struct ComponentTree {
 }
 
 /// The composed automaton. An empty list: no output is hidden.
-#[derive(Debug, Drop)]
+#[derive(Drop)]
 pub struct Composed {
     pub name: String,
     pub components: Vec<ComponentTree>,
@@ -183,21 +183,21 @@ pub struct Composed {
 }
 
 /// What a name of a type stands for.
-#[derive(Debug, Drop)]
+#[derive(Drop)]
 pub enum TypeBody {
     Same(TypeTree),
     Enumeration(Vec<String>),
 }
 
 /// The definition of a type.
-#[derive(Debug, Drop)]
+#[derive(Drop)]
 pub struct TypeDefinition {
     pub name: String,
     pub body: TypeBody,
 }
 
 /// A whole source.
-#[derive(Debug, Drop)]
+#[derive(Drop)]
 pub struct SourceTree {
     pub types: Vec<TypeDefinition>,
     pub automata: Vec<Automaton>,

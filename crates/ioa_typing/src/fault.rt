@@ -5,7 +5,7 @@ ghost use Rattle.ioa_typing.specs.FaultNumbers.{fault_number};
 ghost use Rattle.ioa_typing.specs.TermViews.{fault_tree};
 
 /// What is wrong with a source.
-#[derive(Clone, Copy, PartialEq, Eq, Debug)]
+#[derive(Clone, Copy, PartialEq, Eq)]
 pub enum FaultKind {
     /// A name that means nothing, or not what is asked for here; the head of a transition that no entry has.
     UnknownName,
@@ -44,7 +44,7 @@ impl FaultKind {
 }
 
 /// A fault: the number of the token, and what is wrong there.
-#[derive(Clone, Copy, PartialEq, Eq, Debug)]
+#[derive(Clone, Copy, PartialEq, Eq)]
 pub struct Fault {
     pub place: u32,
     pub kind: FaultKind,

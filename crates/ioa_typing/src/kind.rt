@@ -7,7 +7,7 @@ use std::alloc::{AllocError, Global};
 
 /// What a type means. The members of all enumerations are numbered from 0: an enumeration has the number of its first member, and how
 /// many it has.
-#[derive(Debug, Drop)]
+#[derive(Drop)]
 pub enum Kind {
     Truth,
     Whole,

@@ -8,7 +8,7 @@ ghost use Rattle.ioa_typing.specs.TermViews.{least_tree};
 use crate::fault::{Fault, FaultKind};
 
 /// The number of the next token, and the least fault so far.
-#[derive(Clone, Copy, Debug)]
+#[derive(Clone, Copy)]
 pub struct Progress {
     pub at: u32,
     pub least: Option<Fault>,

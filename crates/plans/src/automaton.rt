@@ -6,7 +6,7 @@ mod equal;
 use terms::{Effect, Listed, Scalar, Shape, Term};
 
 /// What an automaton does with an action (Lynch, Distributed Algorithms, section 8.1).
-#[derive(Clone, Copy, Debug, PartialEq, Eq)]
+#[derive(Clone, Copy, PartialEq, Eq)]
 pub enum Kind {
     Input,
     Output,
@@ -15,7 +15,7 @@ pub enum Kind {
 
 /// A parameter of an entry: the value of a formal (by its number), a member of a type that can be listed, a whole number
 /// of a range, or any whole number.
-#[derive(Clone, Copy, Debug, PartialEq, Eq)]
+#[derive(Clone, Copy, PartialEq, Eq)]
 pub enum Param {
     Const(usize),
     Member(Listed),
@@ -25,7 +25,7 @@ pub enum Param {
 
 /// An entry of a signature with its transition. It stands for the actions of its name whose arguments fit its parameters.
 /// A missing precondition is the term `true`.
-#[derive(Debug, Drop)]
+#[derive(Drop)]
 pub struct Entry {
     pub name: u16,
     pub kind: Kind,
@@ -35,7 +35,7 @@ pub struct Entry {
 }
 
 /// An automaton: its entries, the start values of its variables, and its tasks. A task lists the places of entries, in order.
-#[derive(Debug, Drop)]
+#[derive(Drop)]
 pub struct Automaton {
     pub entries: Vec<Entry>,
     pub start: Vec<Term>,
@@ -44,7 +44,7 @@ pub struct Automaton {
 }
 
 /// A component: the number of its automaton and the values of its formals.
-#[derive(Debug, Drop)]
+#[derive(Drop)]
 pub struct Component {
     pub automaton: usize,
     pub formals: Vec<Scalar>,
@@ -52,7 +52,7 @@ pub struct Component {
 
 /// The name of an action and the types of its parameters, in which all entries of that name agree; and whether a composition hides
 /// outputs of this name.
-#[derive(Debug, Drop)]
+#[derive(Drop)]
 pub struct ActionName {
     pub text: String,
     pub parameters: Vec<Shape>,

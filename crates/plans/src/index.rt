@@ -21,7 +21,7 @@ pub enum Fixed {
 /// For each name of an action the masks of its input entries (which parameters are formals), each once. And lists of numbers,
 /// as many as a power of two: a component that has an input entry stands in the list at the place of its pattern, the entry's
 /// name with the values of those of its parameters that are formals. Several patterns may have one place.
-#[derive(Debug, Drop)]
+#[derive(Drop)]
 pub struct Index {
     masks: Vec<Vec<Vec<bool>>>,
     numbers: Vec<Vec<u16>>,

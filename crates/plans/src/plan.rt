@@ -21,7 +21,7 @@ use crate::index::Index;
 
 /// A composition of compatible automata. Components are numbered from 0; actions carry the numbers of their names, which
 /// are given in the order of the names' bytes; the members of all enumerations are numbered in the order of declaration.
-#[derive(Debug, Drop)]
+#[derive(Drop)]
 pub struct Plan {
     automata: Vec<Automaton>,
     components: Vec<Component>,

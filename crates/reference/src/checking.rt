@@ -13,7 +13,7 @@ use std::alloc::Global;
 use terms::{Action, NoMemory, State};
 
 /// What a list of actions is to a composition. Actions are counted from 0.
-#[derive(Clone, Copy, Debug, PartialEq, Eq)]
+#[derive(Clone, Copy, PartialEq, Eq)]
 pub enum Verdict {
     /// The actions are a schedule: those of an execution, in order.
     Schedule,

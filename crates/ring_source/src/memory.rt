@@ -15,7 +15,7 @@ const BEGINNING: usize = 1_000_003;
 const ENDING: usize = 1_000_033;
 
 /// Which requests for memory are refused.
-#[derive(Clone, Copy, Debug, PartialEq, Eq)]
+#[derive(Clone, Copy, PartialEq, Eq)]
 pub enum Refused {
     None,
     /// One of them, by `.ci/refusals`.

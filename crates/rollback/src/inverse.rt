@@ -14,7 +14,7 @@ use terms::{Action, State};
 use virtual_time::rolling_back::record_law;
 
 /// How far a component went before it was taken back.
-#[derive(Clone, Copy, Debug, PartialEq, Eq)]
+#[derive(Clone, Copy, PartialEq, Eq)]
 pub struct Trip {
     /// The number of the entries that were processed.
     pub entries: u32,

@@ -23,7 +23,7 @@ use terms::Refusal;
 use trace::{Counted, read_steps, read_trace, write_text};
 
 /// The files of which people are told, by their names.
-#[derive(Clone, Copy, Debug)]
+#[derive(Clone, Copy)]
 pub(crate) struct Subject<'a> {
     pub source: &'a str,
     pub table: Option<&'a str>,

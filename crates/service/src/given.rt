@@ -1,7 +1,7 @@
 //! The turns that an engine is given.
 
 /// Where the turns of a composition come from.
-#[derive(Clone, Copy, Debug)]
+#[derive(Clone, Copy)]
 pub enum GivenTurns<'a> {
     /// They are drawn by the numbers of a seed.
     Seed {

@@ -13,7 +13,7 @@ use trace::{Counted, WriteFault};
 use workers::Stats;
 
 /// How a call of the program ended.
-#[derive(Debug, PartialEq, Eq, Drop)]
+#[derive(PartialEq, Eq, Drop)]
 pub enum Report {
     /// Done.
     Done,

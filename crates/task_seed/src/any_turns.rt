@@ -7,7 +7,7 @@ use crate::walk::Walk;
 use std::marker::{Send, Sync};
 
 /// The turns of a seed, or those of a table. Values of different kinds aren't equal.
-#[derive(Debug, PartialEq, Eq, Drop)]
+#[derive(PartialEq, Eq, Drop)]
 pub enum AnyTurns {
     /// Turns that a generator gives.
     Seed(SeedTurns),

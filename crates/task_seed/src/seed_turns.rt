@@ -40,7 +40,7 @@ impl Refusal for SeedTurnsError {
 
 /// Turns drawn from a generator: component `i` has the words of the stream `stream + i` (modulo 2^64)
 /// of the generator with this seed, three of them a turn. The gap of a turn is its word modulo `gap`, and `least` more.
-#[derive(Clone, Copy, Debug, PartialEq, Eq)]
+#[derive(Clone, Copy, PartialEq, Eq)]
 pub struct SeedTurns {
     seed: u64,
     stream: u64,

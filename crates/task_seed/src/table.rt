@@ -9,7 +9,7 @@ use terms::{NoMemory, Refusal};
 use thiserror::Error;
 
 /// A turn of a component, as a line of a table says it.
-#[derive(Clone, Copy, Debug, PartialEq, Eq)]
+#[derive(Clone, Copy, PartialEq, Eq)]
 pub struct Row {
     pub component: u64,
     pub gap: u32,

@@ -79,7 +79,7 @@ impl<T: Drop> From<AllocFailed<T>> for TableTurnsError {
 }
 
 /// The turns of a table: those of a component are its rows, in their order.
-#[derive(Debug, PartialEq, Eq, Drop)]
+#[derive(PartialEq, Eq, Drop)]
 pub struct TableTurns {
     turns: Vec<Vec<Turn>>,
     ghost in_range: { IsTrue (all_in_range turns.items) },

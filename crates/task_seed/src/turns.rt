@@ -12,7 +12,7 @@ pub const MOST_TURNS: u64 = 4_294_967_296;
 pub const GREATEST_GAP: u32 = 65_535;
 
 /// A turn of a component.
-#[derive(Clone, Copy, Debug, PartialEq, Eq)]
+#[derive(Clone, Copy, PartialEq, Eq)]
 pub struct Turn {
     /// The ticks from the turn before, or from tick 0, to this turn: 0 to 65,535.
     pub gap: u32,
@@ -30,7 +30,7 @@ pub(crate) struct Timed {
 }
 
 /// A turn that exists, with its key.
-#[derive(Clone, Copy, Debug, PartialEq, Eq)]
+#[derive(Clone, Copy, PartialEq, Eq)]
 pub struct KeyedTurn {
     pub key: Key,
     pub turn: Turn,

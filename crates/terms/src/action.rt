@@ -14,7 +14,7 @@ use std::marker::Model;
 
 /// An action: a name with arguments. Actions are ordered by name, then by their arguments from the left; a comparison
 /// takes no memory.
-#[derive(Debug, Drop)]
+#[derive(Drop)]
 pub struct Action {
     /// The number of the name, from 0, where all action names are numbered in the order of their bytes.
     pub name: u16,

@@ -8,7 +8,7 @@ use std::alloc::{AllocError, Global};
 
 /// What a transition does to its state: the parts, one after the other, and then the last. It is as deep as its source
 /// nests, since what a source repeats is a list.
-#[derive(Debug, Drop)]
+#[derive(Drop)]
 #[cycle(of_effects)]
 pub struct Effect {
     pub parts: Vec<Part>,
@@ -16,7 +16,7 @@ pub struct Effect {
 }
 
 /// A part of an effect that something follows.
-#[derive(Debug, Drop)]
+#[derive(Drop)]
 #[cycle(of_effects)]
 pub enum Part {
     /// It is done before what follows.
@@ -26,7 +26,7 @@ pub enum Part {
 }
 
 /// What stands last in an effect.
-#[derive(Debug, Drop)]
+#[derive(Drop)]
 #[cycle(of_effects)]
 pub enum Last {
     /// The state stays.

@@ -3,7 +3,7 @@ ghost use Rattle.std.specs.Prelude.{◌≡◌};
 
 /// A value of a scalar type. The members of all enumerations of a source are numbered from 0 in the order of their
 /// declaration, so a member belongs to one enumeration alone and is compared by that order.
-#[derive(Clone, Copy, Debug, PartialEq, Eq, PartialOrd, Ord)]
+#[derive(Clone, Copy, PartialEq, Eq, PartialOrd, Ord)]
 pub enum Scalar {
     /// A whole number of 64 bits with a sign.
     Int(i64),
@@ -25,7 +25,7 @@ impl Default for Scalar {
 
 /// A type whose members can be listed: `false` and `true`, `count` whole numbers from `low` upwards, or `count` members
 /// of one enumeration from the member `first` on. A listed type has 1 to 65,535 members.
-#[derive(Clone, Copy, Debug, PartialEq, Eq)]
+#[derive(Clone, Copy, PartialEq, Eq)]
 pub enum Listed {
     Bool,
     Range { low: i64, count: u16 },
@@ -33,7 +33,7 @@ pub enum Listed {
 }
 
 /// A type, its names resolved.
-#[derive(Debug, PartialEq, Eq, Drop)]
+#[derive(PartialEq, Eq, Drop)]
 pub enum Shape {
     /// Whole numbers of 64 bits with a sign.
     Int,

@@ -8,7 +8,7 @@ use std::alloc::{AllocError, Global};
 
 /// What stands between two terms. `>` and `>=` are `Less` and `AtMost` with their sides turned round. Sums, differences
 /// and products wrap round at 64 bits with a sign.
-#[derive(Clone, Copy, Debug, PartialEq, Eq)]
+#[derive(Clone, Copy, PartialEq, Eq)]
 pub enum Operator {
     Plus,
     Minus,
@@ -29,7 +29,7 @@ pub enum Operator {
 
 /// A term, its names resolved to numbers: an operand, and the links that go on with it, each of which has all that
 /// stands before it as its left operand. It is as deep as its source nests, since what a source repeats is a list.
-#[derive(Debug, Drop)]
+#[derive(Drop)]
 #[cycle(of_terms)]
 pub struct Term {
     pub first: Operand,
@@ -37,7 +37,7 @@ pub struct Term {
 }
 
 /// What stands before the first operator of a term.
-#[derive(Debug, Drop)]
+#[derive(Drop)]
 #[cycle(of_terms)]
 pub enum Operand {
     /// A literal.
@@ -72,7 +72,7 @@ pub enum Operand {
 }
 
 /// What a term goes on with.
-#[derive(Debug, Drop)]
+#[derive(Drop)]
 #[cycle(of_terms)]
 pub enum Link {
     /// An operator and its right operand.

@@ -3,7 +3,7 @@
 use std::io::{self, Write};
 
 /// A writer, and how many of its writes failed, up to the greatest `u64`: those that gave an error or took 0 bytes of a nonempty piece.
-#[derive(Debug, Drop)]
+#[derive(Drop)]
 pub struct Counted<W> {
     writer: W,
     failures: u64,

@@ -6,7 +6,7 @@ use std::alloc::{AllocError, AllocFailed};
 use terms::NoMemory;
 
 /// Why a line isn't read.
-#[derive(Clone, Copy, Debug, PartialEq, Eq)]
+#[derive(Clone, Copy, PartialEq, Eq)]
 pub(crate) enum LineFault {
     NoMemory,
     /// The line has another form than the lines of its file.

@@ -24,7 +24,7 @@ use terms::Action;
 const LINE_ROOM: usize = 128;
 
 /// Which turns are written.
-#[derive(Clone, Copy, Debug, PartialEq, Eq)]
+#[derive(Clone, Copy, PartialEq, Eq)]
 pub enum Lines {
     /// Every turn.
     All,

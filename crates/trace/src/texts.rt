@@ -11,7 +11,7 @@ use crate::lines::Lines;
 use std::io::Write;
 
 /// How turns are written.
-#[derive(Clone, Copy, Debug)]
+#[derive(Clone, Copy)]
 pub struct Form {
     /// Which ones.
     pub lines: Lines,

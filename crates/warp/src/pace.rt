@@ -6,7 +6,7 @@ use std::rt::Clock;
 use std::time::Instant;
 
 /// What was seen of the lines of turns.
-#[derive(Clone, Copy, Debug)]
+#[derive(Clone, Copy)]
 pub struct Pace {
     /// The last tick.
     ticks: u64,

@@ -7,7 +7,7 @@ use std::alloc::Global;
 use std::rt::Clock;
 
 /// Of what it is told once a second how far it is.
-#[derive(Clone, Copy, Debug)]
+#[derive(Clone, Copy)]
 pub enum Progress {
     Nothing,
     /// Turns, up to this tick.

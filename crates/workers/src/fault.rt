@@ -29,7 +29,7 @@ pub enum RunFault {
 }
 
 // What befalls a worker, or keeps one from being started.
-#[derive(Clone, Copy, Debug, PartialEq, Eq)]
+#[derive(Clone, Copy, PartialEq, Eq)]
 pub(crate) enum WorkFault {
     NoMemory,
     Meeting(MeetRefused),

@@ -36,7 +36,7 @@ use terms::NoMemory;
 use trace::{Counted, Form, Lines, write_front};
 
 /// What a run came to.
-#[derive(Clone, Copy, Debug, PartialEq, Eq)]
+#[derive(Clone, Copy, PartialEq, Eq)]
 pub struct Summary {
     /// How many turns there were, written or not.
     pub turns: u64,

@@ -4,7 +4,7 @@ ghost use Rattle.std.specs.Prelude.{◌≡◌};
 use exchange::{Effort, Tally};
 
 /// What the workers of a run did, counted for who measures them. Nothing is promised but of `turns`; each of the others ends at the greatest `u64`.
-#[derive(Clone, Copy, Debug, PartialEq, Eq)]
+#[derive(Clone, Copy, PartialEq, Eq)]
 pub struct Stats {
     /// How many turns there were, written or not.
     pub turns: u64,

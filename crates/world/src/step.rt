@@ -6,7 +6,7 @@ use terms::Refusal;
 use thiserror::Error;
 
 /// What a step that was done answers.
-#[derive(Clone, Copy, Debug, PartialEq, Eq)]
+#[derive(Clone, Copy, PartialEq, Eq)]
 pub enum Reply {
     /// The key of the entry that was done.
     Processed(Key),

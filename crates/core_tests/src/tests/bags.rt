@@ -297,7 +297,7 @@ fn bags_hold_what_was_posted(rt: HostRuntime) {
     let (mut bag, mut other, mut stock) = (Bag::new(), Bag::new(), EventList::new());
     for _ in 0..100u32 {
         let cell = EventCell::new(rt.alloc(), signed(rt.alloc(), Plus, 0, 0));
-        stock.push_last(cell.expect(&rt, "memory for a cell"));
+        stock.push_last(cell.ok().expect(&rt, "memory for a cell"));
     }
     let mut held = room(rt.alloc()).expect(&rt, "room for blocks");
     for steps in [TAKEN.as_slice(), MET.as_slice(), MOVED.as_slice()] {
