@@ -8,21 +8,21 @@ use Rattle.ioa_rules.specs.SourceRules.{MeantSource, source_faults, source_meani
 use Rattle.ioa_check.specs.Refusals.{IsMeant}
 use Rattle.ioa_check.specs.Resolutions.{meaning}
 use Rattle.ioa_check.specs.declared.resolved.Resolved.{Resolved}
-use Rattle.ioa_facts.specs.Sound.{IsSoundAutomaton, entries_in}
+use Rattle.compose.specs.Sound.{IsSoundAutomaton, entries_in}
 use Rattle.plans.specs.Automata.{Instance, composed, instance_of}
 use Rattle.plans.specs.Compatible.{IsCompatible}
 use Rattle.plans.specs.WellFormed.{IsWellFormed}
 use Rattle.plans.specs.declared.automaton.Automaton.{Automaton}
 use Rattle.plans.specs.declared.automaton.Component.{Component}
-use Rattle.compatibility.specs.Rules.{Breaks, IsFirst}
-use Rattle.compatibility.specs.declared.rule.Rule.{Rule}
-use Rattle.compatibility.specs.declared.rule.Rule.TheVariants as rule
-use Rattle.action_types.specs.Types.{TypesDiffer}
-use Rattle.instances.specs.Instances.{instance, instances}
-use Rattle.instances.specs.Names.{AreNames}
+use Rattle.compose.specs.Rules.{Breaks, IsFirst}
+use Rattle.compose.specs.declared.compatibility.rule.Rule.{Rule}
+use Rattle.compose.specs.declared.compatibility.rule.Rule.TheVariants as rule
+use Rattle.compose.specs.Types.{TypesDiffer}
+use Rattle.compose.specs.Instances.{instance, instances}
+use Rattle.compose.specs.Names.{AreNames}
 use Rattle.compose.specs.declared.fault.ComposeError.{ComposeError}
 use Rattle.compose.specs.Faults.{Fault, Own, Internal, Output, HasFault, IsRefused, OutputMissing, least_error, unknown_at}
-use Rattle.compose.proofs.Least.{Firsts, refused_by, faultless_by}
+use Rattle.compose.proofs.LeastFault.{Firsts, refused_by, faultless_by}
 use Rattle.compose.proofs.Unknown.{unknown_first}
 
 -- ---- the size and the soundness of a checked source

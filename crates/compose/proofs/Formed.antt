@@ -17,7 +17,7 @@ use Rattle.ioa_rules.specs.Kinds.{Kind, Truth, Whole, Range, Enum, SeqOf, ArrayO
 use Rattle.ioa_rules.specs.EntryRules.{Meant, Slot, Fixed, Free, is_input, is_controlled}
 use Rattle.ioa_rules.specs.AutomatonRules.{MeantAutomaton}
 use Rattle.ioa_rules.specs.SourceRules.{MeantComponent, MeantSource}
-use Rattle.ioa_facts.specs.Sound.{IsSoundAutomaton, share, is_within, is_slot, is_listed}
+use Rattle.compose.specs.Sound.{IsSoundAutomaton, share, is_within, is_slot, is_listed}
 use Rattle.plans.specs.declared.automaton.Kind.{Kind as ActionKind}
 use Rattle.plans.specs.declared.automaton.Kind.TheVariants as action
 use Rattle.plans.specs.declared.automaton.Param.{Param}
@@ -26,10 +26,10 @@ use Rattle.plans.specs.Automata.{Transition, Instance, component_at, absent}
 use Rattle.plans.specs.Signatures.{has, fits, has_as, any_as, same_kind}
 use Rattle.plans.specs.WellFormed as formed
 use Rattle.plans.specs.WellFormed.{IsWellFormed, is_complete, times, all_places}
-use Rattle.compatibility.specs.Rules.{Breaks, IsTwice}
-use Rattle.compatibility.specs.declared.rule.Rule.TheVariants as rule
-use Rattle.instances.specs.Instances.{kind_as, is_short, param_in, param_of, place_in, transition, argument, built, instances}
-use Rattle.instances.specs.Names.{AreNames, automaton_at}
+use Rattle.compose.specs.Rules.{Breaks, IsTwice}
+use Rattle.compose.specs.declared.compatibility.rule.Rule.TheVariants as rule
+use Rattle.compose.specs.Instances.{kind_as, is_short, param_in, param_of, place_in, transition, argument, built, instances}
+use Rattle.compose.specs.Names.{AreNames, automaton_at}
 use Rattle.compose.proofs.Named.{one_place, in_table, instance_or_absent, component_is, mapped_at}
 
 -- ---- one component

@@ -1,10 +1,44 @@
+pub mod Apart
+pub mod Breaking
 pub mod Composed
+pub mod Constants
+pub mod Converted
+pub mod Filled
+pub mod FirstClashes
+pub mod FirstDifferences
+pub mod FirstTypes
 pub mod Formed
 mod Fronts
-pub mod Least
+pub mod Grown
+pub mod Heads
+pub mod HiddenNames
+pub mod Kept
+pub mod LeastDifference
+pub mod LeastFault
+pub mod ListItems
+pub mod ListPairs
+pub mod Lookups
+pub mod Marks
+pub mod Members
 pub mod Missing
 pub mod Named
+pub mod NoFaults
 mod Numbered
+pub mod Once
 pub mod Outputs
+pub mod Partition
+pub mod PlacedComponents
+pub mod PlacedEntries
+pub mod Rising
+pub mod SameKinds
 mod Searched
+pub mod Sizes
+pub mod SlotTypes
+pub mod SoundAutomata
+pub mod SoundEntries
+pub mod SoundSlots
+pub mod Steps
+pub mod Tally
 pub mod Unknown
+pub mod Whole
+pub mod Within

@@ -7,7 +7,7 @@ use Rattle.std.specs.Option.{option_map}
 use Rattle.std.specs.declared.string.String.{String}
 use Rattle.ioa_trees.specs.Trees.{Bytes}
 use Rattle.ioa_rules.specs.SourceRules.{MeantSource}
-use Rattle.compatibility.specs.Rules.{IsFirst}
+use Rattle.compose.specs.Rules.{IsFirst}
 use Rattle.compose.specs.Faults.{OutputMissing, is_given}
 use Rattle.compose.specs.Outputs.{lacks_in, lacks_at}
 use Rattle.compose.proofs.Named.{mapped_at}

@@ -10,8 +10,8 @@ use Rattle.ioa_rules.specs.EntryRules.{Meant}
 use Rattle.ioa_rules.specs.AutomatonRules.{MeantAutomaton}
 use Rattle.ioa_rules.specs.SourceRules.{MeantComponent, MeantSource}
 use Rattle.plans.specs.Automata.{Instance, absent, component_at}
-use Rattle.instances.specs.Instances.{place_in, instance}
-use Rattle.instances.specs.Names.{Signature, signature_of, signatures_in, signatures_of, automaton_at, AreNames}
+use Rattle.compose.specs.Instances.{place_in, instance}
+use Rattle.compose.specs.Names.{Signature, signature_of, signatures_in, signatures_of, automaton_at, AreNames}
 
 or_right : (a b : Bool) → b ≡ true → (a || b) ≡ true
 or_right true b h = refl

@@ -7,10 +7,10 @@ use Rattle.ioa_trees.specs.Trees.{Bytes}
 use Rattle.ioa_rules.specs.EntryRules.{Meant}
 use Rattle.ioa_rules.specs.AutomatonRules.{MeantAutomaton}
 use Rattle.ioa_rules.specs.SourceRules.{MeantComponent}
-use Rattle.instances.specs.Names.{automaton_at}
-use Rattle.instances.specs.Tables.{mark_at}
-use Rattle.instances.proofs.Grown.{map_end, taken}
-use Rattle.instances.proofs.Marks.{marked_else}
+use Rattle.compose.specs.Names.{automaton_at}
+use Rattle.compose.specs.Tables.{mark_at}
+use Rattle.compose.proofs.Grown.{map_end, taken}
+use Rattle.compose.proofs.Marks.{marked_else}
 use Rattle.compose.specs.Faults.{gives, gives_in, is_output, is_output_of}
 use Rattle.compose.specs.Outputs.{AddsOutputs, AreGiven}
 

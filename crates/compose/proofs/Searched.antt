@@ -1,7 +1,7 @@
 -- The first number that has something, as a search for a test finds it.
 use Rattle.std.proofs.Common.{arith, ◌≡◌, ◌≤◌, ◌<◌, ◌⊎◌, inl, inr, ℕ, nat_le, Bool, true, false, Option, None, Some, IfSome, IfNone, sym, ◌∙◌, refl}
 use Rattle.std.proofs.lemmas.Bool.Decides.{nat_tests}
-use Rattle.compatibility.specs.Rules.{IsFirst}
+use Rattle.compose.specs.Rules.{IsFirst}
 
 compared : (m n : ℕ) → (m ≤ n) ⊎ (n < m)
 compared m n = by (nat_le m n) refl

@@ -4,7 +4,7 @@ use Rattle.std.specs.Option.{option_map}
 use Rattle.ioa_rules.specs.SourceRules.{MeantComponent}
 use Rattle.ioa_check.specs.declared.resolved.Component.{Component}
 use Rattle.ioa_check.specs.Resolutions.{component_meaning}
-use Rattle.compatibility.specs.Rules.{IsFirst}
+use Rattle.compose.specs.Rules.{IsFirst}
 use Rattle.compose.specs.Faults.{AutomatonMissing, lacks, unknown_in, unknown_at}
 use Rattle.compose.proofs.Named.{mapped_at}
 use Rattle.compose.proofs.Searched.{searched}

@@ -10,11 +10,11 @@ use Rattle.ioa_rules.specs.SourceRules.{MeantComponent, MeantSource}
 use Rattle.ioa_check.specs.declared.resolved.Component.{Component}
 use Rattle.plans.specs.declared.plan.Plan.{Plan}
 use Rattle.plans.specs.Plans.{composition, action_texts, action_types, hidden_marks, member_texts}
-use Rattle.compatibility.specs.Rules.{Breaks, IsFirst}
-use Rattle.compatibility.specs.declared.rule.Rule.TheVariants as rule
-use Rattle.action_types.specs.Types.{TypesDiffer}
-use Rattle.instances.specs.Instances.{instances}
-use Rattle.instances.specs.Names.{AreNames, automaton_at, first_types, is_hidden}
+use Rattle.compose.specs.Rules.{Breaks, IsFirst}
+use Rattle.compose.specs.declared.compatibility.rule.Rule.TheVariants as rule
+use Rattle.compose.specs.Types.{TypesDiffer}
+use Rattle.compose.specs.Instances.{instances}
+use Rattle.compose.specs.Names.{AreNames, automaton_at, first_types, is_hidden}
 use Rattle.compose.specs.declared.fault.ComposeError.{ComposeError}
 use Rattle.compose.specs.declared.fault.ComposeError.TheVariants as error
 

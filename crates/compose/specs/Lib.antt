@@ -1,4 +1,13 @@
 pub mod Composed
 pub mod Faults
+pub mod Instances
+pub mod Names
 pub mod Outputs
 pub mod Refusals
+pub mod Rules
+pub mod Sound
+pub mod Spans
+pub mod Standings
+pub mod Tables
+pub mod TypedStandings
+pub mod Types

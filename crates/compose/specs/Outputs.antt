@@ -7,7 +7,7 @@ use Rattle.ioa_trees.specs.Trees.{Bytes}
 use Rattle.ioa_rules.specs.EntryRules.{Meant}
 use Rattle.ioa_rules.specs.AutomatonRules.{MeantAutomaton}
 use Rattle.ioa_rules.specs.SourceRules.{MeantComponent}
-use Rattle.instances.specs.Tables.{mark_at}
+use Rattle.compose.specs.Tables.{mark_at}
 use Rattle.compose.specs.Faults.{gives, gives_in, is_output_of}
 
 -- the names of a set to which those of the outputs of these entries were added

@@ -4,15 +4,15 @@ ghost use Rattle.ioa_check.specs.Resolutions.{meaning};
 ghost use Rattle.plans.specs.Plans.{action_texts};
 ghost use Rattle.compose.specs.Faults.{Fault as AnyFault, HasFault, IsPlan, IsRefused, last_error, least_error, unknown_at};
 
+use crate::action_types::first_difference;
+use crate::compatibility::laws::compatible_law;
+use crate::compatibility::{Rule, first_break};
 use crate::fault::ComposeError;
 use crate::hiding::first_not_given;
+use crate::instances::parts_of;
 use crate::laws::formed_law;
-use action_types::first_difference;
-use compatibility::laws::compatible_law;
-use compatibility::{Rule, first_break};
-use instances::parts_of;
+use crate::sound_laws::{sizes_law, sources_law};
 use ioa_check::{Checked, Component};
-use ioa_facts::laws::{sizes_law, sources_law};
 use plans::Plan;
 use std::alloc::Global;
 

@@ -1,7 +1,7 @@
 //! Hidden names of which no component has an output.
 ghost use Rattle.std.specs.Prelude.{◌≡◌, ◌<◌, ◌||◌, ◌++◌, ◌∷◌, [], ℕ, List, true, false, bytes_eq, map, IfOk, IfSome, IfNone, OnOk};
 ghost use Rattle.std.specs.List.{list_any};
-ghost use Rattle.compatibility.specs.Rules.{IsFirst};
+ghost use Rattle.compose.specs.Rules.{IsFirst};
 ghost use Rattle.ioa_check.specs.AutomatonViews.{used_names};
 ghost use Rattle.ioa_check.specs.Resolutions.{automaton_meaning, component_meaning, meaning, transition_meaning};
 ghost use Rattle.ioa_rules.specs.SourceRules.{MeantComponent};
@@ -9,7 +9,7 @@ ghost use Rattle.ioa_trees.specs.Trees.{Bytes};
 ghost use Rattle.compose.specs.Faults.{OutputMissing, gives_in, is_output, is_output_of};
 ghost use Rattle.compose.specs.Outputs.{AddsOutputs, AreGiven, lacks_at};
 
-use instances::table::{is_marked, mark, unmarked};
+use crate::instances::table::{is_marked, mark, unmarked};
 use ioa_check::{Automaton, Component, Resolved, Transition, Used};
 use ioa_trees::tree::EntryKind;
 use std::alloc::{AllocError, Global};

@@ -3,12 +3,12 @@ ghost use Rattle.std.specs.Prelude.{◌≡◌, ◌≤◌, ◌^◌, ℕ, List, le
 ghost use Rattle.std.specs.List.{All};
 ghost use Rattle.ioa_trees.specs.Trees.{Bytes};
 ghost use Rattle.ioa_rules.specs.SourceRules.{MeantSource};
-ghost use Rattle.ioa_facts.specs.Sound.{IsSoundAutomaton};
+ghost use Rattle.compose.specs.Sound.{IsSoundAutomaton};
 ghost use Rattle.plans.specs.WellFormed.{IsWellFormed};
-ghost use Rattle.compatibility.specs.Rules.{Breaks};
-ghost use Rattle.compatibility.specs.declared.rule.Rule.TheVariants as rule;
-ghost use Rattle.instances.specs.Instances.{instances};
-ghost use Rattle.instances.specs.Names.{AreNames};
+ghost use Rattle.compose.specs.Rules.{Breaks};
+ghost use Rattle.compose.specs.declared.compatibility.rule.Rule.TheVariants as rule;
+ghost use Rattle.compose.specs.Instances.{instances};
+ghost use Rattle.compose.specs.Names.{AreNames};
 
 /// A source whose automata are sound, and of which no component has an action in two of its own sets, means a well-formed composition.
 pub fn formed_law()

@@ -12,12 +12,12 @@ use Rattle.ioa_rules.specs.AutomatonRules.{MeantAutomaton}
 use Rattle.ioa_rules.specs.SourceRules.{MeantComponent, MeantSource, source_meaning}
 use Rattle.plans.specs.Automata.{Instance}
 use Rattle.plans.specs.Compatible.{IsCompatible}
-use Rattle.compatibility.specs.Rules.{Breaks}
-use Rattle.compatibility.specs.declared.rule.Rule.{Rule}
-use Rattle.compatibility.specs.declared.rule.Rule.TheVariants as rule
-use Rattle.action_types.specs.Types.{TypesDiffer, automaton_at, entry_kinds, same_kinds}
-use Rattle.instances.specs.Instances.{instances}
-use Rattle.instances.specs.Names.{AreNames, used_names}
+use Rattle.compose.specs.Rules.{Breaks}
+use Rattle.compose.specs.declared.compatibility.rule.Rule.{Rule}
+use Rattle.compose.specs.declared.compatibility.rule.Rule.TheVariants as rule
+use Rattle.compose.specs.Types.{TypesDiffer, automaton_at, entry_kinds, same_kinds}
+use Rattle.compose.specs.Instances.{instances}
+use Rattle.compose.specs.Names.{AreNames, used_names}
 use Rattle.compose.specs.Faults.{AutomatonMissing, Fault, Unknown, Own, Internal, Output, Types, Many, Hidden, HasFault, IsRefused}
 use Rattle.compose.specs.declared.fault.ComposeError.{ComposeError}
 use Rattle.compose.specs.declared.fault.ComposeError.TheVariants as error

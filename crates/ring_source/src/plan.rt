@@ -10,7 +10,7 @@ ghost use Rattle.compose.specs.declared.fault.ComposeError.TheVariants as uncomp
 ghost use Rattle.ring_source.specs.Ring.{ring_of_two};
 ghost use Rattle.ring_source.specs.Source.{ring_tree};
 
-use compatibility::laws::compatible_law;
+use compose::compatibility::laws::compatible_law;
 use compose::{ComposeError, Plan, compose};
 use ioa_check::{CheckError, Checked, check};
 use ioa_front::texts::machine_law;

@@ -2,7 +2,7 @@
 
 use Listed::{Enumeration, Range};
 use Param::{Between, Const, Member, Whole};
-use compatibility::{Span, meet, overlap, span_of};
+use compose::compatibility::{Span, meet, overlap, span_of};
 use plans::Param;
 use terms::{Listed, Scalar};
 

@@ -1,9 +1,9 @@
 use Rattle.std.proofs.Common.{map, take, ap, sym, subst, ◌∙◌, length}
 use Rattle.ioa_check.specs.AutomatonViews.{used_names}
 use Rattle.ioa_check.specs.Resolutions.{automaton_meaning, component_meaning}
-use Rattle.instances.specs.Tables.{mark_at}
-use Rattle.instances.proofs.Grown.{map_end, taken}
-use Rattle.instances.proofs.Marks.{none_marked}
+use Rattle.compose.specs.Tables.{mark_at}
+use Rattle.compose.proofs.Grown.{map_end, taken}
+use Rattle.compose.proofs.Marks.{none_marked}
 use Rattle.compose.specs.Outputs.{AreGiven}
 use Rattle.compose.proofs.Outputs.{none_given}
 use Rattle.compose.proofs.hiding.given_names.Goals as goal

@@ -2,9 +2,9 @@ use Rattle.std.proofs.Common.{rules, ◌≡◌, ◌<◌, ◌≤◌, ◌++◌, �
 use Rattle.std.proofs.lemmas.Option.{slice_get_past, slice_get_read}
 use Rattle.ioa_check.specs.AutomatonViews.{used_names}
 use Rattle.ioa_check.specs.Resolutions.{automaton_meaning, component_meaning}
-use Rattle.instances.specs.Names.{automaton_at}
-use Rattle.instances.specs.Tables.{mark_at}
-use Rattle.instances.proofs.Marks.{at_same_place}
+use Rattle.compose.specs.Names.{automaton_at}
+use Rattle.compose.specs.Tables.{mark_at}
+use Rattle.compose.proofs.Marks.{at_same_place}
 use Rattle.compose.specs.Outputs.{AddsOutputs, AreGiven}
 use Rattle.compose.proofs.Outputs.{kept_again, kept_new, kept_without}
 use Rattle.compose.proofs.hiding.visit.Goals as goal

@@ -1,2 +1,0 @@
-pub mod Standings
-pub mod Types

@@ -1,6 +1,0 @@
-pub mod Breaking
-pub mod Constants
-pub mod Firsts
-pub mod Lists
-pub mod Lookups
-pub mod Members

@@ -1,5 +1,0 @@
-use Rattle.std.proofs.Common.{length}
-use Rattle.compatibility.proofs.arguments.+overlap.Given as goal
-
-abbrev pub decreases-overlap : goal.decreases-overlap
-decreases-overlap l = length l.params.now

@@ -1,8 +1,0 @@
-use Rattle.compatibility.proofs.Firsts.{compatible_by, unbroken_by}
-use Rattle.compatibility.proofs.laws.compatible_law.Goals as goal
-
-pub returns-clause-compatible : goal.returns-clause-compatible
-returns-clause-compatible c = compatible_by
-
-pub returns-clause-unbroken : goal.returns-clause-unbroken
-returns-clause-unbroken c = unbroken_by

@@ -1,0 +1,41 @@
+use Rattle.std.proofs.Common.{rules, ◌≡◌, ◌<◌, ◌≤◌, ◌++◌, ◌∷◌, [], true, false, None, Some, map, length, slice_get, refl, ap, sym, subst, ◌∙◌, arith}
+use Rattle.std.proofs.lemmas.List.{length-map}
+use Rattle.std.proofs.lemmas.Option.{slice_get_past, slice_get_read}
+use Rattle.ioa_check.specs.Resolutions.{automaton_meaning, component_meaning}
+use Rattle.compose.specs.Names.{automaton_at}
+use Rattle.compose.specs.Tables.{IsTable, mark_at, table}
+use Rattle.compose.proofs.Marks.{at_same_place, kept_again, kept_new, kept_without}
+use Rattle.compose.proofs.instances.table.visit.Goals as goal
+
+pub returns-in_default : goal.returns-in_default
+returns-in_default c =
+    let none : c.args.component.now.automaton ≡ None = search rules in
+    let gone = ap (automaton_at (map automaton_meaning c.args.automata.now)) none in
+    λ seen known. kept_without (map automaton_meaning c.args.automata.now) seen (table c.args.names.now) c.args.used.now.items (component_meaning c.args.component.now) gone known
+
+pub returns-in_default-get : goal.returns-in_default-get
+returns-in_default-get c =
+    let some : c.args.component.now.automaton ≡ Some c.in-Some.number = search rules in
+    let past : length c.args.automata.now ≤ c.in-Some.number = search rules in
+    let none = slice_get_past c.args.automata.now c.in-Some.number past in
+    let gone = ap (automaton_at (map automaton_meaning c.args.automata.now)) some ∙ at_same_place automaton_meaning c.args.automata.now c.in-Some.number None none in
+    λ seen known. kept_without (map automaton_meaning c.args.automata.now) seen (table c.args.names.now) c.args.used.now.items (component_meaning c.args.component.now) gone known
+
+pub returns-then-is_marked : goal.returns-then-is_marked
+returns-then-is_marked c =
+    let some : c.args.component.now.automaton ≡ Some c.in-Some.number = search rules in
+    let mark : mark_at c.args.used.now.items c.in-Some.number ≡ true = search rules in
+    λ seen known. kept_again (map automaton_meaning c.args.automata.now) seen (table c.args.names.now) c.args.used.now.items (component_meaning c.args.component.now) c.in-Some.number some mark known
+
+pub returns : goal.returns
+returns c =
+    let some : c.args.component.now.automaton ≡ Some c.in-Some.number = search rules in
+    let free : mark_at c.args.used.now.items c.in-Some.number ≡ false = search rules in
+    let low : c.in-Some.number < length c.args.automata.now = search rules in
+    let there : slice_get c.args.automata.now c.in-Some.number ≡ Some c.in-Some-get.automaton.now = slice_get_read c.args.automata.now (length c.args.automata.now) c.in-Some.number c.in-Some-get.automaton.now refl low (search rules) in
+    let long = length-map c.args.automata.now automaton_meaning in
+    let below : c.in-Some.number < length (map automaton_meaning c.args.automata.now) = omega (arith, low, long) in
+    let marked = c.mark.ensures in
+    λ seen known. subst (λ ms. IsTable (map automaton_meaning c.args.automata.now) (seen ++ component_meaning c.args.component.now ∷ []) (table c.note_all.new.names) ms) (sym marked)
+    (kept_new (map automaton_meaning c.args.automata.now) seen (table c.args.names.now) (table c.note_all.new.names) c.args.used.now.items (component_meaning c.args.component.now) c.in-Some.number (automaton_meaning c.in-Some-get.automaton.now)
+    some (at_same_place automaton_meaning c.args.automata.now c.in-Some.number (Some c.in-Some-get.automaton.now) there) below free c.in_ok-note_all.ensures.adds c.in_ok-note_all.ensures.few known)

@@ -1,7 +1,0 @@
-use Rattle.std.proofs.Common.{◌≡◌, Some, map, take}
-use Rattle.ioa_typing.specs.TermViews.{core_tree}
-use Rattle.instances.specs.Instances.{argument}
-use Rattle.instances.proofs.components.values_of.Given as goal
-
-abbrev pub invariant-loop-term : goal.invariant-loop-term
-invariant-loop-term l = l.values.items ≡ map argument (map (λ t. core_tree (Some t)) (take l.term-index l.terms))
