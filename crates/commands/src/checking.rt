@@ -1,4 +1,4 @@
-//! The engine of `check`.
+//! The engine of `check`, for a plan and the bytes of actions.
 ghost use Rattle.std.specs.Prelude.{◌≡◌, IfErr, IfOk};
 ghost use Rattle.trace.specs.Went.{IsStopped, IsWritten};
 ghost use Rattle.commands.specs.Judged.{IsJudged, IsUnjudged, verdict_text};

@@ -1,4 +1,4 @@
-//! The engine of `drive`.
+//! The engine of `drive`, for a setup and steps.
 ghost use Rattle.std.specs.Prelude.{◌≡◌, IfErr, IfOk, OnOk, map, reverse};
 ghost use Rattle.task_seed.specs.Setups.{plan_of, system};
 ghost use Rattle.rollback.specs.ComponentView.{machine_of};

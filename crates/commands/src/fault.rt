@@ -3,10 +3,22 @@ ghost use Rattle.std.specs.Prelude.{◌≡◌};
 ghost use Rattle.commands.specs.declared.fault.DriveFault.TheVariants.{NoMemory as Undriven};
 ghost use Rattle.commands.specs.declared.fault.SimulateFault.TheVariants.{NoMemory as OutOfMemory};
 
+use ioa_front::ReadError;
 use std::alloc::{AllocError, AllocFailed};
 use terms::{NoMemory, Refusal};
 use thiserror::Error;
 use trace::{TraceError, WriteFault};
+
+/// Why a source isn't printed, or not to its end.
+#[derive(Clone, Copy, Debug, PartialEq, Eq, Error)]
+pub enum PrintFault {
+    #[error("out of memory")]
+    NoMemory,
+    #[error("{0}")]
+    Source(ReadError),
+    #[error("{0}")]
+    Write(WriteFault),
+}
 
 /// Why actions aren't judged, or the verdict isn't written to its end.
 #[derive(Clone, Copy, Debug, PartialEq, Eq, Error)]
@@ -37,6 +49,30 @@ pub enum DriveFault {
     NoMemory,
     #[error("{0}")]
     Write(WriteFault),
+}
+
+impl Refusal for PrintFault {
+    ghost use Rattle.commands.specs.PrintRefusals.{print_number, print_place};
+
+    ghost number_of = { print_number };
+
+    ghost place_of = { print_place };
+
+    fn number(&self) -> u8 {
+        match self {
+            PrintFault::NoMemory => 1,
+            PrintFault::Source(refused) => refused.number(),
+            PrintFault::Write(fault) => fault.number(),
+        }
+    }
+
+    fn place(&self) -> Option<usize> {
+        match self {
+            PrintFault::NoMemory => None,
+            PrintFault::Source(refused) => refused.place(),
+            PrintFault::Write(fault) => fault.place(),
+        }
+    }
 }
 
 impl Refusal for CheckFault {

@@ -1,4 +1,4 @@
-//! The engine of `reference`.
+//! The engine of `reference`, for a setup.
 ghost use Rattle.std.specs.Prelude.{◌≡◌, [], IfErr, IfOk, OnOk, option_copied};
 ghost use Rattle.std.specs.Io.KnownBytes.{Keeps};
 ghost use Rattle.task_seed.specs.Setups.{plan_of, system};

@@ -12,10 +12,10 @@ use Rattle.trace.specs.Went.{IsStopped, IsWritten}
 use Rattle.workers.specs.declared.fault.RunFault.{RunFault}
 use Rattle.workers.specs.declared.fault.RunFault.TheVariants as fault
 use Rattle.workers.specs.Refusals.{run_number}
-use Rattle.workers.specs.declared.stats.Stats.{Stats}
+use Rattle.steering.specs.declared.stats.Stats.{Stats}
 use Rattle.workers.specs.Runs.{IsUnfinished, IsWhole}
 use Rattle.service.specs.Crews.{IsCrewReport, done}
-use Rattle.service.specs.Reports.{report_of}
+use Rattle.commands.specs.Reports.{report_of}
 
 module _ {W : Type 0} (known : W → Option (List ℕ)) (old new : Counted W) (plan : Plan) (system : System) (form : Form) (stats : Bool) (kept : Type 0) where
   -- a run that is done

@@ -13,21 +13,23 @@ use Rattle.command_line.specs.declared.Asked.{Asked}
 use Rattle.command_line.specs.declared.Asked.TheVariants as asked
 use Rattle.command_line.specs.declared.Options.{Options}
 use Rattle.workers.specs.Runs.{IsWhole}
-use Rattle.service.specs.declared.report.Report.{Report}
-use Rattle.service.specs.declared.report.Report.TheVariants.{Done, No, Driven, Ran, Explained, Refused, Fault, Misused}
-use Rattle.service.specs.Checks.{IsActionsReport, IsNo, IsVerdictOn, IsYes}
+use Rattle.commands.specs.declared.report.Report.{Report}
+use Rattle.commands.specs.declared.report.Report.TheVariants.{Done, No, Driven, Ran, Explained, Refused, Fault, Misused}
+use Rattle.commands.specs.Checks.{IsActionsReport, IsNo, IsVerdictOn, IsYes}
 use Rattle.service.specs.Crews.{IsCrewReport}
-use Rattle.service.specs.Drives.{IsStepsReport}
-use Rattle.service.specs.Explained.{AllTold, IsExplainReport, IsStoryReport, IsTellingReport, LacksAny, named}
-use Rattle.service.specs.FileReports.{FilesMean, FilesMeanNone, IsCheckFileReport, IsDriveFileReport, IsRunFileReport, IsSimulateFileReport, IsSmallReport, form_for}
+use Rattle.commands.specs.Drives.{IsStepsReport}
+use Rattle.commands.specs.Explained.{AllTold, IsExplainReport, IsStoryReport, IsTellingReport, LacksAny, named}
+use Rattle.commands.specs.FileReports.{FilesMean, FilesMeanNone, IsCheckFileReport, IsDriveFileReport, IsSimulateFileReport, IsSmallReport, form_for}
+use Rattle.service.specs.Crews.{IsRunFileReport}
 use Rattle.service.specs.Flushed.{IsFlushed, IsFlushedWhere}
-use Rattle.service.specs.Parts.{IsSimulationReport}
-use Rattle.service.specs.Reports.{is_served, IsFlushedReport, IsInformed, IsPrintReport, IsReport, IsReportOn, IsUnserved}
-use Rattle.service.specs.Simulations.{IsEngineReport}
+use Rattle.commands.specs.Parts.{IsSimulationReport}
+use Rattle.commands.specs.Reports.{is_served, IsPrintReport}
+use Rattle.service.specs.Reports.{IsFlushedReport, IsInformed, IsReport, IsReportOn, IsUnserved}
+use Rattle.commands.specs.Simulations.{IsEngineReport}
 use Rattle.service.specs.Told.{IsWarned}
-use Rattle.service.proofs.DrawReports.{draw_again}
-use Rattle.service.proofs.HuntReports.{hunt_again}
-use Rattle.service.proofs.FileReports.{engine_again, no_plan_refused, none_refused, some_refusal, unserved}
+use Rattle.commands.proofs.DrawReports.{draw_again}
+use Rattle.commands.proofs.HuntReports.{hunt_again}
+use Rattle.commands.proofs.FileReports.{engine_again, no_plan_refused, none_refused, some_refusal, unserved}
 
 module _ (wrote again : List ℕ → Type 0) (stays : (text : List ℕ) → wrote text → again text) (kept still : Type 0) (cut later : List ℕ → ℕ → Type 0) where
   print_again : (has : List ℕ → Type 0) (lacks : Type 0) (report : Report) → is_served report ≡ true → IsPrintReport has lacks kept wrote cut report → IsPrintReport has lacks still again later report

@@ -1,13 +1,4 @@
-pub mod Checked
 pub mod CrewReports
-pub mod DrawReports
-pub mod DriveReports
-pub mod Tellings
-pub mod FileReports
 pub mod Flushed
-pub mod HuntReports
-pub mod Pieces
 pub mod Printings
-pub mod Reporting
-pub mod SetupReports
 pub mod Told

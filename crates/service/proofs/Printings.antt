@@ -6,14 +6,14 @@ use Rattle.ioa_front.specs.declared.ReadError.TheVariants as refused
 use Rattle.ioa_front.specs.Reading.{IsRefusal}
 use Rattle.ioa_front.specs.Refusals.{read_number, read_place}
 use Rattle.trace.specs.declared.fault.WriteFault.TheVariants.{WriteFailed}
-use Rattle.service.specs.declared.fault.PrintFault.{PrintFault}
-use Rattle.service.specs.declared.fault.PrintFault.TheVariants as fault
-use Rattle.service.specs.Printing.{IsPrinted, IsRefusedSource, IsUnprinted}
-use Rattle.service.specs.PrintRefusals.{print_number, print_place}
-use Rattle.service.specs.Reading.{IsReadOf}
-use Rattle.service.specs.Reports.{IsPrintReport, report_of}
-use Rattle.service.specs.Unread.{IsSourceWith}
-use Rattle.service.specs.Whole.{take_whole}
+use Rattle.commands.specs.declared.fault.PrintFault.{PrintFault}
+use Rattle.commands.specs.declared.fault.PrintFault.TheVariants as fault
+use Rattle.commands.specs.Printing.{IsPrinted, IsRefusedSource, IsUnprinted}
+use Rattle.commands.specs.PrintRefusals.{print_number, print_place}
+use Rattle.commands.specs.Reading.{IsReadOf}
+use Rattle.commands.specs.Reports.{IsPrintReport, report_of}
+use Rattle.commands.specs.Unread.{IsSourceWith}
+use Rattle.commands.specs.Whole.{take_whole}
 
 -- what was read within the limit is the whole file
 whole : (all : List ℕ) → length (take 65537 all) ≤ 65536 → take 65537 all ≡ all

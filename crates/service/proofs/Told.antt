@@ -6,19 +6,20 @@ use Rattle.task_seed.specs.Turning.{System}
 use Rattle.command_line.specs.declared.Asked.{Asked}
 use Rattle.command_line.specs.declared.Asked.TheVariants as asked
 use Rattle.trace.specs.declared.counted.Counted.{Counted}
-use Rattle.service.specs.declared.report.Report.{Report}
-use Rattle.service.specs.declared.report.Report.TheVariants.{Done, No, Driven, Ran, Explained, Refused, Fault, Misused}
-use Rattle.service.specs.Reports.{IsReportOn, line_of}
+use Rattle.commands.specs.declared.report.Report.{Report}
+use Rattle.commands.specs.declared.report.Report.TheVariants.{Done, No, Driven, Ran, Explained, Refused, Fault, Misused}
+use Rattle.commands.specs.Reports.{line_of}
+use Rattle.service.specs.Reports.{IsReportOn}
 use Rattle.service.specs.Told.{IsTold, IsWarned}
-use Rattle.service.specs.Checks.{IsActionsReport}
+use Rattle.commands.specs.Checks.{IsActionsReport}
 use Rattle.service.specs.Crews.{IsCrewReport}
-use Rattle.service.specs.Drives.{IsStepsReport}
-use Rattle.service.specs.FileReports.{IsSmallReport, form_for}
-use Rattle.service.specs.Parts.{IsSimulationReport}
-use Rattle.service.specs.Written.{IsSaid}
-use Rattle.service.proofs.FileReports.{no_plan_refused, not_misused, small_not_misused}
-use Rattle.service.proofs.DrawReports.{draw_not_misused}
-use Rattle.service.proofs.HuntReports.{hunt_not_misused}
+use Rattle.commands.specs.Drives.{IsStepsReport}
+use Rattle.commands.specs.FileReports.{IsSmallReport, form_for}
+use Rattle.commands.specs.Parts.{IsSimulationReport}
+use Rattle.commands.specs.Written.{IsSaid}
+use Rattle.commands.proofs.FileReports.{no_plan_refused, not_misused, small_not_misused}
+use Rattle.commands.proofs.DrawReports.{draw_not_misused}
+use Rattle.commands.proofs.HuntReports.{hunt_not_misused}
 
 module _ {E : Type 0} (known : E → Option (List ℕ)) where
   -- nothing is said before the line of a report on what was asked for

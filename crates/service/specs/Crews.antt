@@ -5,12 +5,14 @@ use Rattle.task_seed.specs.Turning.{System}
 use Rattle.trace.specs.declared.lines.Lines.{Lines}
 use Rattle.trace.specs.declared.texts.Form.{Form}
 use Rattle.trace.specs.Headed.{Behind, headed}
-use Rattle.workers.specs.declared.stats.Stats.{Stats}
+use Rattle.command_line.specs.declared.Options.{Options}
+use Rattle.steering.specs.declared.stats.Stats.{Stats}
 use Rattle.workers.specs.Runs.{IsBegun, IsCut, IsWhole}
-use Rattle.service.specs.declared.report.Report.{Report}
-use Rattle.service.specs.declared.report.Report.TheVariants.{Done, No, Driven, Ran, Explained, Refused, Fault, Misused}
-use Rattle.service.specs.Setups.{Given}
-use Rattle.service.specs.Simulations.{IsEngineReport, Means, MeansNone}
+use Rattle.commands.specs.declared.report.Report.{Report}
+use Rattle.commands.specs.declared.report.Report.TheVariants.{Done, No, Driven, Ran, Explained, Refused, Fault, Misused}
+use Rattle.commands.specs.FileReports.{FilesMean, FilesMeanNone, form_for}
+use Rattle.commands.specs.Setups.{Given}
+use Rattle.commands.specs.Simulations.{IsEngineReport, Means, MeansNone}
 
 -- the text of all turns, however many there are, became this
 pub record IsFinished (plan : Plan) (system : System) (lines : Lines) (Became : List ℕ → Type 0) : Type 0 where
@@ -57,3 +59,10 @@ abbrev pub IsRunReport : List ℕ → Given → ℕ → Form → Bool → Type 0
 IsRunReport source given ticks form stats kept wrote cut =
     IsEngineReport (Means source given ticks) (MeansNone source given ticks) kept
     (λ plan system. IsCrewReport plan system form stats kept wrote cut)
+
+-- The same on files that have these bytes or can't be read, and the options that were asked for.
+abbrev pub IsRunFileReport : (List ℕ → List ℕ → Type 0) → (List ℕ → Type 0) → List ℕ → Options
+    → Bool → Type 0 → (List ℕ → Type 0) → (List ℕ → ℕ → Type 0) → Report → Type 0
+IsRunFileReport has lacks source options stats kept wrote cut =
+    IsEngineReport (FilesMean has source options) (FilesMeanNone has lacks source options) kept
+    (λ plan system. IsCrewReport plan system (form_for options) stats kept wrote cut)

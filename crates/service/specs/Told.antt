@@ -1,10 +1,10 @@
 -- What is said of a report on standard error.
 use Rattle.std.specs.Prelude.{◌≡◌, ℕ, Option, List}
 use Rattle.trace.specs.declared.counted.Counted.{Counted}
-use Rattle.service.specs.declared.report.Report.{Report}
-use Rattle.service.specs.declared.report.Report.TheVariants.{Done, No, Driven, Ran, Explained, Refused, Fault, Misused}
-use Rattle.service.specs.Reports.{line_of}
-use Rattle.service.specs.Written.{IsSaid, SomeText}
+use Rattle.commands.specs.declared.report.Report.{Report}
+use Rattle.commands.specs.declared.report.Report.TheVariants.{Done, No, Driven, Ran, Explained, Refused, Fault, Misused}
+use Rattle.commands.specs.Reports.{line_of}
+use Rattle.commands.specs.Written.{IsSaid, SomeText}
 
 -- before its line: some text where the words are wrong, and else nothing
 abbrev pub IsWarned : {E : Type 0} → (E → Option (List ℕ)) → Counted E → Counted E → Report → Type 0

@@ -4,12 +4,12 @@ ghost use Rattle.std.specs.Arc.{arc_value};
 ghost use Rattle.task_seed.specs.Setups.{plan_of, system};
 ghost use Rattle.trace.specs.Went.{IsStopped, IsWritten};
 ghost use Rattle.service.specs.Crews.{IsCrewReport, IsRunReport, done};
-ghost use Rattle.service.specs.Setups.{given_of};
+ghost use Rattle.commands.specs.Setups.{given_of};
 
-use crate::given::GivenTurns;
-use crate::report::{Report, report_of};
-use crate::setups::setup_of;
 use command_line::Crew;
+use commands::GivenTurns;
+use commands::report::{Report, report_of};
+use commands::setups::setup_of;
 use std::alloc::Global;
 use std::io::Write;
 use std::sync::{Arc, Wait};

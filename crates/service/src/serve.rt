@@ -2,18 +2,19 @@
 ghost use Rattle.std.specs.Prelude.{◌≡◌, ◌≢◌, ◌<◌, ◌⊎◌, true, ℕ, List, IfOk, length, map, string_bytes};
 ghost use Rattle.clap.specs.declared.error.ErrorKind.TheVariants.{DisplayHelp, DisplayVersion};
 ghost use Rattle.command_line.specs.Words.{HasFault, IsRefused};
-ghost use Rattle.service.specs.declared.report.Report.{Report};
+ghost use Rattle.commands.specs.declared.report.Report.{Report};
 ghost use Rattle.service.specs.Flushed.{IsFlushedWhere};
-ghost use Rattle.service.specs.Reports.{is_served, status_of, IsFlushedReport, IsReport, IsUnserved};
+ghost use Rattle.commands.specs.Reports.{is_served, status_of};
+ghost use Rattle.service.specs.Reports.{IsFlushedReport, IsReport, IsUnserved};
 ghost use Rattle.service.specs.Told.{IsTold, IsWarned};
 ghost use Rattle.trace.specs.Went.{IsStopped, IsWritten};
 
 use crate::asked::do_asked;
-use crate::files::Files;
-use crate::report::Report;
-use crate::writing::say;
 use clap::error::Error;
 use command_line::{Refused, read_words, version};
+use commands::Files;
+use commands::report::Report;
+use commands::writing::say;
 use hunt::Looks;
 use std::alloc::{AllocError, Global};
 use std::io::Write;
@@ -21,9 +22,6 @@ use std::sync::Wait;
 use std::thread::Threads;
 use terms::Refusal;
 use trace::{Counted, write_text};
-
-/// The most bytes that a table, a file of actions or a file of steps may have.
-pub const MOST_BYTES: u64 = 16_777_216;
 
 /// Serves the words after the program's name: what is asked goes to `out`, as help and the version do, and `out` is flushed where all is done;
 /// faults and what is wrong with the words go to `err`, up to the first write that fails there, and the answer is the exit status. A hunt tells

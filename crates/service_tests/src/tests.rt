@@ -1,15 +1,15 @@
 //! The command line's rows, served from memory.
 ghost use Rattle.std.specs.Prelude.{IfOk};
-ghost use Rattle.service.specs.Reading.{IsReadOf};
+ghost use Rattle.commands.specs.Reading.{IsReadOf};
 
 use Text::{Has, Is};
 use command_line::Crew;
-use service::driving::drive_source;
-use service::report::Report;
+use commands::drives::drive_source;
+use commands::report::Report;
+use commands::simulations::{check_source, simulate_source};
+use commands::{FileFault, Files, GivenTurns, Looks, Unwatched};
 use service::running::run_source;
 use service::serve::serve;
-use service::simulation::{check_source, simulate_source};
-use service::{FileFault, Files, GivenTurns, Looks, Unwatched};
 use std::alloc::{AllocError, AllocGlobal, Global};
 use std::io::{self, Write};
 use std::process::Abort;

@@ -1,12 +1,12 @@
 //! One case.
 
 use crate::crew::owned;
+use commands::{FileFault, Files, Unwatched};
 use compose::compose;
 use ioa_check::check;
 use ioa_front::read;
 use serde_json::{Error, Value};
 use service::serve::serve;
-use service::{FileFault, Files, Unwatched};
 use std::alloc::{AllocError, Global};
 use std::sync::Wait;
 use std::thread::Threads;

@@ -1,7 +1,7 @@
 //! Sources by 1 to 8 workers, beside the one-thread simulator.
 use crate::Count;
+use commands::{FileFault, Files, Unwatched};
 use service::serve::serve;
-use service::{FileFault, Files, Unwatched};
 use std::alloc::{AllocError, Global};
 use std::sync::Wait;
 use std::thread::Threads;

@@ -1,6 +1,6 @@
 //! How far a hunt is, told on standard error once a second. Nothing of it is claimed by a contract.
 
-use service::Looks;
+use commands::Looks;
 use std::rt::Clock;
 use std::sync::atomic::{AtomicU64, Ordering};
 use std::time::Instant;

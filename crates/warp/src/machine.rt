@@ -1,6 +1,6 @@
 //! The machine's files.
 
-use service::{FileFault, Files};
+use commands::{FileFault, Files};
 use std::alloc::Global;
 use std::io::{self, ErrorKind, Read};
 use std::{fs, rt};

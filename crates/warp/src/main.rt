@@ -10,7 +10,7 @@ use crate::looks::PacedLooks;
 use crate::machine::{MachineFiles, STANDARD_INPUT};
 use crate::pace::Paced;
 use crate::progress::progress_of;
-use service::report::Report;
+use commands::report::Report;
 use service::serve::serve;
 use std::alloc::Global;
 use std::env;

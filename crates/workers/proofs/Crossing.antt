@@ -27,7 +27,7 @@ use Rattle.steering.proofs.pace.Pace.TheSendSync as pace
 use Rattle.steering.proofs.places.Places.TheSendSync as places
 use Rattle.steering.proofs.ready.Ready.TheSendSync as ready
 use Rattle.steering.proofs.rounds.Rounds.TheSendSync as rounds
-use Rattle.workers.proofs.stats.Visits.TheSendSync as visits
+use Rattle.workers.proofs.activity.Visits.TheSendSync as visits
 use Rattle.exchange.proofs.notes.Notes.TheSendSync as notes
 use Rattle.exchange.proofs.queue.Queue.TheSendSync as queue
 use Rattle.exchange.proofs.tally.Effort.TheSendSync as effort

@@ -1,8 +1,8 @@
 //! What a thread has for itself, and what threads lend each other.
 ghost use Rattle.std.specs.Prelude.{◌≡◌};
 
+use crate::activity::Activity;
 use crate::depot::Depot;
-use crate::stats::Activity;
 use event_keys::Turned;
 use exchange::{Lease, Parcel};
 use gvt::Seat;

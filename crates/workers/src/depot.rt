@@ -6,8 +6,8 @@ ghost use Rattle.task_seed.specs.Setups.{plan_of, system};
 ghost use Rattle.workers.specs.Leases.{IsVisitOf, handed_setup};
 ghost use Rattle.workers.specs.Portions.{IsCutOf};
 
+use crate::activity::{Activity, Visits, sum};
 use crate::crew::{Handed, Paced};
-use crate::stats::{Activity, Visits, sum};
 use crate::waiting::{Cells, Waiting, swap_if};
 use crate::writing::Cut;
 use event_keys::{Bound, Turned};

@@ -1,13 +1,13 @@
 //! Workers: threads that hold leases in turn, run them ahead and share what they did, while the calling thread writes what is committed.
 #![tactic(auto)]
 
+mod activity;
 mod crew;
 mod depot;
 pub mod fault;
 pub mod gate;
 pub mod running;
 mod shared;
-pub mod stats;
 mod waiting;
 mod working;
 mod writing;
@@ -17,4 +17,4 @@ pub use fault::RunFault;
 pub use gate::{Gate, Unheld};
 pub use pools::{Hand, Numbered, Pass, Pool};
 pub use running::{Summary, run, run_with_stats, run_within};
-pub use stats::Stats;
+pub use steering::Stats;

@@ -1,6 +1,6 @@
 use Rattle.std.proofs.Common.{◌≡◌, ℕ, List, inl, inr, refl, subst}
 use Rattle.trace.specs.Went.{IsStopped, IsWritten}
-use Rattle.service.specs.Checks.{IsActionsReport}
+use Rattle.commands.specs.Checks.{IsActionsReport}
 use Rattle.service.proofs.asked.check_by.Goals as goal
 
 pub returns-in-Ok : goal.returns-in-Ok

@@ -2,7 +2,7 @@ use Rattle.std.proofs.Common.{◌≡◌, ℕ, List, inl, inr, refl, subst}
 use Rattle.task_seed.specs.Any.{any_turn}
 use Rattle.task_seed.specs.Setups.{plan_of, system}
 use Rattle.trace.specs.Went.{IsStopped, IsWritten}
-use Rattle.service.specs.Drives.{IsStepsReport}
+use Rattle.commands.specs.Drives.{IsStepsReport}
 use Rattle.service.proofs.asked.drive_by.Goals as goal
 
 pub returns-in-Ok : goal.returns-in-Ok

@@ -3,8 +3,8 @@ use Rattle.task_seed.specs.Any.{any_turn}
 use Rattle.task_seed.specs.Setups.{plan_of, system}
 use Rattle.trace.specs.declared.texts.Form.{Form}
 use Rattle.trace.specs.Went.{IsStopped, IsWritten}
-use Rattle.service.specs.Drives.{IsStepsReport}
-use Rattle.service.specs.FileReports.{IsSmallReport}
+use Rattle.commands.specs.Drives.{IsStepsReport}
+use Rattle.commands.specs.FileReports.{IsSmallReport}
 use Rattle.service.proofs.asked.drive_file.Goals as goal
 
 pub returns-in-Ok : goal.returns-in-Ok

@@ -1,6 +1,6 @@
 use Rattle.std.proofs.Common.{◌≡◌, ℕ, List, sym, subst}
-use Rattle.service.specs.Printing.{IsPrinted, IsUnprinted}
-use Rattle.service.specs.Reports.{IsPrintReport}
+use Rattle.commands.specs.Printing.{IsPrinted, IsUnprinted}
+use Rattle.commands.specs.Reports.{IsPrintReport}
 use Rattle.trace.specs.Went.{IsStopped, IsWritten}
 use Rattle.service.proofs.Printings.{print_reported, print_fault_reported}
 use Rattle.service.proofs.asked.print_file.Goals as goal

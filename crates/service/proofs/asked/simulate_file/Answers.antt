@@ -3,7 +3,7 @@ use Rattle.task_seed.specs.Any.{any_turn}
 use Rattle.task_seed.specs.Setups.{plan_of, system}
 use Rattle.trace.specs.declared.texts.Form.{Form}
 use Rattle.trace.specs.Went.{IsStopped, IsWritten}
-use Rattle.service.specs.Parts.{IsSimulationReport}
+use Rattle.commands.specs.Parts.{IsSimulationReport}
 use Rattle.service.proofs.asked.simulate_file.Goals as goal
 
 pub returns-in-Ok : goal.returns-in-Ok

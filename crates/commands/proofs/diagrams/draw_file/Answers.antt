@@ -1,0 +1,22 @@
+use Rattle.std.proofs.Common.{◌≡◌, ℕ, List, inl, inr, refl, subst}
+use Rattle.trace.specs.Went.{IsStopped, IsWritten}
+use Rattle.commands.specs.Drawing.{IsDrawReport}
+use Rattle.commands.proofs.diagrams.draw_file.Goals as goal
+
+pub returns-in-Ok : goal.returns-in-Ok
+returns-in-Ok g c =
+    let has = g.F.Files.has c.args.files.now in
+    let lacks = g.F.Files.lacks c.args.files.now in
+    let old = c.args.out.now in
+    let new = c.draw_source.new.out in
+    let kept : Type 0 = new ≡ old in
+    let wrote : List ℕ → Type 0 = IsWritten g.W.Write.contents old new in
+    let cut : List ℕ → ℕ → Type 0 = IsStopped g.W.Write.contents old new in
+    inr (record {
+      front = c.in-Ok.source.items;
+      is = c.in-Ok.ensures.ok;
+      judged = subst (λ l. IsDrawReport has lacks l c.args.options c.args.ticks kept wrote cut c.draw_source.result) c.as_slice.ensures.value c.draw_source.ensures;
+    })
+
+pub returns-in-Err : goal.returns-in-Err
+returns-in-Err g c = inl (c.in-Err.ensures.err, refl)

@@ -1,0 +1,34 @@
+//! What the workers of a run did.
+
+/// What the workers of a run did, counted for who measures them. Nothing is promised but of `turns`; each of the others ends at the greatest `u64`.
+#[derive(Clone, Copy, PartialEq, Eq)]
+pub struct Stats {
+    /// How many turns there were, written or not.
+    pub turns: u64,
+    /// How many entries were processed: turns, idle ones too, and received messages.
+    pub processed: u64,
+    /// How many of these weren't taken back.
+    pub kept: u64,
+    /// How many were.
+    pub taken_back: u64,
+    /// How many times messages or antimessages took something back.
+    pub roll_backs: u64,
+    /// How many of these times it was a message, which came too late.
+    pub stragglers: u64,
+    /// How many messages were sent, one for each receiver.
+    pub messages: u64,
+    /// How many antimessages were.
+    pub antimessages: u64,
+    /// How many antimessages met their message before the receiver had either.
+    pub annihilated: u64,
+    /// How many times a worker took a lease.
+    pub visits: u64,
+    /// How many times a lease met the exchange.
+    pub meetings: u64,
+    /// How often the bound was raised, or was to be.
+    pub commits: u64,
+    /// How many chunks the calling thread took.
+    pub chunks: u64,
+    /// How many microseconds workers slept at least, until each had the exchange for the last time.
+    pub waited: u64,
+}
