@@ -1,5 +1,5 @@
 //! Sources by 1 to 8 workers, beside the one-thread simulator.
-use crate::Count;
+use fixtures::Count;
 use service::serve::serve;
 use service::{FileFault, Files, Unwatched};
 use std::alloc::{AllocError, Global};
