@@ -1,6 +1,6 @@
 //! Sources by 1 to 8 workers, beside the one-thread simulator.
-use crate::Count;
 use commands::{FileFault, Files, Unwatched};
+use fixtures::Count;
 use service::serve::serve;
 use std::alloc::{AllocError, Global};
 use std::sync::Wait;

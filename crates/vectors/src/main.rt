@@ -9,42 +9,25 @@
 //!
 //! A file whose name ends with `.ioa` is a source, which is run by 1 to 8 workers and has to come out as by one thread, 200 runs of all sources.
 //!
-//! The word `lists` names no file: worlds are driven by twelve lists of steps whose replies are known; worlds of four small compositions by a
-//! thousand random lists of steps, whose committed turns are compared with those of the one-thread simulator; and their exchanges by 1,250 random
-//! lists of calls, a thousand of them with windows, whose turns are compared with those of two simulators, and what is done and waits with the
-//! window's bounds.
+//! The word `lists` names no file: it has `fixtures` drive worlds by twelve lists of steps whose replies are known; worlds of four small
+//! compositions by a thousand random lists of steps, whose committed turns are compared with those of the one-thread simulator; and their exchanges
+//! by 1,250 random lists of calls, a thousand of them with windows, whose turns are compared with those of two simulators, and what is done and
+//! waits with the window's bounds.
 #![tactic(auto)]
 
 mod case;
 mod crew;
-mod lists;
 
 use crate::case::Case;
 use crate::crew::run_all;
-use crate::lists::try_lists;
+use fixtures::Count;
+use fixtures::lists::try_lists;
 use std::alloc::{AllocGlobal, Global};
 use std::process::ExitCode;
 use std::rt::Files;
 use std::sync::Wait;
 use std::thread::Threads;
 use std::{env, fs};
-
-/// How many cases came out as they should, and how many didn't.
-#[derive(Clone, Copy, Default)]
-struct Count {
-    passed: u64,
-    failed: u64,
-}
-
-impl Count {
-    fn add(&mut self, is_well: bool) {
-        if is_well {
-            self.passed = self.passed.saturating_add(1);
-        } else {
-            self.failed = self.failed.saturating_add(1);
-        }
-    }
-}
 
 fn main(rt: HostRuntime) -> anyhow::Result<ExitCode> {
     let alloc = rt.alloc();

@@ -3,7 +3,7 @@
 use crate::exchanges::steps::setup;
 use crate::rings::{ROWS, TEXT, assert_held, page_of, ring_setup, run_ring};
 use exchange::{Exchange, Lease};
-use ring_source::memory::{Held, Refused, exhaust, refuse, room, serve};
+use fixtures::memory::{Held, Refused, exhaust, refuse, room, serve};
 use std::alloc::{AllocGlobal, Global};
 use std::process::Abort;
 use std::sync::atomic::{AtomicBool, AtomicU64, Ordering};

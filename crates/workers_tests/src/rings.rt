@@ -1,7 +1,7 @@
 //! Runs of the ring of two, against its text worked out by hand.
 ghost use Rattle.std.specs.Prelude.{◌≤◌};
 
-use ring_source::ring;
+use fixtures::ring;
 use std::alloc::{AllocGlobal, Global};
 use std::io::{self, Write};
 use std::process::Abort;

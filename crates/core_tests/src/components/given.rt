@@ -3,10 +3,10 @@
 use antimessage::Bag;
 use compose::{Plan, compose};
 use event_keys::{Key, Message, Sign, Signed};
+use fixtures::ring;
 use ioa_check::check;
 use ioa_front::read;
 use raw_events::EventCell;
-use ring_source::ring;
 use rollback::Component;
 use std::alloc::Global;
 use std::sync::Arc;

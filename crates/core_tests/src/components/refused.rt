@@ -4,7 +4,7 @@ use super::given::{AT_1, AT_2, AT_3, AT_4, Given, NOTHING, PASS_2, bag, cell, ke
 use super::steps::{Bench, at_start, deliver};
 use antimessage::Bag;
 use event_keys::Key;
-use ring_source::memory::{Held, Refused, refuse, room, serve};
+use fixtures::memory::{Held, Refused, refuse, room, serve};
 use rollback::ProcessRefused;
 use std::alloc::{AllocGlobal, Global};
 use std::mem;

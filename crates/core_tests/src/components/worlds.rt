@@ -2,7 +2,7 @@
 
 use super::given::{AT_2, AT_3, Given, setup};
 use event_keys::{Bound, Step};
-use ring_source::memory::{Held, Refused, exhaust, refuse, room, serve};
+use fixtures::memory::{Held, Refused, exhaust, refuse, room, serve};
 use std::alloc::{AllocGlobal, Global};
 use std::process::Abort;
 use std::sync::Arc;

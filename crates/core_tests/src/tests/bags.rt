@@ -8,8 +8,8 @@ use Step::{
 use antimessage::Bag;
 use event_keys::Sign::{Minus, Plus};
 use event_keys::{Bound, Message, Sign, Signed};
+use fixtures::memory::{Held, exhaust, room};
 use raw_events::{EventCell, EventList};
-use ring_source::memory::{Held, exhaust, room};
 use std::alloc::Global;
 use std::mem::{replace, swap};
 use terms::Action;

@@ -5,8 +5,8 @@ use Step::{
     Append, Empty, First, Insert, Items, Last, Next, PassAll, PassBack, PassNext, Same, Swap,
     TakeAboveFive, TakeEqual, TakeFirst, TakeLast,
 };
+use fixtures::memory::{Held, exhaust, room};
 use raw_events::{EventCell, EventList};
-use ring_source::memory::{Held, exhaust, room};
 use std::alloc::Global;
 use std::mem::swap;
 use std::rc::Rc;

@@ -1,7 +1,7 @@
 //! What seats of a published word read of each other.
 
+use fixtures::memory::{exhaust, room};
 use gvt::Published;
-use ring_source::memory::{exhaust, room};
 use std::test::Fail;
 use std::thread;
 

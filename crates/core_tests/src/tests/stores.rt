@@ -2,7 +2,7 @@
 
 use super::assert_all;
 use Step::{Clear, Forget, Mark, Marks, Number, Pair, Put, Same, Set, SetTwice, Start, Swap, Undo};
-use ring_source::memory::{Held, Refused, exhaust, refuse, room, serve};
+use fixtures::memory::{Held, Refused, exhaust, refuse, room, serve};
 use std::alloc::Global;
 use std::mem::{replace, swap};
 use terms::{Cells, NoMemory, Scalar, State, Value};

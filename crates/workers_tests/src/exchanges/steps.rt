@@ -3,8 +3,8 @@
 use crate::rings::ROWS;
 use event_keys::{Bound, Key, Outcome};
 use exchange::{Chunk, Exchange, Lease, MeetRefused};
-use ring_source::memory::{Held as Blocks, exhaust, room};
-use ring_source::ring;
+use fixtures::memory::{Held as Blocks, exhaust, room};
+use fixtures::ring;
 use std::alloc::{AllocGlobal, Global};
 use std::process::Abort;
 use std::sync::Arc;

@@ -3,9 +3,9 @@
 use super::super::key;
 use super::{Narrow, counted};
 use event_keys::{Key, Outcome, Turned};
+use fixtures::memory::{exhaust, room};
+use fixtures::ring;
 use plans::Plan;
-use ring_source::memory::{exhaust, room};
-use ring_source::ring;
 use std::alloc::AllocGlobal;
 use std::io::ErrorKind;
 use std::process::Abort;
