@@ -4,7 +4,7 @@ use Rattle.std.specs.List.{All}
 use Rattle.std.proofs.lemmas.List.{length-map}
 use Rattle.ioa_trees.specs.Spelling.{spell}
 use Rattle.ioa_trees.specs.Trees.{Bytes, PlainSource}
-use Rattle.ioa_rules.specs.SourceRules.{MeantSource, source_faults, source_meaning}
+use Rattle.ioa_trees.specs.SourceRules.{MeantSource, source_faults, source_meaning}
 use Rattle.ioa_check.specs.Refusals.{IsMeant}
 use Rattle.ioa_check.specs.Resolutions.{meaning}
 use Rattle.ioa_check.specs.declared.resolved.Resolved.{Resolved}

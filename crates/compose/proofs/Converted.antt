@@ -4,7 +4,7 @@ use Rattle.std.proofs.lemmas.List.Elements.{All-head, All-tail}
 use Rattle.std.specs.List.{All}
 use Rattle.plans.specs.Automata.{Instance, absent, with_formals}
 use Rattle.plans.specs.declared.automaton.Automaton.{Automaton}
-use Rattle.ioa_rules.specs.AutomatonRules.{MeantAutomaton}
+use Rattle.ioa_trees.specs.AutomatonRules.{MeantAutomaton}
 use Rattle.ioa_trees.specs.Trees.{Bytes}
 use Rattle.compose.specs.Instances.{built}
 use Rattle.compose.specs.Tables.{converted, mark_at}

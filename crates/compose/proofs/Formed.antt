@@ -13,10 +13,10 @@ use Rattle.terms.specs.declared.scalar.Listed.TheVariants as listed
 use Rattle.ioa_trees.specs.Trees.{Bytes}
 use Rattle.ioa_trees.specs.declared.tree.EntryKind.{EntryKind}
 use Rattle.ioa_trees.specs.declared.tree.EntryKind.TheVariants as kind
-use Rattle.ioa_rules.specs.Kinds.{Kind, Truth, Whole, Range, Enum, SeqOf, ArrayOf, count, small, listed_of, can_be_listed, is_scalar}
-use Rattle.ioa_rules.specs.EntryRules.{Meant, Slot, Fixed, Free, is_input, is_controlled}
-use Rattle.ioa_rules.specs.AutomatonRules.{MeantAutomaton}
-use Rattle.ioa_rules.specs.SourceRules.{MeantComponent, MeantSource}
+use Rattle.ioa_trees.specs.Kinds.{Kind, Truth, Whole, Range, Enum, SeqOf, ArrayOf, count, small, listed_of, can_be_listed, is_scalar}
+use Rattle.ioa_trees.specs.EntryRules.{Meant, Slot, Fixed, Free, is_input, is_controlled}
+use Rattle.ioa_trees.specs.AutomatonRules.{MeantAutomaton}
+use Rattle.ioa_trees.specs.SourceRules.{MeantComponent, MeantSource}
 use Rattle.compose.specs.Sound.{IsSoundAutomaton, share, is_within, is_slot, is_listed}
 use Rattle.plans.specs.declared.automaton.Kind.{Kind as ActionKind}
 use Rattle.plans.specs.declared.automaton.Kind.TheVariants as action

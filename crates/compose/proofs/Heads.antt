@@ -7,13 +7,13 @@ use Rattle.std.proofs.lemmas.Slice.Eq.{bytes_eq-Decides}
 use Rattle.ioa_trees.specs.declared.tree.EntryKind.{EntryKind}
 use Rattle.ioa_trees.specs.declared.tree.EntryKind.TheVariants as kind
 use Rattle.ioa_trees.specs.Trees.{Bytes, PlainEntry, PlainTransition}
-use Rattle.ioa_rules.specs.Faults.{at_fault, where_wrong}
-use Rattle.ioa_rules.specs.Scopes.{Scope}
-use Rattle.ioa_rules.specs.Sizes.{entry_size, pre_size, transition_size}
-use Rattle.ioa_rules.specs.EffectRules.{statements_faults}
-use Rattle.ioa_rules.specs.EntryRules.{same_kind, agrees, same_parameters, entry_for, with_parameters, head_faults, pre_faults, transition_faults, transitions_faults}
+use Rattle.ioa_trees.specs.Faults.{at_fault, where_wrong}
+use Rattle.ioa_trees.specs.Scopes.{Scope}
+use Rattle.ioa_trees.specs.Sizes.{entry_size, pre_size, transition_size}
+use Rattle.ioa_trees.specs.EffectRules.{statements_faults}
+use Rattle.ioa_trees.specs.EntryRules.{same_kind, agrees, same_parameters, entry_for, with_parameters, head_faults, pre_faults, transition_faults, transitions_faults}
 use Rattle.compose.proofs.NoFaults.{nil_left, nil_right, right_if, not_wrong}
-use Rattle.ioa_rules.proofs.SameHeads.{parameters_same}
+use Rattle.ioa_trees.proofs.SameHeads.{parameters_same}
 use Rattle.compose.proofs.Apart.{apart}
 
 kinds_same : (k l : EntryKind) → same_kind k l ≡ true → k ≡ l

@@ -1,7 +1,7 @@
 -- What the search finds is the first component with which types differ.
 use Rattle.std.proofs.Common.{arith, ◌≡◌, ◌≤◌, ◌+◌, ◌⊎◌, inl, inr, ℕ, true, false, bytes_eq, List, [], ◌∷◌, ◌++◌, Option, None, Some, refl, sym, ◌∙◌, ap, ap₂, subst}
 use Rattle.std.proofs.lemmas.Slice.Eq.{bytes_eq-Decides}
-use Rattle.ioa_rules.specs.SourceRules.{MeantSource}
+use Rattle.ioa_trees.specs.SourceRules.{MeantSource}
 use Rattle.compose.specs.Types.{same_kinds, TypesDiffer, IsFirst}
 use Rattle.compose.specs.TypedStandings.{Stood, stood_in, stands, first_different}
 use Rattle.compose.proofs.ListItems.{In, in_left, in_right, in_either}

@@ -2,7 +2,7 @@
 use Rattle.std.proofs.Common.{arith, ◌≡◌, ◌≤◌, ◌<◌, ℕ, nat_lt, Bool, true, false, if◌then◌else◌, Option, None, Some, List, length, refl, subst}
 use Rattle.std.proofs.lemmas.Bool.Decides.{nat_tests}
 use Rattle.ioa_trees.specs.Trees.{Bytes}
-use Rattle.ioa_rules.specs.SourceRules.{MeantSource}
+use Rattle.ioa_trees.specs.SourceRules.{MeantSource}
 use Rattle.compose.specs.Rules.{IsFirst}
 use Rattle.compose.specs.Names.{AreNames}
 use Rattle.compose.specs.declared.fault.ComposeError.{ComposeError}

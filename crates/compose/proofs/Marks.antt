@@ -3,8 +3,8 @@ use Rattle.std.proofs.Common.{map, option_map, ◌≡◌, ◌≤◌, ◌<◌, �
 use Rattle.std.proofs.lemmas.Bool.Decides.{nat_tests}
 use Rattle.std.proofs.lemmas.Option.{slice_get-map}
 use Rattle.terms.specs.ShapeTree.{ShapeTree}
-use Rattle.ioa_rules.specs.AutomatonRules.{MeantAutomaton}
-use Rattle.ioa_rules.specs.SourceRules.{MeantComponent}
+use Rattle.ioa_trees.specs.AutomatonRules.{MeantAutomaton}
+use Rattle.ioa_trees.specs.SourceRules.{MeantComponent}
 use Rattle.ioa_trees.specs.Trees.{Bytes}
 use Rattle.compose.specs.Names.{Signature, automaton_at, first_in, signatures_in, signatures_of}
 use Rattle.compose.specs.Tables.{Adds, IsTable, either_of, has_automaton, is_at, mark_at, marked_entries}

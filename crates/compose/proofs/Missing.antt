@@ -6,7 +6,7 @@ use Rattle.std.specs.List.{list_any}
 use Rattle.std.specs.Option.{option_map}
 use Rattle.std.specs.declared.string.String.{String}
 use Rattle.ioa_trees.specs.Trees.{Bytes}
-use Rattle.ioa_rules.specs.SourceRules.{MeantSource}
+use Rattle.ioa_trees.specs.SourceRules.{MeantSource}
 use Rattle.compose.specs.Rules.{IsFirst}
 use Rattle.compose.specs.Faults.{OutputMissing, is_given}
 use Rattle.compose.specs.Outputs.{lacks_in, lacks_at}

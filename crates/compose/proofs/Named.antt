@@ -6,9 +6,9 @@ use Rattle.std.proofs.lemmas.List.{map-append}
 use Rattle.std.proofs.lemmas.List.Folds.{list_any-append}
 use Rattle.std.proofs.lemmas.Slice.Eq.{bytes_eq-Decides}
 use Rattle.ioa_trees.specs.Trees.{Bytes}
-use Rattle.ioa_rules.specs.EntryRules.{Meant}
-use Rattle.ioa_rules.specs.AutomatonRules.{MeantAutomaton}
-use Rattle.ioa_rules.specs.SourceRules.{MeantComponent, MeantSource}
+use Rattle.ioa_trees.specs.EntryRules.{Meant}
+use Rattle.ioa_trees.specs.AutomatonRules.{MeantAutomaton}
+use Rattle.ioa_trees.specs.SourceRules.{MeantComponent, MeantSource}
 use Rattle.plans.specs.Automata.{Instance, absent, component_at}
 use Rattle.compose.specs.Instances.{place_in, instance}
 use Rattle.compose.specs.Names.{Signature, signature_of, signatures_in, signatures_of, automaton_at, AreNames}

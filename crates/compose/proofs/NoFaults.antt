@@ -1,6 +1,6 @@
 -- Lists of faults that are empty.
 use Rattle.std.proofs.Common.{◌≡◌, ℕ, Bool, true, false, not, List, [], ◌∷◌, ◌++◌, refl}
-use Rattle.ioa_rules.specs.Faults.{where_wrong}
+use Rattle.ioa_trees.specs.Faults.{where_wrong}
 
 pub nil_left : {X : Type 0} (xs ys : List X) → xs ++ ys ≡ [] → xs ≡ []
 nil_left [] ys h = refl

@@ -4,9 +4,9 @@ use Rattle.std.proofs.lemmas.Bool.{and_parts, and_from}
 use Rattle.std.proofs.lemmas.Option.{same_Some}
 use Rattle.ioa_trees.specs.declared.tree.EntryKind.{EntryKind}
 use Rattle.ioa_trees.specs.Trees.{Bytes, PlainEntry, PlainTransition}
-use Rattle.ioa_rules.specs.Scopes.{Scope}
-use Rattle.ioa_rules.specs.EntryRules.{is_input, is_controlled, clashes, entries_faults, transitions_faults}
-use Rattle.ioa_rules.specs.AutomatonRules.{tasks_faults}
+use Rattle.ioa_trees.specs.Scopes.{Scope}
+use Rattle.ioa_trees.specs.EntryRules.{is_input, is_controlled, clashes, entries_faults, transitions_faults}
+use Rattle.ioa_trees.specs.AutomatonRules.{tasks_faults}
 use Rattle.compose.proofs.Apart.{one_place}
 use Rattle.compose.proofs.Heads.{bytes_same, bytes_itself, heads_agree, has_entry, same_head, transitions_apart}
 use Rattle.compose.proofs.SoundEntries.{entries_apart}

@@ -4,9 +4,9 @@ use Rattle.std.specs.List.{list_any}
 use Rattle.std.proofs.lemmas.Bool.Decides.{nat_tests}
 use Rattle.std.proofs.lemmas.List.Folds.{list_any-append}
 use Rattle.ioa_trees.specs.Trees.{Bytes}
-use Rattle.ioa_rules.specs.EntryRules.{Meant}
-use Rattle.ioa_rules.specs.AutomatonRules.{MeantAutomaton}
-use Rattle.ioa_rules.specs.SourceRules.{MeantComponent}
+use Rattle.ioa_trees.specs.EntryRules.{Meant}
+use Rattle.ioa_trees.specs.AutomatonRules.{MeantAutomaton}
+use Rattle.ioa_trees.specs.SourceRules.{MeantComponent}
 use Rattle.compose.specs.Names.{automaton_at}
 use Rattle.compose.specs.Tables.{mark_at}
 use Rattle.compose.proofs.Grown.{map_end, taken}

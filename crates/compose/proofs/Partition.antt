@@ -10,9 +10,9 @@ use Rattle.std.proofs.lemmas.Option.{same_Some, none-some, slice_get-map}
 use Rattle.std.proofs.lemmas.Slice.Eq.{bytes_eq-Decides}
 use Rattle.plans.specs.WellFormed.{times, all_places}
 use Rattle.ioa_trees.specs.Trees.{Bytes, PlainEntry, PlainTransition}
-use Rattle.ioa_rules.specs.Scopes.{Scope}
-use Rattle.ioa_rules.specs.EntryRules.{is_controlled, agrees, meant_by}
-use Rattle.ioa_rules.specs.AutomatonRules.{place_of}
+use Rattle.ioa_trees.specs.Scopes.{Scope}
+use Rattle.ioa_trees.specs.EntryRules.{is_controlled, agrees, meant_by}
+use Rattle.ioa_trees.specs.AutomatonRules.{place_of}
 use Rattle.compose.specs.Sound.{share}
 use Rattle.compose.proofs.Apart.{passing, any_at}
 use Rattle.compose.proofs.Heads.{bytes_same, heads_same, has_entry}

@@ -6,8 +6,8 @@ use Rattle.terms.specs.declared.scalar.Scalar.{Scalar}
 use Rattle.plans.specs.Automata.{Instance, absent, composed, instance_of, placed, with_formals}
 use Rattle.plans.specs.declared.automaton.Automaton.{Automaton}
 use Rattle.plans.specs.declared.automaton.Component.{Component}
-use Rattle.ioa_rules.specs.AutomatonRules.{MeantAutomaton}
-use Rattle.ioa_rules.specs.SourceRules.{MeantComponent}
+use Rattle.ioa_trees.specs.AutomatonRules.{MeantAutomaton}
+use Rattle.ioa_trees.specs.SourceRules.{MeantComponent}
 use Rattle.ioa_trees.specs.Trees.{Bytes}
 use Rattle.compose.specs.Instances.{argument, built, instance}
 use Rattle.compose.specs.Names.{automaton_at}

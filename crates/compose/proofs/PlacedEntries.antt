@@ -1,8 +1,8 @@
 -- The entries of components, as those of the automata of a source.
 use Rattle.std.proofs.Common.{arith, ◌≡◌, ◌≤◌, ◌+◌, ◌⊎◌, inl, inr, ℕ, zero, suc, List, [], ◌∷◌, ◌++◌, Option, None, Some, slice_get, refl, sym, ap, subst}
-use Rattle.ioa_rules.specs.EntryRules.{Meant}
-use Rattle.ioa_rules.specs.AutomatonRules.{MeantAutomaton}
-use Rattle.ioa_rules.specs.SourceRules.{MeantComponent}
+use Rattle.ioa_trees.specs.EntryRules.{Meant}
+use Rattle.ioa_trees.specs.AutomatonRules.{MeantAutomaton}
+use Rattle.ioa_trees.specs.SourceRules.{MeantComponent}
 use Rattle.compose.specs.Types.{automaton_of, automaton_in}
 use Rattle.compose.specs.TypedStandings.{Stood, stood_in, entries_in, stands}
 use Rattle.compose.proofs.ListItems.{In, in_left, in_right, in_either, in_place, place_in, in_mapped, of_mapped}

@@ -9,11 +9,11 @@ use Rattle.ioa_trees.specs.Nodes.{source, basic, further, tasks, Branch, Nodes, 
 use Rattle.ioa_trees.specs.Spelling.{key, named, entry_node, states_node, transition_node, task_node, tasks_node, body_nodes, formals_nodes, basic_node, composed_nodes, type_definition_node, next_name, further_nodes, automata_nodes, source_nodes, spell, IsSource}
 use Rattle.ioa_trees.specs.Trees as tree
 use Rattle.ioa_trees.specs.Trees.{Bytes, PlainTypeBody, PlainTypeDefinition, PlainTransition, PlainAutomaton, PlainSource}
-use Rattle.ioa_rules.specs.Scopes.{Scope}
-use Rattle.ioa_rules.specs.Sizes.{name_size, behind, row_size, after_word, transition_size, task_size, automaton_size, body_size, composed_size}
-use Rattle.ioa_rules.specs.EntryRules.{meant_by}
-use Rattle.ioa_rules.specs.AutomatonRules.{MeantAutomaton, around, place_of, meaning_of}
-use Rattle.ioa_rules.specs.SourceRules.{members_in, definitions_size, all_members, with_automaton, automata_size, meanings_of, types_scope, composed_at, source_meaning}
+use Rattle.ioa_trees.specs.Scopes.{Scope}
+use Rattle.ioa_trees.specs.Sizes.{name_size, behind, row_size, after_word, transition_size, task_size, automaton_size, body_size, composed_size}
+use Rattle.ioa_trees.specs.EntryRules.{meant_by}
+use Rattle.ioa_trees.specs.AutomatonRules.{MeantAutomaton, around, place_of, meaning_of}
+use Rattle.ioa_trees.specs.SourceRules.{members_in, definitions_size, all_members, with_automaton, automata_size, meanings_of, types_scope, composed_at, source_meaning}
 use Rattle.compose.specs.Sound.{entries_in}
 use Rattle.compose.proofs.Filled.{filled, all_filled, is_filled, split_filled, inner_filled, first_filled}
 

@@ -4,7 +4,7 @@ use Rattle.std.proofs.Math.ListN.{drop_of_length-le}
 use Rattle.std.proofs.lemmas.Bool.Decides.{nat_tests}
 use Rattle.std.proofs.lemmas.List.{length-drop}
 use Rattle.std.proofs.lemmas.Option.{slice_get_within, get_or_from_slice_get, slice_get_cases}
-use Rattle.ioa_rules.specs.Kinds.{Kind}
+use Rattle.ioa_trees.specs.Kinds.{Kind}
 use Rattle.compose.specs.Types.{same_kind, same_kinds}
 use Rattle.compose.proofs.Steps.{drop_at}
 

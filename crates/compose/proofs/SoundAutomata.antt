@@ -4,17 +4,17 @@ use Rattle.std.specs.List.{All}
 use Rattle.std.proofs.lemmas.List.Elements.{All-nil, All-cons, All-head, All-tail}
 use Rattle.std.proofs.lemmas.Option.{same_Some}
 use Rattle.ioa_trees.specs.Trees.{Bytes, PlainVariable, PlainAutomaton, PlainSource}
-use Rattle.ioa_rules.specs.Faults.{where_wrong}
-use Rattle.ioa_rules.specs.Scopes.{Scope, OfVariable, OfAutomaton, declare, taken_before}
-use Rattle.ioa_rules.specs.Sizes.{automaton_size}
-use Rattle.ioa_rules.specs.TypeRules.{kind_of}
-use Rattle.ioa_rules.specs.EntryRules.{Meant, Slot, is_controlled, slots, entries_faults, transitions_faults, meant_by}
-use Rattle.ioa_rules.specs.AutomatonRules.{formals_faults, with_variables, variables_faults, tasks_faults, signature_at, states_at, transitions_at, tasks_at, inside, around, entry_names, body_faults, locals, meaning_of}
-use Rattle.ioa_rules.specs.SourceRules.{definitions_faults, definitions_size, with_automaton, automata_faults, all_locals, all_members, meanings_of, composed_faults, types_scope, whole_scope, table_of, composed_at, source_faults, source_meaning}
-use Rattle.ioa_rules.specs.Meant.{IsWholeEntry, IsWholeAutomaton, IsWholeSource}
+use Rattle.ioa_trees.specs.Faults.{where_wrong}
+use Rattle.ioa_trees.specs.Scopes.{Scope, OfVariable, OfAutomaton, declare, taken_before}
+use Rattle.ioa_trees.specs.Sizes.{automaton_size}
+use Rattle.ioa_trees.specs.TypeRules.{kind_of}
+use Rattle.ioa_trees.specs.EntryRules.{Meant, Slot, is_controlled, slots, entries_faults, transitions_faults, meant_by}
+use Rattle.ioa_trees.specs.AutomatonRules.{formals_faults, with_variables, variables_faults, tasks_faults, signature_at, states_at, transitions_at, tasks_at, inside, around, entry_names, body_faults, locals, meaning_of}
+use Rattle.ioa_trees.specs.SourceRules.{definitions_faults, definitions_size, with_automaton, automata_faults, all_locals, all_members, meanings_of, composed_faults, types_scope, whole_scope, table_of, composed_at, source_faults, source_meaning}
+use Rattle.ioa_trees.specs.Meant.{IsWholeEntry, IsWholeAutomaton, IsWholeSource}
 use Rattle.compose.specs.Sound.{collide, IsSoundAutomaton}
 use Rattle.compose.proofs.NoFaults.{nil_left, nil_right}
-use Rattle.ioa_rules.proofs.ScopesMeant.{Alike, alike_self, alike_with}
+use Rattle.ioa_trees.proofs.ScopesMeant.{Alike, alike_self, alike_with}
 use Rattle.compose.proofs.Apart.{mapped_at}
 use Rattle.compose.proofs.Heads.{has_entry}
 use Rattle.compose.proofs.SoundEntries.{kept}

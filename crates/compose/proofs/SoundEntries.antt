@@ -4,10 +4,10 @@ use Rattle.std.specs.List.{list_any}
 use Rattle.std.proofs.lemmas.Bool.{and_from}
 use Rattle.std.proofs.lemmas.Option.{same_Some}
 use Rattle.ioa_trees.specs.Trees.{Bytes, PlainEntry, PlainTransition}
-use Rattle.ioa_rules.specs.Faults.{where_wrong}
-use Rattle.ioa_rules.specs.Scopes.{Scope}
-use Rattle.ioa_rules.specs.Sizes.{entry_size}
-use Rattle.ioa_rules.specs.EntryRules.{is_controlled, agrees, parameters_faults, is_large, clashes, has_task, entry_faults, entries_faults}
+use Rattle.ioa_trees.specs.Faults.{where_wrong}
+use Rattle.ioa_trees.specs.Scopes.{Scope}
+use Rattle.ioa_trees.specs.Sizes.{entry_size}
+use Rattle.ioa_trees.specs.EntryRules.{is_controlled, agrees, parameters_faults, is_large, clashes, has_task, entry_faults, entries_faults}
 use Rattle.compose.proofs.NoFaults.{nil_left, nil_right, right_if, not_wrong}
 use Rattle.compose.proofs.Apart.{apart}
 

@@ -4,15 +4,15 @@ use Rattle.std.proofs.lemmas.Bool.{and_from, ltb-false, le-leb}
 use Rattle.std.proofs.lemmas.Option.{same_Some}
 use Rattle.ioa_trees.specs.Trees as tree
 use Rattle.ioa_trees.specs.Trees.{PlainParameter}
-use Rattle.ioa_rules.specs.Faults.{where_wrong}
-use Rattle.ioa_rules.specs.Kinds.{Kind, Truth, Whole, Range, Enum, SeqOf, ArrayOf, count, can_be_listed, is_scalar}
-use Rattle.ioa_rules.specs.Scopes.{Scope, Meaning, OfType, OfMember, OfAutomaton, OfComposed, OfFormal, OfVariable, OfParameter, OfLoop, named, doubled, is_formal}
-use Rattle.ioa_rules.specs.Sizes.{declared_size}
-use Rattle.ioa_rules.specs.TypeRules.{kind_of, type_faults}
-use Rattle.ioa_rules.specs.EntryRules.{with_parameter, sort_faults, parameters_faults, Slot, Free, formal_of, free_of, slots}
+use Rattle.ioa_trees.specs.Faults.{where_wrong}
+use Rattle.ioa_trees.specs.Kinds.{Kind, Truth, Whole, Range, Enum, SeqOf, ArrayOf, count, can_be_listed, is_scalar}
+use Rattle.ioa_trees.specs.Scopes.{Scope, Meaning, OfType, OfMember, OfAutomaton, OfComposed, OfFormal, OfVariable, OfParameter, OfLoop, named, doubled, is_formal}
+use Rattle.ioa_trees.specs.Sizes.{declared_size}
+use Rattle.ioa_trees.specs.TypeRules.{kind_of, type_faults}
+use Rattle.ioa_trees.specs.EntryRules.{with_parameter, sort_faults, parameters_faults, Slot, Free, formal_of, free_of, slots}
 use Rattle.compose.specs.Sound.{is_within, is_slot, is_listed}
 use Rattle.compose.proofs.NoFaults.{nil_left, nil_right, right_if, not_wrong}
-use Rattle.ioa_rules.proofs.ScopesMeant.{Alike, alike_parameter, kind_alike}
+use Rattle.ioa_trees.proofs.ScopesMeant.{Alike, alike_parameter, kind_alike}
 use Rattle.compose.proofs.Within.{may_stand, Within, within_with, kind_within}
 
 -- what is said of a parameter, of what is controlled or of an input

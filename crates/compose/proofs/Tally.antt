@@ -5,10 +5,10 @@ use Rattle.std.proofs.lemmas.Bool.{or_parts, or_left, or_right, false_from_ne_tr
 use Rattle.std.proofs.lemmas.List.Elements.{All-nil, All-cons, All-append}
 use Rattle.std.proofs.lemmas.List.Folds.{list_any-append}
 use Rattle.ioa_trees.specs.Trees.{Bytes, PlainEntry}
-use Rattle.ioa_rules.specs.Faults.{where_wrong}
-use Rattle.ioa_rules.specs.Sizes.{task_size}
-use Rattle.ioa_rules.specs.EntryRules.{has_task}
-use Rattle.ioa_rules.specs.AutomatonRules.{is_controlled_name, task_faults, tasks_faults}
+use Rattle.ioa_trees.specs.Faults.{where_wrong}
+use Rattle.ioa_trees.specs.Sizes.{task_size}
+use Rattle.ioa_trees.specs.EntryRules.{has_task}
+use Rattle.ioa_trees.specs.AutomatonRules.{is_controlled_name, task_faults, tasks_faults}
 use Rattle.compose.proofs.NoFaults.{nil_left, nil_right, not_wrong}
 use Rattle.compose.proofs.Heads.{bytes_same}
 

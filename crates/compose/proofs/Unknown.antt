@@ -1,7 +1,7 @@
 -- The first component without an automaton.
 use Rattle.std.proofs.Common.{arith, ◌≡◌, ◌<◌, ℕ, true, false, Option, None, Some, IfSome, IfNone, List, map, slice_get, refl, sym, ◌∙◌, ap}
 use Rattle.std.specs.Option.{option_map}
-use Rattle.ioa_rules.specs.SourceRules.{MeantComponent}
+use Rattle.ioa_trees.specs.SourceRules.{MeantComponent}
 use Rattle.ioa_check.specs.declared.resolved.Component.{Component}
 use Rattle.ioa_check.specs.Resolutions.{component_meaning}
 use Rattle.compose.specs.Rules.{IsFirst}

@@ -5,8 +5,8 @@ use Rattle.std.proofs.lemmas.List.Sums.{sum_by-cons}
 use Rattle.std.specs.List.{list_any}
 use Rattle.plans.specs.Plans.{text_of, types_of}
 use Rattle.plans.specs.declared.automaton.ActionName.{ActionName}
-use Rattle.ioa_rules.specs.AutomatonRules.{MeantAutomaton}
-use Rattle.ioa_rules.specs.SourceRules.{MeantSource}
+use Rattle.ioa_trees.specs.AutomatonRules.{MeantAutomaton}
+use Rattle.ioa_trees.specs.SourceRules.{MeantSource}
 use Rattle.compose.specs.Names.{AreNames, IsRising, Signature, entries_in, first_in, first_types, none_if_missing, signatures_of}
 use Rattle.compose.specs.Tables.{IsTable, action_signature, marked_entries}
 use Rattle.compose.proofs.Rising.{any_first, own_types, shapes_are, texts_are}

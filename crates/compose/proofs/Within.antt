@@ -7,13 +7,13 @@ use Rattle.std.proofs.lemmas.Int.{ints}
 use Rattle.ioa_trees.specs.declared.tree.Signed.{Signed}
 use Rattle.ioa_trees.specs.Trees as tree
 use Rattle.ioa_trees.specs.Trees.{Bytes, PlainType, PlainDeclared, PlainVariable, PlainTypeBody, PlainTypeDefinition}
-use Rattle.ioa_rules.specs.Kinds.{Kind, Range, Enum, ArrayOf, whole_number, number, can_be_listed}
-use Rattle.ioa_rules.specs.Scopes.{Scope, Meaning, OfType, OfMember, OfFormal, named, declare, kind_meant}
-use Rattle.ioa_rules.specs.TypeRules.{kind_of, seq_of, array_of}
-use Rattle.ioa_rules.specs.AutomatonRules.{with_formals}
-use Rattle.ioa_rules.specs.SourceRules.{with_members, with_definition, members_in, with_definitions, all_members}
+use Rattle.ioa_trees.specs.Kinds.{Kind, Range, Enum, ArrayOf, whole_number, number, can_be_listed}
+use Rattle.ioa_trees.specs.Scopes.{Scope, Meaning, OfType, OfMember, OfFormal, named, declare, kind_meant}
+use Rattle.ioa_trees.specs.TypeRules.{kind_of, seq_of, array_of}
+use Rattle.ioa_trees.specs.AutomatonRules.{with_formals}
+use Rattle.ioa_trees.specs.SourceRules.{with_members, with_definition, members_in, with_definitions, all_members}
 use Rattle.compose.specs.Sound.{is_within}
-use Rattle.ioa_rules.proofs.ScopesMeant.{Grown, grown}
+use Rattle.ioa_trees.proofs.ScopesMeant.{Grown, grown}
 
 -- nothing, or a kind within the members
 abbrev pub may_stand : ℕ → Option Kind → Bool

@@ -1,7 +1,7 @@
 -- Which composition a source text means, and why it means none.
 use Rattle.std.specs.Prelude.{◌≡◌, ◌≤◌, ℕ, List, [], length}
 use Rattle.ioa_trees.specs.Trees.{PlainSource}
-use Rattle.ioa_rules.specs.SourceRules.{source_faults, source_meaning}
+use Rattle.ioa_trees.specs.SourceRules.{source_faults, source_meaning}
 use Rattle.ioa_front.specs.Reading.{IsReadable, IsRefusal, Spells, most_bytes}
 use Rattle.ioa_check.specs.Refusals as check
 use Rattle.plans.specs.declared.plan.Plan.{Plan}

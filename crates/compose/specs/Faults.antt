@@ -4,9 +4,9 @@ use Rattle.std.specs.List.{list_any}
 use Rattle.ioa_trees.specs.Trees.{Bytes}
 use Rattle.ioa_trees.specs.declared.tree.EntryKind.{EntryKind}
 use Rattle.ioa_trees.specs.declared.tree.EntryKind.TheVariants as kind
-use Rattle.ioa_rules.specs.EntryRules.{Meant}
-use Rattle.ioa_rules.specs.AutomatonRules.{MeantAutomaton}
-use Rattle.ioa_rules.specs.SourceRules.{MeantComponent, MeantSource}
+use Rattle.ioa_trees.specs.EntryRules.{Meant}
+use Rattle.ioa_trees.specs.AutomatonRules.{MeantAutomaton}
+use Rattle.ioa_trees.specs.SourceRules.{MeantComponent, MeantSource}
 use Rattle.ioa_check.specs.declared.resolved.Component.{Component}
 use Rattle.plans.specs.declared.plan.Plan.{Plan}
 use Rattle.plans.specs.Plans.{composition, action_texts, action_types, hidden_marks, member_texts}

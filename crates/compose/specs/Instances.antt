@@ -18,10 +18,10 @@ use Rattle.plans.specs.Steps.{scope_in}
 use Rattle.ioa_trees.specs.Trees.{Bytes}
 use Rattle.ioa_trees.specs.declared.tree.EntryKind.{EntryKind}
 use Rattle.ioa_trees.specs.declared.tree.EntryKind.TheVariants as kind
-use Rattle.ioa_rules.specs.Kinds.{Kind, Truth, Whole, Range, Enum, SeqOf, ArrayOf, count, listed_of}
-use Rattle.ioa_rules.specs.EntryRules.{Meant, Slot, Fixed, Free}
-use Rattle.ioa_rules.specs.AutomatonRules.{MeantAutomaton}
-use Rattle.ioa_rules.specs.SourceRules.{MeantComponent, MeantSource}
+use Rattle.ioa_trees.specs.Kinds.{Kind, Truth, Whole, Range, Enum, SeqOf, ArrayOf, count, listed_of}
+use Rattle.ioa_trees.specs.EntryRules.{Meant, Slot, Fixed, Free}
+use Rattle.ioa_trees.specs.AutomatonRules.{MeantAutomaton}
+use Rattle.ioa_trees.specs.SourceRules.{MeantComponent, MeantSource}
 use Rattle.compose.specs.Names.{automaton_at}
 
 abbrev pub kind_as : EntryKind → ActionKind

@@ -7,10 +7,10 @@ use Rattle.std.specs.Ordering.{nat_cmp}
 use Rattle.terms.specs.ShapeTree as shape
 use Rattle.terms.specs.ShapeTree.{ShapeTree}
 use Rattle.ioa_trees.specs.Trees.{Bytes}
-use Rattle.ioa_rules.specs.Kinds.{Kind, shape_of}
-use Rattle.ioa_rules.specs.EntryRules.{Meant, Slot, Fixed, Free}
-use Rattle.ioa_rules.specs.AutomatonRules.{MeantAutomaton}
-use Rattle.ioa_rules.specs.SourceRules.{MeantComponent, MeantSource}
+use Rattle.ioa_trees.specs.Kinds.{Kind, shape_of}
+use Rattle.ioa_trees.specs.EntryRules.{Meant, Slot, Fixed, Free}
+use Rattle.ioa_trees.specs.AutomatonRules.{MeantAutomaton}
+use Rattle.ioa_trees.specs.SourceRules.{MeantComponent, MeantSource}
 
 -- the name of an entry, and the types of its parameters
 pub record Signature : Type 0 where

@@ -1,9 +1,9 @@
 -- What holds of the automata that a source without faults means.
 use Rattle.std.specs.Prelude.{◌≡◌, ℕ, ◌+◌, ◌^◌, pos, neg_ℤ, int_le, int_lt, Bool, true, false, ◌&&◌, ◌||◌, Option, Some, None, nat_le, bytes_eq, if◌then◌else◌, List, length, sum_by, slice_get}
 use Rattle.plans.specs.WellFormed.{times, all_places}
-use Rattle.ioa_rules.specs.Kinds.{Kind, Truth, Whole, Range, Enum, SeqOf, ArrayOf, count, can_be_listed, is_scalar}
-use Rattle.ioa_rules.specs.EntryRules.{Meant, Slot, Fixed, Free, is_input, is_controlled}
-use Rattle.ioa_rules.specs.AutomatonRules.{MeantAutomaton}
+use Rattle.ioa_trees.specs.Kinds.{Kind, Truth, Whole, Range, Enum, SeqOf, ArrayOf, count, can_be_listed, is_scalar}
+use Rattle.ioa_trees.specs.EntryRules.{Meant, Slot, Fixed, Free, is_input, is_controlled}
+use Rattle.ioa_trees.specs.AutomatonRules.{MeantAutomaton}
 
 -- how often the place of an entry stands in the tasks: once where it is controlled, else never
 abbrev pub share : Option Meant → ℕ

@@ -12,8 +12,8 @@ use Rattle.plans.specs.Plans.{text_of, types_of}
 use Rattle.plans.specs.declared.automaton.ActionName.{ActionName}
 use Rattle.plans.specs.declared.automaton.Component.{Component}
 use Rattle.terms.specs.declared.scalar.Scalar.{Scalar}
-use Rattle.ioa_rules.specs.AutomatonRules.{MeantAutomaton}
-use Rattle.ioa_rules.specs.SourceRules.{MeantComponent}
+use Rattle.ioa_trees.specs.AutomatonRules.{MeantAutomaton}
+use Rattle.ioa_trees.specs.SourceRules.{MeantComponent}
 use Rattle.ioa_trees.specs.Trees.{Bytes}
 use Rattle.compose.specs.Instances.{argument, built}
 use Rattle.compose.specs.Names.{Signature, first_in, signatures_of}

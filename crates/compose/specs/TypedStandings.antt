@@ -4,10 +4,10 @@ use Rattle.std.specs.declared.string.String.{String}
 use Rattle.ioa_typing.specs.KindViews.{option_tree}
 use Rattle.ioa_entries.specs.EntryViews.{slot_tree}
 use Rattle.ioa_trees.specs.Trees.{Bytes}
-use Rattle.ioa_rules.specs.Kinds.{Kind}
-use Rattle.ioa_rules.specs.EntryRules.{Meant}
-use Rattle.ioa_rules.specs.AutomatonRules.{MeantAutomaton}
-use Rattle.ioa_rules.specs.SourceRules.{MeantComponent}
+use Rattle.ioa_trees.specs.Kinds.{Kind}
+use Rattle.ioa_trees.specs.EntryRules.{Meant}
+use Rattle.ioa_trees.specs.AutomatonRules.{MeantAutomaton}
+use Rattle.ioa_trees.specs.SourceRules.{MeantComponent}
 use Rattle.compose.specs.declared.action_types.standing.Standing.{Standing}
 use Rattle.compose.specs.Types.{slot_kind, entry_kinds, same_kinds, automaton_of}
 

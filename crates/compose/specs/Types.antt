@@ -1,9 +1,9 @@
 -- The types of actions: in a composition all entries of one name have as many parameters, of the same types.
 use Rattle.std.specs.Prelude.{◌≡◌, ◌≤◌, ℕ, Bool, true, false, ◌&&◌, bytes_eq, List, [], ◌∷◌, map, Option, None, Some, slice_get}
-use Rattle.ioa_rules.specs.Kinds.{Kind, same}
-use Rattle.ioa_rules.specs.EntryRules.{Slot, Fixed, Free, Meant}
-use Rattle.ioa_rules.specs.AutomatonRules.{MeantAutomaton}
-use Rattle.ioa_rules.specs.SourceRules.{MeantComponent, MeantSource}
+use Rattle.ioa_trees.specs.Kinds.{Kind, same}
+use Rattle.ioa_trees.specs.EntryRules.{Slot, Fixed, Free, Meant}
+use Rattle.ioa_trees.specs.AutomatonRules.{MeantAutomaton}
+use Rattle.ioa_trees.specs.SourceRules.{MeantComponent, MeantSource}
 
 abbrev pub formal_kind : Option (Option Kind) → Option Kind
 formal_kind None = None

@@ -4,7 +4,7 @@ ghost use Rattle.std.specs.List.{list_any};
 ghost use Rattle.compose.specs.Rules.{IsFirst};
 ghost use Rattle.ioa_check.specs.AutomatonViews.{used_names};
 ghost use Rattle.ioa_check.specs.Resolutions.{automaton_meaning, component_meaning, meaning, transition_meaning};
-ghost use Rattle.ioa_rules.specs.SourceRules.{MeantComponent};
+ghost use Rattle.ioa_trees.specs.SourceRules.{MeantComponent};
 ghost use Rattle.ioa_trees.specs.Trees.{Bytes};
 ghost use Rattle.compose.specs.Faults.{OutputMissing, gives_in, is_output, is_output_of};
 ghost use Rattle.compose.specs.Outputs.{AddsOutputs, AreGiven, lacks_at};

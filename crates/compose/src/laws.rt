@@ -2,7 +2,7 @@
 ghost use Rattle.std.specs.Prelude.{◌≡◌, ◌≤◌, ◌^◌, ℕ, List, length};
 ghost use Rattle.std.specs.List.{All};
 ghost use Rattle.ioa_trees.specs.Trees.{Bytes};
-ghost use Rattle.ioa_rules.specs.SourceRules.{MeantSource};
+ghost use Rattle.ioa_trees.specs.SourceRules.{MeantSource};
 ghost use Rattle.compose.specs.Sound.{IsSoundAutomaton};
 ghost use Rattle.plans.specs.WellFormed.{IsWellFormed};
 ghost use Rattle.compose.specs.Rules.{Breaks};

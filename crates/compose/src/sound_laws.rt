@@ -3,11 +3,11 @@ ghost use Rattle.std.specs.Prelude.{◌≡◌, ◌<◌, ◌≤◌, ◌+◌, Bool
 ghost use Rattle.std.specs.List.{All};
 ghost use Rattle.ioa_trees.specs.Spelling.{spell, IsSource};
 ghost use Rattle.ioa_trees.specs.Trees.{PlainSource};
-ghost use Rattle.ioa_rules.specs.SourceRules.{source_faults, source_meaning};
+ghost use Rattle.ioa_trees.specs.SourceRules.{source_faults, source_meaning};
 ghost use Rattle.compose.specs.Sound.{IsSoundAutomaton, entries_in};
 
-use ioa_rules::laws::size_law;
-use ioa_rules::meant::sources_meant_law;
+use ioa_trees::laws::size_law;
+use ioa_trees::meant::sources_meant_law;
 
 /// In what a source without faults means, a name stands at most once as an input and at most once as an output or
 /// internal action of an automaton; the tasks of an automaton are a partition of what it controls; the parameters of

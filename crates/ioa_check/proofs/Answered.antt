@@ -2,9 +2,9 @@
 use Rattle.std.proofs.Common.{◌≡◌, ◌+◌, ◌≤◌, Some, length, sym, subst, arith}
 use Rattle.ioa_trees.specs.Spelling.{spell}
 use Rattle.ioa_trees.specs.Trees.{PlainSource}
-use Rattle.ioa_rules.specs.Faults.{Fault, IsLeast}
-use Rattle.ioa_rules.specs.Sizes.{composed_size}
-use Rattle.ioa_rules.specs.SourceRules.{composed_at, source_faults}
+use Rattle.ioa_trees.specs.Faults.{Fault, IsLeast}
+use Rattle.ioa_trees.specs.Sizes.{composed_size}
+use Rattle.ioa_trees.specs.SourceRules.{composed_at, source_faults}
 use Rattle.ioa_check.specs.declared.fault.CheckError.{CheckError}
 use Rattle.ioa_check.specs.Refusals.{IsRefused, Refuses, check_number, check_place}
 

@@ -6,13 +6,13 @@ use Rattle.std.specs.List.{list_any}
 use Rattle.std.specs.Option.{is_some}
 use Rattle.terms.specs.TermTree.{TermTree}
 use Rattle.ioa_trees.specs.Trees.{Bytes, PlainAutomaton}
-use Rattle.ioa_rules.specs.AutomatonRules.{MeantAutomaton, around, body_faults, formal_kinds, inside, locals, meaning_of, place_of, with_variables}
-use Rattle.ioa_rules.specs.EntryRules.{Meant, meant_by}
-use Rattle.ioa_rules.specs.Faults.{Fault, keep, where_wrong}
-use Rattle.ioa_rules.specs.Kinds.{Kind}
-use Rattle.ioa_rules.specs.Scopes.{Scope, named}
-use Rattle.ioa_rules.specs.Sizes.{automaton_size}
-use Rattle.ioa_rules.specs.SourceRules.{automata_faults, meanings_of, with_automata, with_automaton}
+use Rattle.ioa_trees.specs.AutomatonRules.{MeantAutomaton, around, body_faults, formal_kinds, inside, locals, meaning_of, place_of, with_variables}
+use Rattle.ioa_trees.specs.EntryRules.{Meant, meant_by}
+use Rattle.ioa_trees.specs.Faults.{Fault, keep, where_wrong}
+use Rattle.ioa_trees.specs.Kinds.{Kind}
+use Rattle.ioa_trees.specs.Scopes.{Scope, named}
+use Rattle.ioa_trees.specs.Sizes.{automaton_size}
+use Rattle.ioa_trees.specs.SourceRules.{automata_faults, meanings_of, with_automata, with_automaton}
 use Rattle.ioa_check.specs.Bodies.{automaton_faults}
 use Rattle.ioa_check.specs.AutomatonParts.{kind_in, start_in}
 use Rattle.ioa_check.specs.Sets.{Adds, AreNames}

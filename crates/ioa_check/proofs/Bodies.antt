@@ -2,12 +2,12 @@
 use Rattle.std.proofs.Common.{◌≡◌, ℕ, suc, ◌+◌, ◌≤◌, Bool, true, false, if◌then◌else◌, bytes_eq, nat_lt, Option, List, [], ◌∷◌, ◌++◌, length, map, take, refl, ap, ◌∙◌, arith}
 use Rattle.std.proofs.lemmas.List.{append_assoc}
 use Rattle.ioa_trees.specs.Trees.{Bytes, PlainAutomaton, PlainDeclared, PlainEntry, PlainVariable}
-use Rattle.ioa_rules.specs.AutomatonRules.{around, body_faults, formals_faults, inside, signature_at, states_at, tasks_faults, transitions_at, variables_faults, with_formals, with_variables}
-use Rattle.ioa_rules.specs.EntryRules.{entries_faults, transitions_faults}
-use Rattle.ioa_rules.specs.Faults.{Fault, keep, where_wrong}
-use Rattle.ioa_rules.specs.Scopes.{Meaning, OfFormal, OfVariable, Scope, declare}
-use Rattle.ioa_rules.specs.Sizes.{after_word, behind, bracketed_size, listed_size, row_size, transition_size}
-use Rattle.ioa_rules.specs.TypeRules.{kind_of}
+use Rattle.ioa_trees.specs.AutomatonRules.{around, body_faults, formals_faults, inside, signature_at, states_at, tasks_faults, transitions_at, variables_faults, with_formals, with_variables}
+use Rattle.ioa_trees.specs.EntryRules.{entries_faults, transitions_faults}
+use Rattle.ioa_trees.specs.Faults.{Fault, keep, where_wrong}
+use Rattle.ioa_trees.specs.Scopes.{Meaning, OfFormal, OfVariable, Scope, declare}
+use Rattle.ioa_trees.specs.Sizes.{after_word, behind, bracketed_size, listed_size, row_size, transition_size}
+use Rattle.ioa_trees.specs.TypeRules.{kind_of}
 use Rattle.ioa_check.specs.Bodies.{actions_faults, front_faults, states_faults, states_size, word}
 use Rattle.ioa_typing.proofs.Keeps.{keep_both, keep_three}
 use Rattle.ioa_typing.proofs.Items.{take_all}

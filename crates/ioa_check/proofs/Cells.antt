@@ -6,12 +6,12 @@ use Rattle.std.proofs.lemmas.List.{append_assoc, get_or-map, length-map}
 use Rattle.std.specs.List.{list_any}
 use Rattle.std.specs.Option.{is_some}
 use Rattle.ioa_trees.specs.Trees.{Bytes, PlainVariable}
-use Rattle.ioa_rules.specs.AutomatonRules.{goes_over, variable_faults, variables_faults, weight_of, with_variables}
-use Rattle.ioa_rules.specs.Faults.{Fault, keep, where_wrong}
-use Rattle.ioa_rules.specs.Kinds.{Kind}
-use Rattle.ioa_rules.specs.Scopes.{OfVariable, Scope, declare, named}
-use Rattle.ioa_rules.specs.Sizes.{type_size, variable_size}
-use Rattle.ioa_rules.specs.TypeRules.{kind_of, type_faults}
+use Rattle.ioa_trees.specs.AutomatonRules.{goes_over, variable_faults, variables_faults, weight_of, with_variables}
+use Rattle.ioa_trees.specs.Faults.{Fault, keep, where_wrong}
+use Rattle.ioa_trees.specs.Kinds.{Kind}
+use Rattle.ioa_trees.specs.Scopes.{OfVariable, Scope, declare, named}
+use Rattle.ioa_trees.specs.Sizes.{type_size, variable_size}
+use Rattle.ioa_trees.specs.TypeRules.{kind_of, type_faults}
 use Rattle.ioa_typing.specs.KindViews.{capped}
 use Rattle.ioa_check.specs.AutomatonParts.{head_faults, kind_in, start_faults}
 use Rattle.ioa_check.specs.Sets.{AreNames}

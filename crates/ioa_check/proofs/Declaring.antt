@@ -2,10 +2,10 @@
 use Rattle.std.proofs.Common.{◌≡◌, ℕ, ◌+◌, Option, List, [], ◌∷◌, ◌++◌, length, refl, ap, sym, ◌∙◌, arith}
 use Rattle.std.proofs.lemmas.List.{append_assoc}
 use Rattle.ioa_trees.specs.Trees.{PlainDeclared}
-use Rattle.ioa_rules.specs.AutomatonRules.{formal_kinds, formals_faults, with_formals}
-use Rattle.ioa_rules.specs.Faults.{Fault, keep}
-use Rattle.ioa_rules.specs.Scopes.{Scope}
-use Rattle.ioa_rules.specs.Sizes.{declared_size}
+use Rattle.ioa_trees.specs.AutomatonRules.{formal_kinds, formals_faults, with_formals}
+use Rattle.ioa_trees.specs.Faults.{Fault, keep}
+use Rattle.ioa_trees.specs.Scopes.{Scope}
+use Rattle.ioa_trees.specs.Sizes.{declared_size}
 use Rattle.ioa_check.specs.AutomatonParts.{formal_faults, with_formal}
 use Rattle.ioa_typing.proofs.Keeps.{keep_append}
 

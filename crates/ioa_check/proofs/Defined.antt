@@ -2,10 +2,10 @@
 use Rattle.std.proofs.Common.{◌≡◌, ℕ, suc, ◌+◌, Option, List, [], ◌∷◌, ◌++◌, length, map, refl, ap, sym, ◌∙◌, arith}
 use Rattle.std.proofs.lemmas.List.{append_assoc}
 use Rattle.ioa_trees.specs.Trees.{Bytes, PlainTypeDefinition}
-use Rattle.ioa_rules.specs.Faults.{Fault, keep}
-use Rattle.ioa_rules.specs.Scopes.{Scope}
-use Rattle.ioa_rules.specs.Sizes.{definition_size}
-use Rattle.ioa_rules.specs.SourceRules.{definition_faults, definitions_faults, members_in, with_definition, with_definitions}
+use Rattle.ioa_trees.specs.Faults.{Fault, keep}
+use Rattle.ioa_trees.specs.Scopes.{Scope}
+use Rattle.ioa_trees.specs.Sizes.{definition_size}
+use Rattle.ioa_trees.specs.SourceRules.{definition_faults, definitions_faults, members_in, with_definition, with_definitions}
 use Rattle.ioa_typing.proofs.Keeps.{keep_both}
 
 pub definitions_kept : (s t : Scope) (n m at after : ℕ) (d : PlainTypeDefinition) (ds : List PlainTypeDefinition) (o p : Option Fault) →

@@ -1,9 +1,9 @@
 -- Enumerations: their words and their members.
 use Rattle.std.proofs.Common.{◌≡◌, ℕ, ◌+◌, ◌≤◌, List, [], ◌∷◌, length, refl, arith}
 use Rattle.ioa_trees.specs.Trees.{Bytes, PlainTypeBody, Enumeration, Same}
-use Rattle.ioa_rules.specs.Scopes.{Scope}
-use Rattle.ioa_rules.specs.Sizes.{behind, body_size, listed_size, name_size}
-use Rattle.ioa_rules.specs.SourceRules.{members_faults, members_in}
+use Rattle.ioa_trees.specs.Scopes.{Scope}
+use Rattle.ioa_trees.specs.Sizes.{behind, body_size, listed_size, name_size}
+use Rattle.ioa_trees.specs.SourceRules.{members_faults, members_in}
 use Rattle.ioa_check.specs.ListParts.{enumeration_words}
 
 pub words_size : (qs : List Bytes) → enumeration_words qs + listed_size name_size qs ≡ body_size (Enumeration qs)

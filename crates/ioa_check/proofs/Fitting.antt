@@ -5,12 +5,12 @@ use Rattle.std.proofs.lemmas.List.{append-nil}
 use Rattle.terms.specs.TermTree.{TermTree}
 use Rattle.terms.specs.declared.term.Term.{Term}
 use Rattle.ioa_trees.specs.Trees.{PlainTerm}
-use Rattle.ioa_rules.specs.Faults.{Fault, keep, where_wrong}
-use Rattle.ioa_rules.specs.Kinds.{Kind}
-use Rattle.ioa_rules.specs.Scopes.{Scope}
-use Rattle.ioa_rules.specs.Sizes.{bracketed_size, listed_size, size}
-use Rattle.ioa_rules.specs.SourceRules.{arguments_faults, misfit_arguments, placed_argument, placed_arguments, unfit_in}
-use Rattle.ioa_rules.specs.TermRules.{faults}
+use Rattle.ioa_trees.specs.Faults.{Fault, keep, where_wrong}
+use Rattle.ioa_trees.specs.Kinds.{Kind}
+use Rattle.ioa_trees.specs.Scopes.{Scope}
+use Rattle.ioa_trees.specs.Sizes.{bracketed_size, listed_size, size}
+use Rattle.ioa_trees.specs.SourceRules.{arguments_faults, misfit_arguments, placed_argument, placed_arguments, unfit_in}
+use Rattle.ioa_trees.specs.TermRules.{faults}
 use Rattle.ioa_typing.specs.TermViews.{core_tree}
 use Rattle.ioa_check.specs.ComponentParts.{argument_faults, bracket, first_kind, fitted_faults, is_there, other_kinds, placing_faults, where_wanted}
 use Rattle.ioa_typing.proofs.Keeps.{keep_append}

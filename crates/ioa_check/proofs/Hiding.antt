@@ -3,11 +3,11 @@ use Rattle.std.proofs.Common.{◌≡◌, ℕ, ◌+◌, ◌*◌, Bool, true, fals
 use Rattle.std.specs.List.{list_any}
 use Rattle.std.specs.declared.string.String.{String}
 use Rattle.ioa_trees.specs.Trees.{Bytes, PlainComposed}
-use Rattle.ioa_rules.specs.AutomatonRules.{MeantAutomaton}
-use Rattle.ioa_rules.specs.Faults.{Fault, keep, where_wrong}
-use Rattle.ioa_rules.specs.Scopes.{Scope, taken_before}
-use Rattle.ioa_rules.specs.Sizes.{component_size, hidden_size, listed_size}
-use Rattle.ioa_rules.specs.SourceRules.{components_faults, composed_faults, hidden_at, hidden_faults}
+use Rattle.ioa_trees.specs.AutomatonRules.{MeantAutomaton}
+use Rattle.ioa_trees.specs.Faults.{Fault, keep, where_wrong}
+use Rattle.ioa_trees.specs.Scopes.{Scope, taken_before}
+use Rattle.ioa_trees.specs.Sizes.{component_size, hidden_size, listed_size}
+use Rattle.ioa_trees.specs.SourceRules.{components_faults, composed_faults, hidden_at, hidden_faults}
 use Rattle.ioa_check.specs.Sets.{AreNames}
 use Rattle.ioa_typing.proofs.Keeps.{keep_append, keep_parts}
 use Rattle.ioa_check.proofs.Turns.{behind_names}

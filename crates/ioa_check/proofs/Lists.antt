@@ -3,7 +3,7 @@ use Rattle.std.proofs.Common.{◌≡◌, Bool, true, false, ◌||◌, bytes_eq, 
 use Rattle.std.proofs.lemmas.List.Folds.{list_any-append}
 use Rattle.std.specs.List.{list_any}
 use Rattle.ioa_trees.specs.Trees.{Bytes, Constant, PlainParameter, Typed}
-use Rattle.ioa_rules.specs.AutomatonRules.{typed_names}
+use Rattle.ioa_trees.specs.AutomatonRules.{typed_names}
 use Rattle.ioa_check.specs.Sets.{Adds, AreNames}
 
 or_moved : (a b c : Bool) → (a || (b || c)) ≡ ((b || a) || c)

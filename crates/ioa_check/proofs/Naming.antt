@@ -3,12 +3,12 @@ use Rattle.std.proofs.Common.{◌≡◌, ℕ, ◌+◌, ◌||◌, bytes_eq, Optio
 use Rattle.std.specs.Option.{is_some}
 use Rattle.std.specs.List.{list_any}
 use Rattle.ioa_trees.specs.Trees.{Bytes, PlainComponent}
-use Rattle.ioa_rules.specs.AutomatonRules.{MeantAutomaton}
-use Rattle.ioa_rules.specs.Faults.{Fault, keep, where_wrong}
-use Rattle.ioa_rules.specs.Kinds.{Kind}
-use Rattle.ioa_rules.specs.Scopes.{Scope, automaton_meant, named, taken_before}
-use Rattle.ioa_rules.specs.Sizes.{component_size}
-use Rattle.ioa_rules.specs.SourceRules.{arguments_faults, compared_with, component_faults, components_faults, formals_at, misfit_arguments}
+use Rattle.ioa_trees.specs.AutomatonRules.{MeantAutomaton}
+use Rattle.ioa_trees.specs.Faults.{Fault, keep, where_wrong}
+use Rattle.ioa_trees.specs.Kinds.{Kind}
+use Rattle.ioa_trees.specs.Scopes.{Scope, automaton_meant, named, taken_before}
+use Rattle.ioa_trees.specs.Sizes.{component_size}
+use Rattle.ioa_trees.specs.SourceRules.{arguments_faults, compared_with, component_faults, components_faults, formals_at, misfit_arguments}
 use Rattle.ioa_check.specs.Sets.{AreNames}
 use Rattle.ioa_check.specs.ComponentParts.{placing_faults}
 use Rattle.ioa_typing.proofs.Keeps.{keep_append, keep_both}

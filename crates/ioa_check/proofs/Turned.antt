@@ -1,7 +1,7 @@
 -- The least fault after lists of faults, in whatever order.
 use Rattle.std.proofs.Common.{◌≡◌, Bool, true, false, if◌then◌else◌, Option, Some, None, List, [], ◌∷◌, ◌++◌, refl, ap, sym, ◌∙◌, arith}
 use Rattle.std.proofs.lemmas.Bool.Decides.{nat_tests}
-use Rattle.ioa_rules.specs.Faults.{Fault, is_before, keep, note}
+use Rattle.ioa_trees.specs.Faults.{Fault, is_before, keep, note}
 use Rattle.ioa_typing.proofs.Keeps.{keep_append}
 
 -- ---- two faults

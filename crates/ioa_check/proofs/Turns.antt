@@ -2,9 +2,9 @@
 use Rattle.std.proofs.Common.{◌≡◌, ℕ, ◌+◌, ◌*◌, false, not, ◌||◌, if◌then◌else◌, bytes_eq, Option, List, [], ◌∷◌, ◌++◌, length, map, string_bytes, refl, ap, sym, ◌∙◌, arith}
 use Rattle.std.specs.declared.string.String.{String}
 use Rattle.ioa_trees.specs.Trees.{Bytes, PlainEntry, PlainTransition}
-use Rattle.ioa_rules.specs.AutomatonRules.{is_controlled_name, place_of, task_faults, tasks_faults}
-use Rattle.ioa_rules.specs.Faults.{Fault, keep, where_wrong}
-use Rattle.ioa_rules.specs.Sizes.{behind, name_size, task_size}
+use Rattle.ioa_trees.specs.AutomatonRules.{is_controlled_name, place_of, task_faults, tasks_faults}
+use Rattle.ioa_trees.specs.Faults.{Fault, keep, where_wrong}
+use Rattle.ioa_trees.specs.Sizes.{behind, name_size, task_size}
 use Rattle.ioa_check.specs.AutomatonParts.{closing, is_controlled, is_wrong_name}
 use Rattle.ioa_check.specs.Sets.{Adds, AreNames}
 use Rattle.ioa_typing.proofs.Keeps.{keep_append}

@@ -3,10 +3,10 @@ use Rattle.std.proofs.Common.{◌≡◌, ℕ, ◌+◌, Option, None, List, [], �
 use Rattle.std.specs.List.{list_any}
 use Rattle.ioa_trees.specs.Trees.{Bytes, PlainSource}
 use Rattle.ioa_check.specs.Sets.{Adds, AreNames}
-use Rattle.ioa_rules.specs.Faults.{Fault, keep}
-use Rattle.ioa_rules.specs.Scopes.{Scope}
-use Rattle.ioa_rules.specs.AutomatonRules.{MeantAutomaton}
-use Rattle.ioa_rules.specs.SourceRules.{all_locals, automata_faults, automata_size, composed_at, composed_faults, definitions_faults, definitions_size, meanings_of, source_faults, table_of, types_scope, whole_scope, with_automata, with_definitions}
+use Rattle.ioa_trees.specs.Faults.{Fault, keep}
+use Rattle.ioa_trees.specs.Scopes.{Scope}
+use Rattle.ioa_trees.specs.AutomatonRules.{MeantAutomaton}
+use Rattle.ioa_trees.specs.SourceRules.{all_locals, automata_faults, automata_size, composed_at, composed_faults, definitions_faults, definitions_size, meanings_of, source_faults, table_of, types_scope, whole_scope, with_automata, with_definitions}
 use Rattle.ioa_typing.proofs.Keeps.{keep_both}
 use Rattle.ioa_check.proofs.AutomatonRows.{from_none}
 

@@ -3,13 +3,13 @@ use Rattle.std.specs.Prelude.{ℕ, ◌+◌, Bool, not, ◌&&◌, ◌||◌, bytes
 use Rattle.std.specs.List.{list_any}
 use Rattle.terms.specs.TermTree.{TermTree}
 use Rattle.ioa_trees.specs.Trees.{Bytes, PlainDeclared, PlainEntry, PlainInit, PlainVariable}
-use Rattle.ioa_rules.specs.AutomatonRules.{goes_over, is_controlled_name}
-use Rattle.ioa_rules.specs.EntryRules as entry
-use Rattle.ioa_rules.specs.Faults.{Fault, where_wrong}
-use Rattle.ioa_rules.specs.Kinds.{Kind}
-use Rattle.ioa_rules.specs.Scopes.{Scope, OfFormal, declare, doubled, taken_before}
-use Rattle.ioa_rules.specs.TypeRules.{kind_of, type_faults, unscalar}
-use Rattle.ioa_rules.specs.ValueRules.{inner_faults, misfits, put_in}
+use Rattle.ioa_trees.specs.AutomatonRules.{goes_over, is_controlled_name}
+use Rattle.ioa_trees.specs.EntryRules as entry
+use Rattle.ioa_trees.specs.Faults.{Fault, where_wrong}
+use Rattle.ioa_trees.specs.Kinds.{Kind}
+use Rattle.ioa_trees.specs.Scopes.{Scope, OfFormal, declare, doubled, taken_before}
+use Rattle.ioa_trees.specs.TypeRules.{kind_of, type_faults, unscalar}
+use Rattle.ioa_trees.specs.ValueRules.{inner_faults, misfits, put_in}
 
 -- one formal, its faults and the scope behind it
 abbrev pub formal_faults : Scope → ℕ → PlainDeclared → List Fault

@@ -2,7 +2,7 @@
 use Rattle.std.specs.Prelude.{ℕ, Option, List, Vec, map, string_bytes}
 use Rattle.std.specs.Global.{Global}
 use Rattle.terms.specs.TermTree.{TermTree}
-use Rattle.ioa_rules.specs.Kinds.{Kind}
+use Rattle.ioa_trees.specs.Kinds.{Kind}
 use Rattle.ioa_typing.specs.KindViews.{option_tree}
 use Rattle.ioa_typing.specs.TermViews.{core_tree}
 use Rattle.ioa_check.specs.declared.used.Used.{Used}

@@ -1,12 +1,12 @@
 -- Parts of the body of an automaton.
 use Rattle.std.specs.Prelude.{ℕ, ◌+◌, nat_lt, List, [], ◌∷◌, ◌++◌, length}
 use Rattle.ioa_trees.specs.Trees.{Bytes, PlainAutomaton}
-use Rattle.ioa_rules.specs.AutomatonRules.{body_faults, entry_names, formals_faults, inside, signature_at, tasks_faults, variables_faults}
-use Rattle.ioa_rules.specs.EntryRules.{entries_faults, transitions_faults}
-use Rattle.ioa_rules.specs.Faults.{Fault, where_wrong}
-use Rattle.ioa_rules.specs.Scopes.{Scope, taken_before}
-use Rattle.ioa_rules.specs.Sizes.{after_word, listed_size, row_size, task_size, transition_size, variable_size}
-use Rattle.ioa_rules.specs.SourceRules.{with_automaton}
+use Rattle.ioa_trees.specs.AutomatonRules.{body_faults, entry_names, formals_faults, inside, signature_at, tasks_faults, variables_faults}
+use Rattle.ioa_trees.specs.EntryRules.{entries_faults, transitions_faults}
+use Rattle.ioa_trees.specs.Faults.{Fault, where_wrong}
+use Rattle.ioa_trees.specs.Scopes.{Scope, taken_before}
+use Rattle.ioa_trees.specs.Sizes.{after_word, listed_size, row_size, task_size, transition_size, variable_size}
+use Rattle.ioa_trees.specs.SourceRules.{with_automaton}
 
 -- a word or a parenthesis, where something stands behind it
 abbrev pub word : {A : Type 0} → List A → ℕ

@@ -1,12 +1,12 @@
 -- Parts of components.
 use Rattle.std.specs.Prelude.{ℕ, ◌+◌, Bool, true, false, not, if◌then◌else◌, nat_eq, Option, Some, None, List, [], ◌∷◌, ◌++◌, length}
 use Rattle.ioa_trees.specs.Trees.{PlainTerm}
-use Rattle.ioa_rules.specs.Faults.{Fault, where_wrong}
-use Rattle.ioa_rules.specs.Kinds.{Kind}
-use Rattle.ioa_rules.specs.Scopes.{Scope}
-use Rattle.ioa_rules.specs.Sizes.{size}
-use Rattle.ioa_rules.specs.SourceRules.{arguments_faults, misfit_arguments, unfit_in}
-use Rattle.ioa_rules.specs.TermRules.{faults}
+use Rattle.ioa_trees.specs.Faults.{Fault, where_wrong}
+use Rattle.ioa_trees.specs.Kinds.{Kind}
+use Rattle.ioa_trees.specs.Scopes.{Scope}
+use Rattle.ioa_trees.specs.Sizes.{size}
+use Rattle.ioa_trees.specs.SourceRules.{arguments_faults, misfit_arguments, unfit_in}
+use Rattle.ioa_trees.specs.TermRules.{faults}
 
 -- a parenthesis, where there are arguments
 abbrev pub bracket : List PlainTerm → ℕ

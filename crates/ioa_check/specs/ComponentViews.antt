@@ -1,6 +1,6 @@
 -- What components mean, without where it lies in memory.
 use Rattle.std.specs.Prelude.{map, string_bytes}
-use Rattle.ioa_rules.specs.SourceRules as rule
+use Rattle.ioa_trees.specs.SourceRules as rule
 use Rattle.ioa_typing.specs.TermViews.{core_tree}
 use Rattle.ioa_check.specs.declared.component.MeantComponent.{MeantComponent}
 

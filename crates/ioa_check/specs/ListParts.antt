@@ -1,7 +1,7 @@
 -- Parts of lists.
 use Rattle.std.specs.Prelude.{ℕ, Bool, if◌then◌else◌, List, [], ◌∷◌}
 use Rattle.ioa_trees.specs.Trees.{Bytes}
-use Rattle.ioa_rules.specs.Sizes.{behind, listed_size}
+use Rattle.ioa_trees.specs.Sizes.{behind, listed_size}
 
 -- the items of a list that are left, the first of all or not
 abbrev pub left_size : {A : Type 0} → Bool → (A → ℕ) → List A → ℕ

@@ -1,6 +1,6 @@
 -- What automata mean, without where it lies in memory.
 use Rattle.std.specs.Prelude.{map, string_bytes}
-use Rattle.ioa_rules.specs.AutomatonRules as rule
+use Rattle.ioa_trees.specs.AutomatonRules as rule
 use Rattle.ioa_typing.specs.KindViews.{option_tree}
 use Rattle.ioa_entries.specs.EntryViews.{meant_tree}
 use Rattle.ioa_check.specs.declared.meant.MeantAutomaton.{MeantAutomaton}

@@ -1,7 +1,7 @@
 -- Refused sources: the number of a refusal, and the token at which it stands.
 use Rattle.std.specs.Prelude.{◌≡◌, ◌<◌, ◌≤◌, ℕ, Option, None, Some, [], length}
-use Rattle.ioa_rules.specs.Faults.{IsLeast}
-use Rattle.ioa_rules.specs.SourceRules.{MeantSource, source_faults, source_meaning}
+use Rattle.ioa_trees.specs.Faults.{IsLeast}
+use Rattle.ioa_trees.specs.SourceRules.{MeantSource, source_faults, source_meaning}
 use Rattle.ioa_front.specs.Reading.{IsReadable, most_bytes}
 use Rattle.ioa_trees.specs.Spelling.{spell}
 use Rattle.ioa_trees.specs.Trees.{PlainSource}

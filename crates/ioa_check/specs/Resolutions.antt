@@ -5,9 +5,9 @@ use Rattle.ioa_entries.specs.EffectViews.{done_tree}
 use Rattle.ioa_entries.specs.EntryViews.{slot_tree}
 use Rattle.ioa_typing.specs.KindViews.{option_tree}
 use Rattle.ioa_typing.specs.TermViews.{core_tree}
-use Rattle.ioa_rules.specs.EntryRules as entry
-use Rattle.ioa_rules.specs.AutomatonRules as automaton
-use Rattle.ioa_rules.specs.SourceRules as source
+use Rattle.ioa_trees.specs.EntryRules as entry
+use Rattle.ioa_trees.specs.AutomatonRules as automaton
+use Rattle.ioa_trees.specs.SourceRules as source
 use Rattle.ioa_check.specs.declared.resolved.Transition.{Transition}
 use Rattle.ioa_check.specs.declared.resolved.Automaton.{Automaton}
 use Rattle.ioa_check.specs.declared.resolved.Component.{Component}

@@ -2,7 +2,7 @@
 use Rattle.std.specs.Prelude.{map, string_bytes}
 use Rattle.ioa_check.specs.Meant.{automaton_tree}
 use Rattle.ioa_check.specs.ComponentViews.{component_tree}
-use Rattle.ioa_rules.specs.SourceRules as rule
+use Rattle.ioa_trees.specs.SourceRules as rule
 use Rattle.ioa_check.specs.declared.meant.MeantSource.{MeantSource}
 
 abbrev pub source_tree : MeantSource → rule.MeantSource

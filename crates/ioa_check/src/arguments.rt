@@ -1,8 +1,8 @@
 //! The checks of a component's arguments.
 ghost use Rattle.std.specs.Prelude.{◌≡◌, ◌+◌, ◌<◌, ◌^◌, ◌++◌, [], Some, None, get_or, map, option_map, OnOk, IfOk};
 ghost use Rattle.ioa_trees.specs.Views.{view};
-ghost use Rattle.ioa_rules.specs.Sizes.{bracketed_size, listed_size, size};
-ghost use Rattle.ioa_rules.specs.SourceRules as source;
+ghost use Rattle.ioa_trees.specs.Sizes.{bracketed_size, listed_size, size};
+ghost use Rattle.ioa_trees.specs.SourceRules as source;
 ghost use Rattle.ioa_typing.specs.KindViews.{option_tree};
 ghost use Rattle.ioa_typing.specs.NameViews.{names_tree};
 ghost use Rattle.ioa_typing.specs.Noted.{AreNoted};

@@ -2,9 +2,9 @@
 ghost use Rattle.std.specs.Prelude.{◌≡◌, ◌+◌, ◌<◌, ◌^◌, List, map, OnOk, IfOk};
 ghost use Rattle.ioa_trees.specs.Trees.{Bytes};
 ghost use Rattle.ioa_trees.specs.Views.{view_automaton};
-ghost use Rattle.ioa_rules.specs.AutomatonRules.{locals, meaning_of};
-ghost use Rattle.ioa_rules.specs.Sizes.{automaton_size};
-ghost use Rattle.ioa_rules.specs.SourceRules as source;
+ghost use Rattle.ioa_trees.specs.AutomatonRules.{locals, meaning_of};
+ghost use Rattle.ioa_trees.specs.Sizes.{automaton_size};
+ghost use Rattle.ioa_trees.specs.SourceRules as source;
 ghost use Rattle.ioa_typing.specs.NameViews.{names_tree};
 ghost use Rattle.ioa_typing.specs.Noted.{AreNoted};
 ghost use Rattle.ioa_check.specs.Bodies as body;

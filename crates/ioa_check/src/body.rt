@@ -1,9 +1,9 @@
 //! The checks of what stands in an automaton.
 ghost use Rattle.std.specs.Prelude.{◌≡◌, ◌+◌, ◌<◌, ◌^◌, length, map, nat_lt, OnOk, IfOk};
 ghost use Rattle.ioa_trees.specs.Views.{view_automaton, view_declared};
-ghost use Rattle.ioa_rules.specs.AutomatonRules as rule;
-ghost use Rattle.ioa_rules.specs.EntryRules.{meant_by};
-ghost use Rattle.ioa_rules.specs.Sizes.{automaton_size, bracketed_size, declared_size};
+ghost use Rattle.ioa_trees.specs.AutomatonRules as rule;
+ghost use Rattle.ioa_trees.specs.EntryRules.{meant_by};
+ghost use Rattle.ioa_trees.specs.Sizes.{automaton_size, bracketed_size, declared_size};
 ghost use Rattle.ioa_typing.specs.KindViews.{option_tree};
 ghost use Rattle.ioa_entries.specs.EntryViews.{meant_tree};
 ghost use Rattle.ioa_typing.specs.NameViews.{names_tree};

@@ -1,9 +1,9 @@
 //! The check of a source.
 ghost use Rattle.std.specs.Prelude.{◌≡◌, ◌+◌, ◌≤◌, None, [], IfOk, IfErr};
 ghost use Rattle.ioa_trees.specs.Views.{view_source};
-ghost use Rattle.ioa_rules.specs.Faults.{keep};
-ghost use Rattle.ioa_rules.specs.Sizes.{composed_size};
-ghost use Rattle.ioa_rules.specs.SourceRules.{composed_at, source_faults, source_meaning};
+ghost use Rattle.ioa_trees.specs.Faults.{keep};
+ghost use Rattle.ioa_trees.specs.Sizes.{composed_size};
+ghost use Rattle.ioa_trees.specs.SourceRules.{composed_at, source_faults, source_meaning};
 ghost use Rattle.ioa_typing.specs.TermViews.{least_tree};
 ghost use Rattle.ioa_check.specs.Refusals.{IsRefused};
 ghost use Rattle.ioa_check.specs.Resolutions.{meaning};
@@ -18,8 +18,8 @@ use crate::meant::MeantSource;
 use crate::resolving::resolve;
 use crate::used::Used;
 use ioa_front::Source;
-use ioa_rules::laws::{least_law, size_law};
-use ioa_rules::meant::sources_meant_law;
+use ioa_trees::laws::{least_law, size_law};
+use ioa_trees::meant::sources_meant_law;
 use ioa_trees::tree::SourceTree;
 use ioa_typing::{Fault, Names, Progress};
 use std::alloc::{AllocError, Global};

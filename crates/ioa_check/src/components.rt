@@ -3,10 +3,10 @@ ghost use Rattle.std.specs.Prelude.{◌≡◌, ◌+◌, ◌<◌, ◌^◌, ◌||�
 ghost use Rattle.std.specs.List.{list_any};
 ghost use Rattle.ioa_trees.specs.Trees.{Bytes};
 ghost use Rattle.ioa_trees.specs.Views.{view_component};
-ghost use Rattle.ioa_rules.specs.Faults.{where_wrong};
-ghost use Rattle.ioa_rules.specs.Scopes.{automaton_meant, named};
-ghost use Rattle.ioa_rules.specs.Sizes.{component_size, listed_size};
-ghost use Rattle.ioa_rules.specs.SourceRules as source;
+ghost use Rattle.ioa_trees.specs.Faults.{where_wrong};
+ghost use Rattle.ioa_trees.specs.Scopes.{automaton_meant, named};
+ghost use Rattle.ioa_trees.specs.Sizes.{component_size, listed_size};
+ghost use Rattle.ioa_trees.specs.SourceRules as source;
 ghost use Rattle.ioa_typing.specs.NameViews.{names_tree};
 ghost use Rattle.ioa_typing.specs.Noted.{AreNoted};
 ghost use Rattle.ioa_check.specs.Meant.{automaton_tree};

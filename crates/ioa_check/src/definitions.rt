@@ -1,11 +1,11 @@
 //! The checks of types' definitions.
 ghost use Rattle.std.specs.Prelude.{◌≡◌, ◌+◌, ◌<◌, ◌≤◌, ◌^◌, ◌++◌, Some, OnOk, IfOk, length, map, string_bytes};
 ghost use Rattle.ioa_trees.specs.Views.{view_type, view_type_definition, view_type_body};
-ghost use Rattle.ioa_rules.specs.Kinds as kinds;
-ghost use Rattle.ioa_rules.specs.Scopes as scopes;
-ghost use Rattle.ioa_rules.specs.Sizes.{definition_size, listed_size, name_size, type_size};
-ghost use Rattle.ioa_rules.specs.TypeRules.{kind_of, type_faults};
-ghost use Rattle.ioa_rules.specs.SourceRules as rule;
+ghost use Rattle.ioa_trees.specs.Kinds as kinds;
+ghost use Rattle.ioa_trees.specs.Scopes as scopes;
+ghost use Rattle.ioa_trees.specs.Sizes.{definition_size, listed_size, name_size, type_size};
+ghost use Rattle.ioa_trees.specs.TypeRules.{kind_of, type_faults};
+ghost use Rattle.ioa_trees.specs.SourceRules as rule;
 ghost use Rattle.ioa_typing.specs.NameViews.{names_tree};
 ghost use Rattle.ioa_typing.specs.Noted.{AreNoted};
 ghost use Rattle.ioa_check.specs.ListParts as part;

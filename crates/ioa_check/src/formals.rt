@@ -1,9 +1,9 @@
 //! The checks of formals.
 ghost use Rattle.std.specs.Prelude.{◌≡◌, ◌+◌, ◌<◌, ◌^◌, OnOk, IfOk, map};
 ghost use Rattle.ioa_trees.specs.Views.{view_declared, view_type};
-ghost use Rattle.ioa_rules.specs.AutomatonRules as rule;
-ghost use Rattle.ioa_rules.specs.Sizes.{declared_size, listed_size};
-ghost use Rattle.ioa_rules.specs.TypeRules.{kind_of};
+ghost use Rattle.ioa_trees.specs.AutomatonRules as rule;
+ghost use Rattle.ioa_trees.specs.Sizes.{declared_size, listed_size};
+ghost use Rattle.ioa_trees.specs.TypeRules.{kind_of};
 ghost use Rattle.ioa_typing.specs.KindViews.{option_tree};
 ghost use Rattle.ioa_typing.specs.NameViews.{names_tree};
 ghost use Rattle.ioa_typing.specs.Noted.{AreNoted};

@@ -1,7 +1,7 @@
 //! The check of the names of outputs to hide.
 ghost use Rattle.std.specs.Prelude.{◌≡◌, ◌+◌, ◌<◌, ◌^◌, [], map, string_bytes, OnOk, IfOk};
-ghost use Rattle.ioa_rules.specs.Sizes.{hidden_size};
-ghost use Rattle.ioa_rules.specs.SourceRules.{hidden_faults};
+ghost use Rattle.ioa_trees.specs.Sizes.{hidden_size};
+ghost use Rattle.ioa_trees.specs.SourceRules.{hidden_faults};
 ghost use Rattle.ioa_typing.specs.Noted.{AreNoted};
 
 use crate::used::Used;

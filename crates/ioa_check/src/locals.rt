@@ -2,7 +2,7 @@
 ghost use Rattle.std.specs.Prelude.{◌≡◌, [], ◌∷◌, map, string_bytes, OnOk};
 ghost use Rattle.ioa_trees.specs.Trees.{For, pack_branches};
 ghost use Rattle.ioa_trees.specs.Views.{view_automaton, view_branch, view_declared, view_entry, view_parameter, view_statement, view_statements, view_transition, view_variable};
-ghost use Rattle.ioa_rules.specs.AutomatonRules as rule;
+ghost use Rattle.ioa_trees.specs.AutomatonRules as rule;
 ghost use Rattle.ioa_check.specs.AutomatonParts as part;
 ghost use Rattle.ioa_check.specs.Sets.{Adds};
 ghost use Rattle.ioa_check.specs.AutomatonViews.{used_names};

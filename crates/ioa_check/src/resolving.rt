@@ -6,7 +6,7 @@ ghost use Rattle.ioa_check.specs.AutomatonViews.{cell_kind, cell_start};
 ghost use Rattle.ioa_check.specs.ComponentViews.{component_tree};
 ghost use Rattle.ioa_entries.specs.EntryViews.{meant_tree};
 ghost use Rattle.ioa_typing.specs.KindViews.{option_tree};
-ghost use Rattle.ioa_rules.specs.Meant.{AllSome, IsWholeSource, IsWholeAutomaton, IsWholeComponent, IsWholeEntry};
+ghost use Rattle.ioa_trees.specs.Meant.{AllSome, IsWholeSource, IsWholeAutomaton, IsWholeComponent, IsWholeEntry};
 ghost use Rattle.ioa_typing.specs.TermViews.{core_tree};
 ghost use Rattle.ioa_check.specs.Resolutions.{automaton_meaning, component_meaning, meaning, transition_meaning};
 ghost use Rattle.ioa_check.specs.SourceViews.{source_tree};

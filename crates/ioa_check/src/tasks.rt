@@ -3,10 +3,10 @@ ghost use Rattle.std.specs.Prelude.{◌≡◌, ◌+◌, ◌*◌, ◌<◌, ◌^�
 ghost use Rattle.std.specs.List.{list_any};
 ghost use Rattle.ioa_trees.specs.Trees.{Bytes};
 ghost use Rattle.ioa_trees.specs.Views.{view_entry, view_transition};
-ghost use Rattle.ioa_rules.specs.AutomatonRules as rule;
-ghost use Rattle.ioa_rules.specs.EntryRules as signature;
-ghost use Rattle.ioa_rules.specs.Faults.{where_wrong};
-ghost use Rattle.ioa_rules.specs.Sizes.{row_size, task_size};
+ghost use Rattle.ioa_trees.specs.AutomatonRules as rule;
+ghost use Rattle.ioa_trees.specs.EntryRules as signature;
+ghost use Rattle.ioa_trees.specs.Faults.{where_wrong};
+ghost use Rattle.ioa_trees.specs.Sizes.{row_size, task_size};
 ghost use Rattle.ioa_typing.specs.Noted.{AreNoted};
 ghost use Rattle.ioa_check.specs.AutomatonParts as part;
 ghost use Rattle.ioa_check.specs.Sets.{Adds};

@@ -4,10 +4,10 @@ use Rattle.terms.specs.TermTree.{TermTree}
 use Rattle.terms.specs.EffectTree as effect
 use Rattle.terms.specs.EffectTree.{EffectTree}
 use Rattle.ioa_trees.specs.Trees.{PlainStatements, PlainBranches, no_statement, more_statements, no_branch, more_branches}
-use Rattle.ioa_rules.specs.EffectRules.{effect_of, effects_of, branches_of, in_order, branch_of, loop_of}
-use Rattle.ioa_rules.specs.Kinds.{Kind, can_be_listed, listed_of}
-use Rattle.ioa_rules.specs.Scopes.{Scope}
-use Rattle.ioa_rules.specs.TermRules.{judge, truth_of}
+use Rattle.ioa_trees.specs.EffectRules.{effect_of, effects_of, branches_of, in_order, branch_of, loop_of}
+use Rattle.ioa_trees.specs.Kinds.{Kind, can_be_listed, listed_of}
+use Rattle.ioa_trees.specs.Scopes.{Scope}
+use Rattle.ioa_trees.specs.TermRules.{judge, truth_of}
 use Rattle.ioa_entries.specs.EffectLists.{before, chained, choice, effect_list, arm_list, for_of}
 use Rattle.ioa_entries.specs.EffectViews.{members_of}
 

@@ -3,7 +3,7 @@ use Rattle.std.proofs.Common.{◌≡◌, Option, Some, None, List, [], ◌∷◌
 use Rattle.terms.specs.EffectTree.{EffectTree, followed, ended, part_tree}
 use Rattle.terms.specs.declared.effect.Effect.{Effect}
 use Rattle.terms.specs.declared.effect.Part.{Part}
-use Rattle.ioa_rules.specs.EffectRules.{branch_of, in_order}
+use Rattle.ioa_trees.specs.EffectRules.{branch_of, in_order}
 use Rattle.ioa_typing.specs.TermViews.{core_tree}
 use Rattle.ioa_entries.specs.EffectLists.{before, choice, led_by, led_on}
 use Rattle.ioa_entries.specs.EffectViews.{arm_tree, done_tree}

@@ -2,11 +2,11 @@
 use Rattle.std.proofs.Common.{◌≡◌, ℕ, ◌+◌, Bool, true, false, not, if◌then◌else◌, Option, Some, None, refl, ◌∙◌, ap}
 use Rattle.std.specs.Option.{is_some}
 use Rattle.ioa_trees.specs.Trees.{PlainInit, Empty, Fill, Value}
-use Rattle.ioa_rules.specs.Faults.{at_fault, where_wrong}
-use Rattle.ioa_rules.specs.Kinds.{Kind, fits, is_seq, is_array}
-use Rattle.ioa_rules.specs.Scopes.{Scope}
-use Rattle.ioa_rules.specs.TermRules.{Judged, judge, unfit}
-use Rattle.ioa_rules.specs.ValueRules.{has_fault, item_kind, misfits, is_misfit}
+use Rattle.ioa_trees.specs.Faults.{at_fault, where_wrong}
+use Rattle.ioa_trees.specs.Kinds.{Kind, fits, is_seq, is_array}
+use Rattle.ioa_trees.specs.Scopes.{Scope}
+use Rattle.ioa_trees.specs.TermRules.{Judged, judge, unfit}
+use Rattle.ioa_trees.specs.ValueRules.{has_fault, item_kind, misfits, is_misfit}
 use Rattle.ioa_entries.specs.EffectViews.{misfit_faults}
 
 wrong_anywhere : (w : Bool) (a b : ℕ) → has_fault (where_wrong w a 12) ≡ has_fault (where_wrong w b 12)

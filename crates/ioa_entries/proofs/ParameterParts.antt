@@ -4,10 +4,10 @@ use Rattle.std.proofs.lemmas.Bool.Decides.{nat_tests}
 use Rattle.std.proofs.Math.Nat.{mul_assoc, mul_comm}
 use Rattle.std.proofs.lemmas.List.{append_assoc}
 use Rattle.ioa_trees.specs.Trees.{PlainParameter, Constant, Typed}
-use Rattle.ioa_rules.specs.EntryRules.{parameters_faults, slots, times, tuples, with_parameters}
-use Rattle.ioa_rules.specs.Faults.{Fault, keep}
-use Rattle.ioa_rules.specs.Scopes.{Scope}
-use Rattle.ioa_rules.specs.Sizes.{behind, parameter_size}
+use Rattle.ioa_trees.specs.EntryRules.{parameters_faults, slots, times, tuples, with_parameters}
+use Rattle.ioa_trees.specs.Faults.{Fault, keep}
+use Rattle.ioa_trees.specs.Scopes.{Scope}
+use Rattle.ioa_trees.specs.Sizes.{behind, parameter_size}
 use Rattle.ioa_typing.specs.KindViews.{capped}
 use Rattle.ioa_entries.specs.EntryParts.{after_parameter, between, parameter_faults, rest_size, slot_of, values_of}
 use Rattle.ioa_typing.proofs.Capped.{capped_times}

@@ -8,12 +8,12 @@ use Rattle.ioa_trees.specs.declared.tree.Entry.{Entry}
 use Rattle.ioa_trees.specs.declared.tree.Transition.{Transition}
 use Rattle.ioa_trees.specs.Views.{view_entry, view_transition}
 use Rattle.ioa_trees.specs.Trees.{Bytes, PlainEntry, PlainParameter, PlainTransition, Constant, Typed}
-use Rattle.ioa_rules.specs.EffectRules.{statements_faults}
-use Rattle.ioa_rules.specs.EntryRules.{agrees, clashes, entries_faults, entry_faults, has_task, head_faults, is_controlled, is_large, parameters_faults, pre_faults, transition_faults, transitions_faults, with_parameter, with_parameters}
-use Rattle.ioa_rules.specs.Faults.{Fault, keep, where_wrong}
-use Rattle.ioa_rules.specs.Scopes.{Scope, Meaning, OfParameter, declare}
-use Rattle.ioa_rules.specs.Sizes.{bracketed_size, entry_size, listed_size, parameter_size, pre_size, transition_size}
-use Rattle.ioa_rules.specs.TypeRules.{kind_of}
+use Rattle.ioa_trees.specs.EffectRules.{statements_faults}
+use Rattle.ioa_trees.specs.EntryRules.{agrees, clashes, entries_faults, entry_faults, has_task, head_faults, is_controlled, is_large, parameters_faults, pre_faults, transition_faults, transitions_faults, with_parameter, with_parameters}
+use Rattle.ioa_trees.specs.Faults.{Fault, keep, where_wrong}
+use Rattle.ioa_trees.specs.Scopes.{Scope, Meaning, OfParameter, declare}
+use Rattle.ioa_trees.specs.Sizes.{bracketed_size, entry_size, listed_size, parameter_size, pre_size, transition_size}
+use Rattle.ioa_trees.specs.TypeRules.{kind_of}
 use Rattle.ioa_entries.specs.EntryParts.{bracket, inside_faults}
 use Rattle.ioa_typing.proofs.Keeps.{keep_append, keep_both, keep_five, keep_three}
 use Rattle.ioa_typing.proofs.Items.{any_map, take_all}

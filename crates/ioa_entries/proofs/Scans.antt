@@ -6,7 +6,7 @@ use Rattle.std.specs.List.{find, list_any}
 use Rattle.ioa_trees.specs.declared.tree.Entry.{Entry}
 use Rattle.ioa_trees.specs.Trees.{PlainEntry}
 use Rattle.ioa_trees.specs.Views.{view_entry}
-use Rattle.ioa_rules.specs.EntryRules.{agrees, entry_for, has_task}
+use Rattle.ioa_trees.specs.EntryRules.{agrees, entry_for, has_task}
 use Rattle.ioa_entries.specs.TaskNames.{task_names}
 use Rattle.ioa_typing.proofs.Items.{any_map}
 

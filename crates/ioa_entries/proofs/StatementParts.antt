@@ -10,12 +10,12 @@ use Rattle.ioa_trees.specs.declared.tree.Statement.TheVariants.{rolls-For, rolls
 use Rattle.ioa_trees.specs.declared.tree.Statement.TheViews as made
 use Rattle.ioa_trees.specs.Trees.{Bytes, PlainDeclared, PlainStatement, PlainStatements, PlainBranches, PlainTerm, For, If, no_statement, more_statements, no_branch, more_branches, pack_branches}
 use Rattle.ioa_trees.specs.Views.{branch_step, statement_step, view, view_branch, view_declared, view_statement, view_statements}
-use Rattle.ioa_rules.specs.EffectRules.{branches_faults, in_loop, statement_faults, statements_faults}
-use Rattle.ioa_rules.specs.Faults.{Fault, keep}
-use Rattle.ioa_rules.specs.Scopes.{Scope, Meaning, declare}
-use Rattle.ioa_rules.specs.Kinds.{is_truth}
-use Rattle.ioa_rules.specs.Sizes.{branches_size, later_size, size, statement_size, statements_size, type_size}
-use Rattle.ioa_rules.specs.TermRules.{faults, judge, wants}
+use Rattle.ioa_trees.specs.EffectRules.{branches_faults, in_loop, statement_faults, statements_faults}
+use Rattle.ioa_trees.specs.Faults.{Fault, keep}
+use Rattle.ioa_trees.specs.Scopes.{Scope, Meaning, declare}
+use Rattle.ioa_trees.specs.Kinds.{is_truth}
+use Rattle.ioa_trees.specs.Sizes.{branches_size, later_size, size, statement_size, statements_size, type_size}
+use Rattle.ioa_trees.specs.TermRules.{faults, judge, wants}
 use Rattle.ioa_entries.specs.Between.{between}
 use Rattle.ioa_entries.specs.StatementParts.{branch_faults, branch_size, rest_size, else_word, end_word, head_faults}
 use Rattle.ioa_typing.proofs.Keeps.{keep_append, keep_both, keep_three}

@@ -8,9 +8,9 @@ use Rattle.terms.specs.declared.effect.Part.{Part}
 use Rattle.std.specs.declared.vec.Vec.{Vec}
 use Rattle.std.specs.declared.alloc.Global.{Global}
 use Rattle.ioa_trees.specs.Trees.{PlainStatements, PlainBranches, no_statement, more_statements, no_branch, more_branches}
-use Rattle.ioa_rules.specs.EffectRules.{effect_of, effects_of, in_order, branch_of}
-use Rattle.ioa_rules.specs.Scopes.{Scope}
-use Rattle.ioa_rules.specs.TermRules.{judge, truth_of}
+use Rattle.ioa_trees.specs.EffectRules.{effect_of, effects_of, in_order, branch_of}
+use Rattle.ioa_trees.specs.Scopes.{Scope}
+use Rattle.ioa_trees.specs.TermRules.{judge, truth_of}
 
 -- what each statement does
 abbrev pub effect_list : Scope → ℕ → PlainStatements → List (Option EffectTree)

@@ -6,9 +6,9 @@ use Rattle.terms.specs.TermTree.{TermTree}
 use Rattle.terms.specs.declared.scalar.Listed.{Listed}
 use Rattle.ioa_typing.specs.declared.shape.Shape.{Shape}
 use Rattle.ioa_typing.specs.KindViews.{shape_tree}
-use Rattle.ioa_rules.specs.Faults.{Fault, at_fault}
-use Rattle.ioa_rules.specs.Kinds.{Kind, can_be_listed, listed_of}
-use Rattle.ioa_rules.specs.TermRules.{Judged}
+use Rattle.ioa_trees.specs.Faults.{Fault, at_fault}
+use Rattle.ioa_trees.specs.Kinds.{Kind, can_be_listed, listed_of}
+use Rattle.ioa_trees.specs.TermRules.{Judged}
 use Rattle.ioa_typing.specs.declared.typed.Typed.{Typed}
 use Rattle.ioa_typing.specs.TermViews.{core_tree, judged_tree}
 use Rattle.ioa_entries.specs.declared.effects.Arm.{Arm}

@@ -2,12 +2,12 @@
 use Rattle.std.specs.Prelude.{ℕ, ◌+◌, not, Bool, if◌then◌else◌, nat_eq, Option, Some, List, [], ◌∷◌, ◌++◌}
 use Rattle.ioa_trees.specs.Trees as tree
 use Rattle.ioa_trees.specs.Trees.{PlainParameter, PlainStatements, PlainTransition, no_statement, more_statements}
-use Rattle.ioa_rules.specs.Faults.{Fault, where_wrong}
-use Rattle.ioa_rules.specs.Scopes.{Scope, doubled, is_formal, named}
-use Rattle.ioa_rules.specs.TypeRules.{kind_of, type_faults}
-use Rattle.ioa_rules.specs.EntryRules.{Slot, formal_of, free_of, members_of, pre_faults, sort_faults, with_parameter}
-use Rattle.ioa_rules.specs.EffectRules.{statements_faults}
-use Rattle.ioa_rules.specs.Sizes.{behind, entry_size, listed_size, parameter_size, pre_size}
+use Rattle.ioa_trees.specs.Faults.{Fault, where_wrong}
+use Rattle.ioa_trees.specs.Scopes.{Scope, doubled, is_formal, named}
+use Rattle.ioa_trees.specs.TypeRules.{kind_of, type_faults}
+use Rattle.ioa_trees.specs.EntryRules.{Slot, formal_of, free_of, members_of, pre_faults, sort_faults, with_parameter}
+use Rattle.ioa_trees.specs.EffectRules.{statements_faults}
+use Rattle.ioa_trees.specs.Sizes.{behind, entry_size, listed_size, parameter_size, pre_size}
 
 -- the token before each part but the first
 abbrev pub between : ℕ → ℕ

@@ -5,8 +5,8 @@ use Rattle.ioa_entries.specs.declared.slots.Slot.TheVariants as v
 use Rattle.ioa_entries.specs.declared.transitions.Meant.{Meant}
 use Rattle.ioa_entries.specs.EffectViews.{done_tree}
 use Rattle.ioa_typing.specs.KindViews.{kind_tree}
-use Rattle.ioa_rules.specs.EntryRules as plain
-use Rattle.ioa_rules.specs.EntryRules.{Fixed, Free}
+use Rattle.ioa_trees.specs.EntryRules as plain
+use Rattle.ioa_trees.specs.EntryRules.{Fixed, Free}
 use Rattle.ioa_typing.specs.TermViews.{core_tree}
 
 abbrev pub slot_tree : Option Slot → Option plain.Slot

@@ -3,13 +3,13 @@ use Rattle.std.specs.Prelude.{ℕ, ◌+◌, Bool, if◌then◌else◌, nat_le, O
 use Rattle.terms.specs.TermTree.{TermTree}
 use Rattle.terms.specs.EffectTree.{EffectTree}
 use Rattle.ioa_trees.specs.Trees.{PlainTerm, PlainDeclared, PlainStatements, PlainBranches, no_statement, more_statements, no_branch, more_branches}
-use Rattle.ioa_rules.specs.EffectRules.{effects_of, statements_faults}
-use Rattle.ioa_rules.specs.Faults.{Fault, where_wrong}
-use Rattle.ioa_rules.specs.Kinds.{is_truth}
-use Rattle.ioa_rules.specs.Scopes.{Scope, doubled}
-use Rattle.ioa_rules.specs.Sizes.{size, statements_size, later_size}
-use Rattle.ioa_rules.specs.TermRules.{faults, judge, truth_of, wants}
-use Rattle.ioa_rules.specs.TypeRules.{kind_of, type_faults, unlisted}
+use Rattle.ioa_trees.specs.EffectRules.{effects_of, statements_faults}
+use Rattle.ioa_trees.specs.Faults.{Fault, where_wrong}
+use Rattle.ioa_trees.specs.Kinds.{is_truth}
+use Rattle.ioa_trees.specs.Scopes.{Scope, doubled}
+use Rattle.ioa_trees.specs.Sizes.{size, statements_size, later_size}
+use Rattle.ioa_trees.specs.TermRules.{faults, judge, truth_of, wants}
+use Rattle.ioa_trees.specs.TypeRules.{kind_of, type_faults, unlisted}
 
 -- a loop up to its body
 abbrev pub head_faults : Scope → ℕ → ℕ → PlainDeclared → List Fault

@@ -1,7 +1,7 @@
 //! Effects put together from their parts.
 ghost use Rattle.std.specs.Prelude.{◌≡◌, IfOk, Option, map};
 ghost use Rattle.terms.specs.EffectTree.{EffectTree};
-ghost use Rattle.ioa_rules.specs.EffectRules as rule;
+ghost use Rattle.ioa_trees.specs.EffectRules as rule;
 ghost use Rattle.ioa_entries.specs.EffectLists.{before, chained, choice, for_of, led_by, led_on};
 ghost use Rattle.ioa_entries.specs.EffectViews.{arm_tree, done_tree, members_of};
 ghost use Rattle.ioa_typing.specs.KindViews.{option_tree};

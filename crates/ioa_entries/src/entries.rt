@@ -1,9 +1,9 @@
 //! The checks of a signature.
 ghost use Rattle.std.specs.Prelude.{◌≡◌, ℕ, ◌+◌, ◌<◌, ◌^◌, ◌&&◌, not, Option, [], map, option_map, OnOk, IfOk};
 ghost use Rattle.ioa_trees.specs.Views.{view_entry, view_parameter, view_transition};
-ghost use Rattle.ioa_rules.specs.EntryRules as rule;
-ghost use Rattle.ioa_rules.specs.Scopes.{Scope};
-ghost use Rattle.ioa_rules.specs.Sizes.{bracketed_size, entry_size, parameter_size, row_size};
+ghost use Rattle.ioa_trees.specs.EntryRules as rule;
+ghost use Rattle.ioa_trees.specs.Scopes.{Scope};
+ghost use Rattle.ioa_trees.specs.Sizes.{bracketed_size, entry_size, parameter_size, row_size};
 ghost use Rattle.ioa_typing.specs.KindViews.{capped};
 ghost use Rattle.ioa_typing.specs.NameViews.{names_tree};
 ghost use Rattle.ioa_typing.specs.Noted.{AreNoted};

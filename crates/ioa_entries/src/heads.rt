@@ -3,7 +3,7 @@ ghost use Rattle.std.specs.Prelude.{◌≡◌, bytes_eq, find, map, option_copie
 ghost use Rattle.std.specs.List.{list_any};
 ghost use Rattle.ioa_trees.specs.Trees.{Named, Range};
 ghost use Rattle.ioa_trees.specs.Views.{view_entry, view_parameter, view_transition, view_type};
-ghost use Rattle.ioa_rules.specs.EntryRules as rule;
+ghost use Rattle.ioa_trees.specs.EntryRules as rule;
 ghost use Rattle.ioa_entries.specs.TaskNames.{task_names};
 
 use ioa_trees::tree::{Entry, EntryKind, Parameter, Signed, Transition, TypeTree};

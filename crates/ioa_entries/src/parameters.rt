@@ -1,10 +1,10 @@
 //! The checks of the parameters of an entry.
 ghost use Rattle.std.specs.Prelude.{◌≡◌, ◌+◌, ◌<◌, ◌^◌, ◌++◌, not, map, option_map, OnOk, IfOk};
 ghost use Rattle.ioa_trees.specs.Views.{view_declared, view_parameter, view_type};
-ghost use Rattle.ioa_rules.specs.EntryRules as rule;
-ghost use Rattle.ioa_rules.specs.Scopes.{doubled, is_formal, named};
-ghost use Rattle.ioa_rules.specs.Sizes.{declared_size, listed_size, parameter_size};
-ghost use Rattle.ioa_rules.specs.TypeRules.{kind_of, type_faults};
+ghost use Rattle.ioa_trees.specs.EntryRules as rule;
+ghost use Rattle.ioa_trees.specs.Scopes.{doubled, is_formal, named};
+ghost use Rattle.ioa_trees.specs.Sizes.{declared_size, listed_size, parameter_size};
+ghost use Rattle.ioa_trees.specs.TypeRules.{kind_of, type_faults};
 ghost use Rattle.ioa_typing.specs.KindViews.{capped, option_tree};
 ghost use Rattle.ioa_typing.specs.NameViews.{names_tree};
 ghost use Rattle.ioa_typing.specs.Noted.{AreNoted};

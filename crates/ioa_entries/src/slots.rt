@@ -1,10 +1,10 @@
 //! The parameters of a transition: what each takes, and what they declare.
 ghost use Rattle.std.specs.Prelude.{◌≡◌, ◌+◌, ◌<◌, ◌^◌, map, OnOk, IfOk};
 ghost use Rattle.ioa_trees.specs.Views.{view_declared, view_parameter};
-ghost use Rattle.ioa_rules.specs.EntryRules as rule;
-ghost use Rattle.ioa_rules.specs.Scopes.{named};
-ghost use Rattle.ioa_rules.specs.Sizes.{declared_size, listed_size, parameter_size};
-ghost use Rattle.ioa_rules.specs.TypeRules.{kind_of};
+ghost use Rattle.ioa_trees.specs.EntryRules as rule;
+ghost use Rattle.ioa_trees.specs.Scopes.{named};
+ghost use Rattle.ioa_trees.specs.Sizes.{declared_size, listed_size, parameter_size};
+ghost use Rattle.ioa_trees.specs.TypeRules.{kind_of};
 ghost use Rattle.ioa_typing.specs.KindViews.{option_tree};
 ghost use Rattle.ioa_typing.specs.NameViews.{names_tree};
 ghost use Rattle.ioa_entries.specs.EntryParts as part;

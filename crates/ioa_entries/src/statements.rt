@@ -2,9 +2,9 @@
 ghost use Rattle.std.specs.Prelude.{◌≡◌, ◌+◌, ◌<◌, ◌≤◌, ◌^◌, OnOk, IfOk, map};
 ghost use Rattle.ioa_trees.specs.Trees.{For, pack_branches};
 ghost use Rattle.ioa_trees.specs.Views.{view_branch, view_declared, view_statement, view_statements, view_type};
-ghost use Rattle.ioa_rules.specs.EffectRules as rule;
-ghost use Rattle.ioa_rules.specs.Sizes.{branches_size, statement_size, statements_size, type_size};
-ghost use Rattle.ioa_rules.specs.TypeRules.{kind_of};
+ghost use Rattle.ioa_trees.specs.EffectRules as rule;
+ghost use Rattle.ioa_trees.specs.Sizes.{branches_size, statement_size, statements_size, type_size};
+ghost use Rattle.ioa_trees.specs.TypeRules.{kind_of};
 ghost use Rattle.ioa_typing.specs.NameViews.{names_tree};
 ghost use Rattle.ioa_typing.specs.Noted.{AreNoted};
 ghost use Rattle.ioa_entries.specs.EffectLists.{arm_list, effect_list};

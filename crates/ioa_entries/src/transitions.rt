@@ -1,11 +1,11 @@
 //! The checks of transitions.
 ghost use Rattle.std.specs.Prelude.{◌≡◌, ◌+◌, ◌<◌, ◌^◌, ◌++◌, [], map, OnOk, IfOk};
 ghost use Rattle.ioa_trees.specs.Views.{option_view, view, view_entry, view_parameter, view_statements, view_transition};
-ghost use Rattle.ioa_rules.specs.EffectRules.{effects_of, statements_faults};
-ghost use Rattle.ioa_rules.specs.EntryRules as rule;
-ghost use Rattle.ioa_rules.specs.Kinds.{is_truth};
-ghost use Rattle.ioa_rules.specs.Sizes.{bracketed_size, eff_size, entry_size, parameter_size, pre_size, row_size, size, transition_size};
-ghost use Rattle.ioa_rules.specs.TermRules as term;
+ghost use Rattle.ioa_trees.specs.EffectRules.{effects_of, statements_faults};
+ghost use Rattle.ioa_trees.specs.EntryRules as rule;
+ghost use Rattle.ioa_trees.specs.Kinds.{is_truth};
+ghost use Rattle.ioa_trees.specs.Sizes.{bracketed_size, eff_size, entry_size, parameter_size, pre_size, row_size, size, transition_size};
+ghost use Rattle.ioa_trees.specs.TermRules as term;
 ghost use Rattle.ioa_entries.specs.EffectViews.{done_tree};
 ghost use Rattle.ioa_typing.specs.NameViews.{names_tree};
 ghost use Rattle.ioa_typing.specs.Noted.{AreNoted};

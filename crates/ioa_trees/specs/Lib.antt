@@ -3,3 +3,16 @@ pub mod Grammar
 pub mod Trees
 pub mod Spelling
 pub mod Views
+pub mod Faults
+pub mod Sizes
+pub mod Kinds
+pub mod Scopes
+pub mod TypeRules
+pub mod TermRules
+pub mod ValueRules
+pub mod EffectRules
+pub mod EntryRules
+pub mod AutomatonRules
+pub mod SourceRules
+pub mod Places
+pub mod Meant

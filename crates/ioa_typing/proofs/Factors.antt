@@ -2,11 +2,11 @@
 use Rattle.std.proofs.Common.{arith, ◌≡◌, ◌+◌, ℕ, Option, [], ◌++◌, refl, ap, sym, ◌∙◌}
 use Rattle.terms.specs.TermTree.{TermTree}
 use Rattle.ioa_trees.specs.Trees.{PlainFactor, PlainFactors, Times, Modulo, no_factor, more_factors}
-use Rattle.ioa_rules.specs.Faults.{Fault, keep, where_wrong}
-use Rattle.ioa_rules.specs.Kinds.{is_whole}
-use Rattle.ioa_rules.specs.Scopes.{Scope}
-use Rattle.ioa_rules.specs.Sizes.{size, factor_size}
-use Rattle.ioa_rules.specs.TermRules.{faults, judge, wants, factors_faults, multiplied}
+use Rattle.ioa_trees.specs.Faults.{Fault, keep, where_wrong}
+use Rattle.ioa_trees.specs.Kinds.{is_whole}
+use Rattle.ioa_trees.specs.Scopes.{Scope}
+use Rattle.ioa_trees.specs.Sizes.{size, factor_size}
+use Rattle.ioa_trees.specs.TermRules.{faults, judge, wants, factors_faults, multiplied}
 use Rattle.std.specs.Prelude.{nat_eq}
 use Rattle.ioa_typing.proofs.Keeps.{keep_append}
 

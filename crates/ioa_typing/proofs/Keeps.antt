@@ -1,6 +1,6 @@
 -- The least fault after lists of faults, one after the other.
 use Rattle.std.proofs.Common.{◌≡◌, Option, List, [], ◌∷◌, ◌++◌, refl, ap, sym, ◌∙◌}
-use Rattle.ioa_rules.specs.Faults.{Fault, keep, note}
+use Rattle.ioa_trees.specs.Faults.{Fault, keep, note}
 
 pub keep_append : (o : Option Fault) (fs gs : List Fault) → keep o (fs ++ gs) ≡ keep (keep o fs) gs
 keep_append o [] gs = refl

@@ -7,8 +7,8 @@ use Rattle.indexmap.specs.IndexMap.{insert_entry}
 use Rattle.std.specs.String.{string_eq}
 use Rattle.ioa_typing.specs.declared.meaning.Meaning.{Meaning}
 use Rattle.ioa_typing.specs.NameViews.{entry_tree, meaning_tree}
-use Rattle.ioa_rules.specs.Scopes.{Scope, named, declare}
-use Rattle.ioa_rules.specs.Scopes as plain
+use Rattle.ioa_trees.specs.Scopes.{Scope, named, declare}
+use Rattle.ioa_trees.specs.Scopes as plain
 
 pub named_map : {A : Type 0} (q : List ℕ) (es : List (String A × Meaning)) → named q (map entry_tree es) ≡ option_map meaning_tree (lookup (λ k. bytes_eq q (string_bytes k)) es)
 named_map q [] = refl

@@ -6,8 +6,8 @@ use Rattle.ioa_typing.specs.declared.kind.Kind.TheOpen as k
 use Rattle.ioa_typing.specs.declared.kind.Kind.TheFolds.{fold-Kind}
 use Rattle.ioa_typing.specs.declared.shape.Shape.{Shape}
 use Rattle.ioa_typing.specs.declared.shape.Shape.TheVariants as h
-use Rattle.ioa_rules.specs.Kinds as plain
-use Rattle.ioa_rules.specs.Kinds.{Truth, Whole, Range, Enum, SeqOf, ArrayOf}
+use Rattle.ioa_trees.specs.Kinds as plain
+use Rattle.ioa_trees.specs.Kinds.{Truth, Whole, Range, Enum, SeqOf, ArrayOf}
 
 abbrev pub kind_step : Kind-F plain.Kind → plain.Kind
 kind_step k.Truth = Truth

@@ -5,8 +5,8 @@ use Rattle.ioa_typing.specs.declared.meaning.Meaning.{Meaning}
 use Rattle.ioa_typing.specs.declared.meaning.Meaning.TheVariants as m
 use Rattle.ioa_typing.specs.declared.names.Names.{Names}
 use Rattle.ioa_typing.specs.KindViews.{option_tree}
-use Rattle.ioa_rules.specs.Scopes as plain
-use Rattle.ioa_rules.specs.Scopes.{OfType, OfMember, OfAutomaton, OfFormal, OfVariable, OfParameter, OfLoop}
+use Rattle.ioa_trees.specs.Scopes as plain
+use Rattle.ioa_trees.specs.Scopes.{OfType, OfMember, OfAutomaton, OfFormal, OfVariable, OfParameter, OfLoop}
 
 abbrev pub meaning_tree : Meaning → plain.Meaning
 meaning_tree (m.«Type» k) = OfType (option_tree k)

@@ -1,6 +1,6 @@
 -- The faults that a check notes.
 use Rattle.std.specs.Prelude.{◌≡◌, List}
-use Rattle.ioa_rules.specs.Faults.{Fault, keep}
+use Rattle.ioa_trees.specs.Faults.{Fault, keep}
 use Rattle.ioa_typing.specs.TermViews.{least_tree}
 use Rattle.ioa_typing.specs.declared.progress.Progress.{Progress}
 

@@ -4,8 +4,8 @@ use Rattle.terms.specs.declared.term.Term.{Term}
 use Rattle.terms.specs.TermTree.{TermTree, term_tree}
 use Rattle.ioa_typing.specs.FaultNumbers.{fault_number}
 use Rattle.ioa_typing.specs.KindViews.{shape_tree}
-use Rattle.ioa_rules.specs.Faults as plain
-use Rattle.ioa_rules.specs.TermRules.{Judged}
+use Rattle.ioa_trees.specs.Faults as plain
+use Rattle.ioa_trees.specs.TermRules.{Judged}
 use Rattle.ioa_typing.specs.declared.typed.Typed.{Typed}
 use Rattle.ioa_typing.specs.declared.fault.Fault.{Fault}
 

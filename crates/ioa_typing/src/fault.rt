@@ -1,6 +1,6 @@
 //! Faults of sources.
 ghost use Rattle.std.specs.Prelude.{◌≡◌};
-ghost use Rattle.ioa_rules.specs.Faults as rule;
+ghost use Rattle.ioa_trees.specs.Faults as rule;
 ghost use Rattle.ioa_typing.specs.FaultNumbers.{fault_number};
 ghost use Rattle.ioa_typing.specs.TermViews.{fault_tree};
 

@@ -1,6 +1,6 @@
 //! Kinds.
 ghost use Rattle.std.specs.Prelude.{◌≡◌, ◌≤◌, ◌*◌, nat_lt, IfOk};
-ghost use Rattle.ioa_rules.specs.Kinds as rule;
+ghost use Rattle.ioa_trees.specs.Kinds as rule;
 ghost use Rattle.ioa_typing.specs.KindViews.{capped, kind_tree};
 
 use std::alloc::{AllocError, Global};

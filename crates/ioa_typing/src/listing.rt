@@ -2,7 +2,7 @@
 ghost use Rattle.std.specs.Prelude.{◌≡◌, IfOk};
 ghost use Rattle.terms.specs.ShapeTree.{shape_tree};
 ghost use Rattle.ioa_typing.specs.KindViews.{kind_tree};
-ghost use Rattle.ioa_rules.specs.Kinds as kinds;
+ghost use Rattle.ioa_trees.specs.Kinds as kinds;
 
 use crate::kind::{Kind, count};
 use std::alloc::{AllocError, Global};

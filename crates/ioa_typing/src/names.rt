@@ -1,7 +1,7 @@
 //! A scope of names.
 ghost use Rattle.std.specs.Prelude.{◌≡◌, [], IfOk, OnOk, OnErr, string_bytes, length, not, option_map, take};
 ghost use Rattle.std.specs.Option.{is_some};
-ghost use Rattle.ioa_rules.specs.Scopes.{named, declare};
+ghost use Rattle.ioa_trees.specs.Scopes.{named, declare};
 ghost use Rattle.ioa_typing.specs.NameViews.{meaning_tree, names_tree};
 
 use crate::meaning::Meaning;

@@ -4,10 +4,10 @@ ghost use Rattle.terms.specs.TermTree as core;
 ghost use Rattle.terms.specs.TermTree.{term_tree};
 ghost use Rattle.ioa_typing.specs.KindViews.{option_tree, shape_tree};
 ghost use Rattle.ioa_typing.specs.NameViews.{names_tree};
-ghost use Rattle.ioa_rules.specs.Faults.{where_wrong};
-ghost use Rattle.ioa_rules.specs.Kinds as kinds;
-ghost use Rattle.ioa_rules.specs.Scopes.{named, is_value};
-ghost use Rattle.ioa_rules.specs.TermRules as rule;
+ghost use Rattle.ioa_trees.specs.Faults.{where_wrong};
+ghost use Rattle.ioa_trees.specs.Kinds as kinds;
+ghost use Rattle.ioa_trees.specs.Scopes.{named, is_value};
+ghost use Rattle.ioa_trees.specs.TermRules as rule;
 ghost use Rattle.ioa_typing.specs.Noted.{AreNoted};
 ghost use Rattle.ioa_typing.specs.TermViews.{core_tree, judged_tree, typed_tree};
 

@@ -1,6 +1,6 @@
 //! How far a check has come, and the least fault so far.
 ghost use Rattle.std.specs.Prelude.{◌≡◌, Bool};
-ghost use Rattle.ioa_rules.specs.Faults as rule;
+ghost use Rattle.ioa_trees.specs.Faults as rule;
 ghost use Rattle.ioa_typing.specs.FaultNumbers.{fault_number};
 ghost use Rattle.ioa_typing.specs.Noted.{AreNoted};
 ghost use Rattle.ioa_typing.specs.TermViews.{least_tree};

@@ -2,8 +2,8 @@
 ghost use Rattle.std.specs.Prelude.{◌≡◌, ◌++◌, Some, OnOk, IfOk};
 ghost use Rattle.terms.specs.TermTree.{term_tree};
 ghost use Rattle.ioa_typing.specs.KindViews.{kind_tree, shape_tree};
-ghost use Rattle.ioa_rules.specs.Kinds as kinds;
-ghost use Rattle.ioa_rules.specs.TermRules as rule;
+ghost use Rattle.ioa_trees.specs.Kinds as kinds;
+ghost use Rattle.ioa_trees.specs.TermRules as rule;
 ghost use Rattle.ioa_typing.specs.Noted.{AreNoted};
 ghost use Rattle.ioa_typing.specs.TermViews.{judged_tree, typed_tree};
 

@@ -1,6 +1,6 @@
 //! Kinds that are parts of others, taken apart once, without memory of their own.
 ghost use Rattle.std.specs.Prelude.{◌≡◌};
-ghost use Rattle.ioa_rules.specs.Kinds as rule;
+ghost use Rattle.ioa_trees.specs.Kinds as rule;
 ghost use Rattle.ioa_typing.specs.KindViews.{kind_tree, shape_tree};
 
 use crate::kind::{Kind, is_same};

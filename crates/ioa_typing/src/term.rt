@@ -1,8 +1,8 @@
 //! The checks of terms.
 ghost use Rattle.std.specs.Prelude.{◌≡◌, ◌+◌, ◌<◌, ◌^◌, ◌++◌, map, OnOk, IfOk};
-ghost use Rattle.ioa_rules.specs.Sizes.{size, indexes_size, joined_size, factor_size, factors_size, addends_size};
-ghost use Rattle.ioa_rules.specs.Kinds as kinds;
-ghost use Rattle.ioa_rules.specs.TermRules as rule;
+ghost use Rattle.ioa_trees.specs.Sizes.{size, indexes_size, joined_size, factor_size, factors_size, addends_size};
+ghost use Rattle.ioa_trees.specs.Kinds as kinds;
+ghost use Rattle.ioa_trees.specs.TermRules as rule;
 ghost use Rattle.ioa_trees.specs.Trees as plain;
 ghost use Rattle.ioa_trees.specs.Trees.{no_factor, more_factors, pack_terms, pack_factors, pack_addends};
 ghost use Rattle.ioa_trees.specs.Views.{view, view_factor, view_addend};

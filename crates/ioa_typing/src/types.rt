@@ -1,10 +1,10 @@
 //! The checks of types.
 ghost use Rattle.std.specs.Prelude.{◌≡◌, ◌++◌, not, ◌+◌, ◌<◌, ◌^◌, int_lt, if◌then◌else◌, None, Some, OnOk, IfOk};
-ghost use Rattle.ioa_rules.specs.Faults.{where_wrong};
-ghost use Rattle.ioa_rules.specs.Kinds as kinds;
-ghost use Rattle.ioa_rules.specs.Scopes.{named, is_type, kind_meant};
-ghost use Rattle.ioa_rules.specs.Sizes.{signed_size, type_size};
-ghost use Rattle.ioa_rules.specs.TypeRules as rule;
+ghost use Rattle.ioa_trees.specs.Faults.{where_wrong};
+ghost use Rattle.ioa_trees.specs.Kinds as kinds;
+ghost use Rattle.ioa_trees.specs.Scopes.{named, is_type, kind_meant};
+ghost use Rattle.ioa_trees.specs.Sizes.{signed_size, type_size};
+ghost use Rattle.ioa_trees.specs.TypeRules as rule;
 ghost use Rattle.ioa_trees.specs.Views.{view_type};
 ghost use Rattle.ioa_typing.specs.KindViews.{kind_tree, option_tree};
 ghost use Rattle.ioa_typing.specs.NameViews.{names_tree};

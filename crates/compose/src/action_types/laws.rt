@@ -1,6 +1,6 @@
 //! What the search finds.
 ghost use Rattle.std.specs.Prelude.{[]};
-ghost use Rattle.ioa_rules.specs.SourceRules.{MeantSource};
+ghost use Rattle.ioa_trees.specs.SourceRules.{MeantSource};
 ghost use Rattle.compose.specs.TypedStandings.{stands, first_different};
 ghost use Rattle.compose.specs.Types.{TypesDiffer, IsFirst};
 

@@ -1,7 +1,7 @@
 //! The table of the names that components use.
 ghost use Rattle.std.specs.Prelude.{◌≡◌, ◌+◌, ◌≤◌, ◌++◌, ◌∷◌, [], List, true, false, Some, map, length, replicate, slice_set, OnOk, IfOk};
 ghost use Rattle.terms.specs.ShapeTree.{shape_tree};
-ghost use Rattle.ioa_rules.specs.SourceRules.{MeantComponent};
+ghost use Rattle.ioa_trees.specs.SourceRules.{MeantComponent};
 ghost use Rattle.ioa_entries.specs.EntryViews.{slot_tree};
 ghost use Rattle.ioa_typing.specs.KindViews.{option_tree};
 ghost use Rattle.ioa_check.specs.Resolutions.{automaton_meaning, component_meaning, transition_meaning};

@@ -1,9 +1,9 @@
 use Rattle.std.proofs.Common.{rules, arith, ◌≡◌, ◌+◌, ◌∷◌, ◌++◌, drop, length, map, nat_lt, ap, sym, ◌∙◌}
 use Rattle.std.proofs.lemmas.List.{drop_all, length-map}
 use Rattle.ioa_trees.specs.Views.{view}
-use Rattle.ioa_rules.specs.Faults.{keep}
-use Rattle.ioa_rules.specs.Sizes.{listed_size, size}
-use Rattle.ioa_rules.specs.SourceRules.{placed_argument, placed_arguments}
+use Rattle.ioa_trees.specs.Faults.{keep}
+use Rattle.ioa_trees.specs.Sizes.{listed_size, size}
+use Rattle.ioa_trees.specs.SourceRules.{placed_argument, placed_arguments}
 use Rattle.ioa_typing.specs.KindViews.{option_tree}
 use Rattle.ioa_typing.specs.NameViews.{names_tree}
 use Rattle.ioa_typing.specs.TermViews.{core_tree, least_tree}

@@ -1,8 +1,8 @@
 use Rattle.std.proofs.Common.{◌≡◌, ◌+◌, ◌++◌, drop, map}
 use Rattle.ioa_trees.specs.Views.{view}
-use Rattle.ioa_rules.specs.Faults.{keep}
-use Rattle.ioa_rules.specs.Sizes.{listed_size, size}
-use Rattle.ioa_rules.specs.SourceRules.{placed_arguments}
+use Rattle.ioa_trees.specs.Faults.{keep}
+use Rattle.ioa_trees.specs.Sizes.{listed_size, size}
+use Rattle.ioa_trees.specs.SourceRules.{placed_arguments}
 use Rattle.ioa_typing.specs.KindViews.{option_tree}
 use Rattle.ioa_typing.specs.NameViews.{names_tree}
 use Rattle.ioa_typing.specs.TermViews.{core_tree, least_tree}

@@ -1,6 +1,6 @@
 use Rattle.std.proofs.Common.{rules, ◌≡◌, ◌+◌, map, refl}
 use Rattle.ioa_trees.specs.Views.{view}
-use Rattle.ioa_rules.specs.Faults.{keep}
+use Rattle.ioa_trees.specs.Faults.{keep}
 use Rattle.ioa_typing.specs.KindViews.{option_tree}
 use Rattle.ioa_typing.specs.NameViews.{names_tree}
 use Rattle.ioa_typing.specs.TermViews.{least_tree}

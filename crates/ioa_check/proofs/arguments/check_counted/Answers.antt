@@ -1,8 +1,8 @@
 use Rattle.std.proofs.Common.{rules, arith, ◌≡◌, ◌+◌, ◌++◌, length, map, not, nat_eq}
 use Rattle.std.proofs.lemmas.List.{length-map}
 use Rattle.ioa_trees.specs.Views.{view}
-use Rattle.ioa_rules.specs.Faults.{keep, where_wrong}
-use Rattle.ioa_rules.specs.SourceRules.{arguments_faults, misfit_arguments}
+use Rattle.ioa_trees.specs.Faults.{keep, where_wrong}
+use Rattle.ioa_trees.specs.SourceRules.{arguments_faults, misfit_arguments}
 use Rattle.ioa_typing.specs.KindViews.{option_tree}
 use Rattle.ioa_typing.specs.NameViews.{names_tree}
 use Rattle.ioa_typing.specs.TermViews.{least_tree}

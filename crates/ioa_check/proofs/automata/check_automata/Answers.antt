@@ -2,10 +2,10 @@ use Rattle.std.proofs.Common.{rules, arith, ◌≡◌, ◌+◌, ◌||◌, ◌∷
 use Rattle.std.proofs.lemmas.List.{drop_all}
 use Rattle.std.specs.List.{list_any}
 use Rattle.ioa_trees.specs.Views.{view_automaton}
-use Rattle.ioa_rules.specs.AutomatonRules.{locals, meaning_of}
-use Rattle.ioa_rules.specs.Faults.{keep}
-use Rattle.ioa_rules.specs.Sizes.{automaton_size}
-use Rattle.ioa_rules.specs.SourceRules.{all_locals, automata_faults, automata_size, meanings_of, with_automata, with_automaton}
+use Rattle.ioa_trees.specs.AutomatonRules.{locals, meaning_of}
+use Rattle.ioa_trees.specs.Faults.{keep}
+use Rattle.ioa_trees.specs.Sizes.{automaton_size}
+use Rattle.ioa_trees.specs.SourceRules.{all_locals, automata_faults, automata_size, meanings_of, with_automata, with_automaton}
 use Rattle.ioa_typing.specs.NameViews.{names_tree}
 use Rattle.ioa_typing.specs.TermViews.{least_tree}
 use Rattle.ioa_check.specs.Bodies.{automaton_faults}

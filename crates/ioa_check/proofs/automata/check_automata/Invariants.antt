@@ -1,8 +1,8 @@
 use Rattle.std.proofs.Common.{◌≡◌, ℕ, ◌+◌, ◌++◌, ◌||◌, bytes_eq, List, drop, length, map}
 use Rattle.std.specs.List.{list_any}
 use Rattle.ioa_trees.specs.Views.{view_automaton}
-use Rattle.ioa_rules.specs.Faults.{keep}
-use Rattle.ioa_rules.specs.SourceRules.{all_locals, automata_faults, automata_size, meanings_of, with_automata}
+use Rattle.ioa_trees.specs.Faults.{keep}
+use Rattle.ioa_trees.specs.SourceRules.{all_locals, automata_faults, automata_size, meanings_of, with_automata}
 use Rattle.ioa_typing.specs.NameViews.{names_tree}
 use Rattle.ioa_typing.specs.TermViews.{least_tree}
 use Rattle.ioa_check.specs.Meant.{automaton_tree}

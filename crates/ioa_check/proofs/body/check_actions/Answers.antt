@@ -1,9 +1,9 @@
 use Rattle.std.proofs.Common.{◌≡◌, ◌+◌, [], map, refl, string_bytes, ap, ◌∙◌}
 use Rattle.ioa_trees.specs.Views.{view_automaton, view_entry, view_transition}
-use Rattle.ioa_rules.specs.AutomatonRules.{tasks_faults}
-use Rattle.ioa_rules.specs.EntryRules.{transitions_faults}
-use Rattle.ioa_rules.specs.Faults.{keep}
-use Rattle.ioa_rules.specs.Sizes.{row_size, transition_size}
+use Rattle.ioa_trees.specs.AutomatonRules.{tasks_faults}
+use Rattle.ioa_trees.specs.EntryRules.{transitions_faults}
+use Rattle.ioa_trees.specs.Faults.{keep}
+use Rattle.ioa_trees.specs.Sizes.{row_size, transition_size}
 use Rattle.ioa_typing.specs.NameViews.{names_tree}
 use Rattle.ioa_typing.specs.TermViews.{least_tree}
 use Rattle.ioa_check.specs.Bodies.{word}

@@ -1,6 +1,6 @@
 use Rattle.std.proofs.Common.{◌≡◌, map, string_bytes, ap, ◌∙◌}
 use Rattle.ioa_trees.specs.Views.{view_automaton, view_transition}
-use Rattle.ioa_rules.specs.AutomatonRules.{place_of, with_variables}
+use Rattle.ioa_trees.specs.AutomatonRules.{place_of, with_variables}
 use Rattle.ioa_typing.specs.KindViews.{option_tree}
 use Rattle.ioa_entries.specs.EntryViews.{meant_tree}
 use Rattle.ioa_typing.specs.NameViews.{names_tree}

@@ -1,7 +1,7 @@
 use Rattle.std.proofs.Common.{◌≡◌, ◌+◌, map, ap, ◌∙◌}
 use Rattle.ioa_trees.specs.Views.{view_declared}
-use Rattle.ioa_rules.specs.AutomatonRules.{formals_faults}
-use Rattle.ioa_rules.specs.Faults.{keep}
+use Rattle.ioa_trees.specs.AutomatonRules.{formals_faults}
+use Rattle.ioa_trees.specs.Faults.{keep}
 use Rattle.ioa_typing.specs.NameViews.{names_tree}
 use Rattle.ioa_typing.specs.TermViews.{least_tree}
 use Rattle.ioa_check.specs.Bodies.{word}

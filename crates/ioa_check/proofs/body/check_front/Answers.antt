@@ -1,9 +1,9 @@
 use Rattle.std.proofs.Common.{arith, ◌≡◌, ◌+◌, [], length, map, nat_lt, ap, ◌∙◌}
 use Rattle.ioa_trees.specs.Views.{view_automaton, view_declared, view_entry, view_transition}
-use Rattle.ioa_rules.specs.AutomatonRules.{formals_faults, inside, signature_at, with_formals}
-use Rattle.ioa_rules.specs.EntryRules.{entries_faults}
-use Rattle.ioa_rules.specs.Faults.{keep}
-use Rattle.ioa_rules.specs.Sizes.{bracketed_size, declared_size}
+use Rattle.ioa_trees.specs.AutomatonRules.{formals_faults, inside, signature_at, with_formals}
+use Rattle.ioa_trees.specs.EntryRules.{entries_faults}
+use Rattle.ioa_trees.specs.Faults.{keep}
+use Rattle.ioa_trees.specs.Sizes.{bracketed_size, declared_size}
 use Rattle.ioa_typing.specs.NameViews.{names_tree}
 use Rattle.ioa_typing.specs.TermViews.{least_tree}
 use Rattle.ioa_entries.specs.TaskNames.{task_names}

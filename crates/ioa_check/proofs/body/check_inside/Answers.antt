@@ -1,6 +1,6 @@
 use Rattle.std.proofs.Common.{take, ap, ◌∙◌}
 use Rattle.ioa_trees.specs.Views.{view_automaton}
-use Rattle.ioa_rules.specs.AutomatonRules.{around}
+use Rattle.ioa_trees.specs.AutomatonRules.{around}
 use Rattle.ioa_typing.specs.NameViews.{names_tree}
 use Rattle.ioa_check.proofs.Bodies.{take_around}
 use Rattle.ioa_check.proofs.body.check_inside.Goals as goal

@@ -1,7 +1,7 @@
 use Rattle.std.proofs.Common.{◌≡◌, ◌+◌, map, ap, ◌∙◌}
 use Rattle.ioa_trees.specs.Views.{view_automaton, view_entry, view_variable}
-use Rattle.ioa_rules.specs.AutomatonRules.{entry_names, variables_faults, with_variables}
-use Rattle.ioa_rules.specs.Faults.{keep}
+use Rattle.ioa_trees.specs.AutomatonRules.{entry_names, variables_faults, with_variables}
+use Rattle.ioa_trees.specs.Faults.{keep}
 use Rattle.ioa_typing.specs.NameViews.{names_tree}
 use Rattle.ioa_typing.specs.TermViews.{least_tree}
 use Rattle.ioa_check.specs.Bodies.{word}

@@ -1,9 +1,9 @@
 use Rattle.std.proofs.Common.{◌≡◌, ◌+◌, ◌≤◌, Some, None, sym, ap, subst, ◌∙◌}
 use Rattle.ioa_trees.specs.Views.{view_source}
-use Rattle.ioa_rules.specs.Faults.{IsLeast, keep}
-use Rattle.ioa_rules.specs.Meant.{IsWholeSource}
-use Rattle.ioa_rules.specs.Sizes.{composed_size}
-use Rattle.ioa_rules.specs.SourceRules.{composed_at, source_faults, source_meaning}
+use Rattle.ioa_trees.specs.Faults.{IsLeast, keep}
+use Rattle.ioa_trees.specs.Meant.{IsWholeSource}
+use Rattle.ioa_trees.specs.Sizes.{composed_size}
+use Rattle.ioa_trees.specs.SourceRules.{composed_at, source_faults, source_meaning}
 use Rattle.ioa_typing.specs.TermViews.{fault_tree, least_tree}
 use Rattle.ioa_check.specs.SourceViews.{source_tree}
 use Rattle.ioa_check.proofs.Answered.{room, told}

@@ -1,9 +1,9 @@
 use Rattle.std.proofs.Common.{rules, arith, ◌≡◌, ◌+◌, bytes_eq, map, ap}
 use Rattle.std.specs.List.{list_any}
 use Rattle.ioa_trees.specs.Views.{view_component}
-use Rattle.ioa_rules.specs.Faults.{keep, where_wrong}
-use Rattle.ioa_rules.specs.Scopes.{automaton_meant, named}
-use Rattle.ioa_rules.specs.SourceRules.{formals_at}
+use Rattle.ioa_trees.specs.Faults.{keep, where_wrong}
+use Rattle.ioa_trees.specs.Scopes.{automaton_meant, named}
+use Rattle.ioa_trees.specs.SourceRules.{formals_at}
 use Rattle.ioa_typing.specs.NameViews.{names_tree}
 use Rattle.ioa_typing.specs.TermViews.{least_tree}
 use Rattle.ioa_check.specs.Meant.{automaton_tree}

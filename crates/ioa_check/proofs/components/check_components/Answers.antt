@@ -1,9 +1,9 @@
 use Rattle.std.proofs.Common.{rules, arith, ◌≡◌, ℕ, ◌+◌, ◌||◌, ◌∷◌, ◌++◌, bytes_eq, List, drop, map, ap, sym, ◌∙◌}
 use Rattle.std.specs.List.{list_any}
 use Rattle.ioa_trees.specs.Views.{view_component}
-use Rattle.ioa_rules.specs.Faults.{keep}
-use Rattle.ioa_rules.specs.Sizes.{component_size, listed_size}
-use Rattle.ioa_rules.specs.SourceRules.{component_faults, component_of, components_faults, components_of}
+use Rattle.ioa_trees.specs.Faults.{keep}
+use Rattle.ioa_trees.specs.Sizes.{component_size, listed_size}
+use Rattle.ioa_trees.specs.SourceRules.{component_faults, component_of, components_faults, components_of}
 use Rattle.ioa_typing.specs.NameViews.{names_tree}
 use Rattle.ioa_typing.specs.TermViews.{least_tree}
 use Rattle.ioa_check.specs.Meant.{automaton_tree}

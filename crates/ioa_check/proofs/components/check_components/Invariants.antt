@@ -1,8 +1,8 @@
 use Rattle.std.proofs.Common.{◌≡◌, ◌+◌, ◌++◌, [], drop, map}
 use Rattle.ioa_trees.specs.Views.{view_component}
-use Rattle.ioa_rules.specs.Faults.{keep}
-use Rattle.ioa_rules.specs.Sizes.{component_size, listed_size}
-use Rattle.ioa_rules.specs.SourceRules.{components_faults, components_of}
+use Rattle.ioa_trees.specs.Faults.{keep}
+use Rattle.ioa_trees.specs.Sizes.{component_size, listed_size}
+use Rattle.ioa_trees.specs.SourceRules.{components_faults, components_of}
 use Rattle.ioa_typing.specs.NameViews.{names_tree}
 use Rattle.ioa_typing.specs.TermViews.{least_tree}
 use Rattle.ioa_check.specs.Meant.{automaton_tree}

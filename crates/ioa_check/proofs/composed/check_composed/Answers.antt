@@ -1,9 +1,9 @@
 use Rattle.std.proofs.Common.{rules, arith, ◌≡◌, ◌+◌, [], map, string_bytes, ap, ◌∙◌}
 use Rattle.ioa_trees.specs.Views.{view_component, view_composed}
-use Rattle.ioa_rules.specs.Faults.{keep}
-use Rattle.ioa_rules.specs.Scopes.{taken_before}
-use Rattle.ioa_rules.specs.Sizes.{component_size, listed_size}
-use Rattle.ioa_rules.specs.SourceRules.{components_faults, hidden_faults}
+use Rattle.ioa_trees.specs.Faults.{keep}
+use Rattle.ioa_trees.specs.Scopes.{taken_before}
+use Rattle.ioa_trees.specs.Sizes.{component_size, listed_size}
+use Rattle.ioa_trees.specs.SourceRules.{components_faults, hidden_faults}
 use Rattle.ioa_typing.specs.NameViews.{names_tree}
 use Rattle.ioa_typing.specs.TermViews.{least_tree}
 use Rattle.ioa_check.specs.Meant.{automaton_tree}

@@ -1,8 +1,8 @@
 use Rattle.std.proofs.Common.{rules, arith, ◌≡◌, ◌+◌, ◌≤◌, ◌∷◌, ◌++◌, drop, length, map, string_bytes, ap, sym, ◌∙◌}
 use Rattle.ioa_trees.specs.Views.{view_type_definition}
-use Rattle.ioa_rules.specs.Faults.{keep}
-use Rattle.ioa_rules.specs.Sizes.{body_size, definition_size}
-use Rattle.ioa_rules.specs.SourceRules.{all_members, definitions_faults, definitions_size, members_in, with_definitions}
+use Rattle.ioa_trees.specs.Faults.{keep}
+use Rattle.ioa_trees.specs.Sizes.{body_size, definition_size}
+use Rattle.ioa_trees.specs.SourceRules.{all_members, definitions_faults, definitions_size, members_in, with_definitions}
 use Rattle.ioa_typing.specs.NameViews.{names_tree}
 use Rattle.ioa_typing.specs.TermViews.{least_tree}
 use Rattle.ioa_check.proofs.Defined.{counted, definitions_kept, definitions_named, length_same, pushed_all}

@@ -1,7 +1,7 @@
 use Rattle.std.proofs.Common.{◌≡◌, ◌++◌, ◌+◌, ◌≤◌, drop, length, map, string_bytes}
 use Rattle.ioa_trees.specs.Views.{view_type_definition}
-use Rattle.ioa_rules.specs.Faults.{keep}
-use Rattle.ioa_rules.specs.SourceRules.{all_members, definitions_faults, definitions_size, with_definitions}
+use Rattle.ioa_trees.specs.Faults.{keep}
+use Rattle.ioa_trees.specs.SourceRules.{all_members, definitions_faults, definitions_size, with_definitions}
 use Rattle.ioa_typing.specs.NameViews.{names_tree}
 use Rattle.ioa_typing.specs.TermViews.{least_tree}
 use Rattle.ioa_check.proofs.definitions.check_definitions.Given as goal

@@ -1,7 +1,7 @@
 use Rattle.std.proofs.Common.{◌≡◌, ◌+◌, drop, length, map, string_bytes}
-use Rattle.ioa_rules.specs.Faults.{keep}
-use Rattle.ioa_rules.specs.Sizes.{listed_size, name_size}
-use Rattle.ioa_rules.specs.SourceRules.{members_faults, with_members}
+use Rattle.ioa_trees.specs.Faults.{keep}
+use Rattle.ioa_trees.specs.Sizes.{listed_size, name_size}
+use Rattle.ioa_trees.specs.SourceRules.{members_faults, with_members}
 use Rattle.ioa_typing.specs.NameViews.{names_tree}
 use Rattle.ioa_typing.specs.TermViews.{least_tree}
 use Rattle.ioa_entries.specs.Between.{between}

@@ -1,9 +1,9 @@
 use Rattle.std.proofs.Common.{rules, arith, ◌≡◌, ◌+◌, ◌∷◌, ◌++◌, drop, length, map, ap, sym, ◌∙◌}
 use Rattle.ioa_trees.specs.Views.{view_declared}
-use Rattle.ioa_rules.specs.AutomatonRules.{formal_kinds, formals_faults, with_formals}
-use Rattle.ioa_rules.specs.Faults.{keep}
-use Rattle.ioa_rules.specs.Sizes.{declared_size, listed_size}
-use Rattle.ioa_rules.specs.TypeRules.{kind_of}
+use Rattle.ioa_trees.specs.AutomatonRules.{formal_kinds, formals_faults, with_formals}
+use Rattle.ioa_trees.specs.Faults.{keep}
+use Rattle.ioa_trees.specs.Sizes.{declared_size, listed_size}
+use Rattle.ioa_trees.specs.TypeRules.{kind_of}
 use Rattle.ioa_typing.specs.KindViews.{option_tree}
 use Rattle.ioa_typing.specs.NameViews.{names_tree}
 use Rattle.ioa_typing.specs.TermViews.{least_tree}

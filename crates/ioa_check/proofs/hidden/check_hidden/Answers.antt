@@ -1,6 +1,6 @@
 use Rattle.std.proofs.Common.{rules, arith, ◌≡◌, ◌+◌, ◌∷◌, ◌++◌, not, drop, length, map, string_bytes, ap, sym, ◌∙◌}
-use Rattle.ioa_rules.specs.Faults.{keep, where_wrong}
-use Rattle.ioa_rules.specs.SourceRules.{hidden_faults}
+use Rattle.ioa_trees.specs.Faults.{keep, where_wrong}
+use Rattle.ioa_trees.specs.SourceRules.{hidden_faults}
 use Rattle.ioa_typing.specs.TermViews.{least_tree}
 use Rattle.ioa_check.specs.AutomatonViews.{used_names}
 use Rattle.ioa_typing.proofs.Items.{drop_at, push_step}

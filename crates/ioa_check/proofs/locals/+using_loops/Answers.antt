@@ -2,7 +2,7 @@ use Rattle.std.proofs.Common.{rules, ◌≡◌, ◌+◌, ◌||◌, [], ◌∷◌
 use Rattle.std.specs.List.{list_any}
 use Rattle.ioa_trees.specs.Trees.{If, pack_branches}
 use Rattle.ioa_trees.specs.Views.{view_branch, view_declared, view_statement, view_statements}
-use Rattle.ioa_rules.specs.AutomatonRules.{all_loops, loops_in, loops_of}
+use Rattle.ioa_trees.specs.AutomatonRules.{all_loops, loops_in, loops_of}
 use Rattle.ioa_check.specs.Sets.{Adds}
 use Rattle.ioa_check.specs.AutomatonViews.{used_names}
 use Rattle.ioa_typing.proofs.Items.{drop_at}

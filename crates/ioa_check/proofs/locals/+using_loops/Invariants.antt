@@ -2,7 +2,7 @@ use Rattle.std.proofs.Common.{◌≡◌, ℕ, ◌||◌, bytes_eq, List, drop, ma
 use Rattle.std.specs.List.{list_any}
 use Rattle.ioa_trees.specs.Trees.{pack_branches}
 use Rattle.ioa_trees.specs.Views.{view_branch, view_statements}
-use Rattle.ioa_rules.specs.AutomatonRules.{all_loops, loops_in}
+use Rattle.ioa_trees.specs.AutomatonRules.{all_loops, loops_in}
 use Rattle.ioa_check.specs.AutomatonViews.{used_names}
 use Rattle.ioa_check.proofs.locals.+using_loops.Given as goal
 

@@ -1,6 +1,6 @@
 use Rattle.std.proofs.Common.{rules, ◌++◌}
 use Rattle.ioa_trees.specs.Views.{view_automaton}
-use Rattle.ioa_rules.specs.AutomatonRules.{all_loops, all_of, entry_names}
+use Rattle.ioa_trees.specs.AutomatonRules.{all_loops, all_of, entry_names}
 use Rattle.ioa_check.specs.AutomatonParts.{formal_names, variable_names}
 use Rattle.ioa_check.specs.Sets.{Adds}
 use Rattle.ioa_check.specs.AutomatonViews.{used_names}

@@ -1,7 +1,7 @@
 use Rattle.std.proofs.Common.{rules, ◌≡◌, ◌+◌, ◌||◌, ◌++◌, bytes_eq, drop, map, ap, sym, ◌∙◌}
 use Rattle.std.specs.List.{list_any}
 use Rattle.ioa_trees.specs.Views.{view_entry}
-use Rattle.ioa_rules.specs.AutomatonRules.{entry_names, typed_names}
+use Rattle.ioa_trees.specs.AutomatonRules.{entry_names, typed_names}
 use Rattle.ioa_check.specs.Sets.{Adds}
 use Rattle.ioa_check.specs.AutomatonViews.{used_names}
 use Rattle.ioa_typing.proofs.Items.{drop_at}

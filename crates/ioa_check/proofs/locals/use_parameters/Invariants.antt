@@ -1,7 +1,7 @@
 use Rattle.std.proofs.Common.{◌≡◌, ℕ, ◌||◌, bytes_eq, List, drop, map}
 use Rattle.std.specs.List.{list_any}
 use Rattle.ioa_trees.specs.Views.{view_entry}
-use Rattle.ioa_rules.specs.AutomatonRules.{entry_names}
+use Rattle.ioa_trees.specs.AutomatonRules.{entry_names}
 use Rattle.ioa_check.specs.AutomatonViews.{used_names}
 use Rattle.ioa_check.proofs.locals.use_parameters.Given as goal
 

@@ -1,6 +1,6 @@
 use Rattle.std.proofs.Common.{◌≡◌, ◌++◌, length, map, Some}
 use Rattle.std.specs.Vec.Iter.{into_iter_items, into_iter_len}
-use Rattle.ioa_rules.specs.Meant.{AllSome}
+use Rattle.ioa_trees.specs.Meant.{AllSome}
 use Rattle.ioa_check.proofs.resolving.all.Given as goal
 
 abbrev pub invariant-loop-item : goal.invariant-loop-item

@@ -2,7 +2,7 @@ use Rattle.std.proofs.Common.{rules, arith, ◌≡◌, ◌∷◌, ◌++◌, leng
 use Rattle.std.specs.Vec.Iter.{into_iter_items}
 use Rattle.std.specs.List.{All}
 use Rattle.ioa_check.specs.Meant.{automaton_tree}
-use Rattle.ioa_rules.specs.Meant.{IsWholeAutomaton}
+use Rattle.ioa_trees.specs.Meant.{IsWholeAutomaton}
 use Rattle.ioa_check.specs.Resolutions.{automaton_meaning}
 use Rattle.ioa_check.proofs.Taken.{next_of, others_of, put}
 use Rattle.ioa_check.proofs.resolving.automata.Goals as goal

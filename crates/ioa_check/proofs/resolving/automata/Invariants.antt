@@ -2,7 +2,7 @@ use Rattle.std.proofs.Common.{◌≡◌, ◌++◌, length, map}
 use Rattle.std.specs.Vec.Iter.{into_iter_items, into_iter_len}
 use Rattle.std.specs.List.{All}
 use Rattle.ioa_check.specs.Meant.{automaton_tree}
-use Rattle.ioa_rules.specs.Meant.{IsWholeAutomaton}
+use Rattle.ioa_trees.specs.Meant.{IsWholeAutomaton}
 use Rattle.ioa_check.specs.Resolutions.{automaton_meaning}
 use Rattle.ioa_check.proofs.resolving.automata.Given as goal
 

@@ -1,7 +1,7 @@
 use Rattle.std.proofs.Common.{rules, arith, ◌≡◌, ◌∷◌, length, map, ap}
 use Rattle.std.specs.Vec.Iter.{into_iter_items}
 use Rattle.ioa_check.specs.ComponentViews.{component_tree}
-use Rattle.ioa_rules.specs.Meant.{IsWholeComponent}
+use Rattle.ioa_trees.specs.Meant.{IsWholeComponent}
 use Rattle.ioa_check.specs.Resolutions.{component_meaning}
 use Rattle.ioa_check.proofs.Taken.{next_of, others_of, put}
 use Rattle.ioa_check.proofs.resolving.components.Goals as goal

@@ -2,7 +2,7 @@ use Rattle.std.proofs.Common.{◌≡◌, ◌++◌, length, map}
 use Rattle.std.specs.Vec.Iter.{into_iter_items, into_iter_len}
 use Rattle.std.specs.List.{All}
 use Rattle.ioa_check.specs.ComponentViews.{component_tree}
-use Rattle.ioa_rules.specs.Meant.{IsWholeComponent}
+use Rattle.ioa_trees.specs.Meant.{IsWholeComponent}
 use Rattle.ioa_check.specs.Resolutions.{component_meaning}
 use Rattle.ioa_check.proofs.resolving.components.Given as goal
 

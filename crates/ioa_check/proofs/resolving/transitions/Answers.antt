@@ -1,7 +1,7 @@
 use Rattle.std.proofs.Common.{rules, arith, ◌≡◌, ◌∷◌, length, map, ap}
 use Rattle.std.specs.Vec.Iter.{into_iter_items}
 use Rattle.ioa_entries.specs.EntryViews.{meant_tree}
-use Rattle.ioa_rules.specs.Meant.{IsWholeEntry}
+use Rattle.ioa_trees.specs.Meant.{IsWholeEntry}
 use Rattle.ioa_check.specs.Resolutions.{transition_meaning}
 use Rattle.ioa_check.proofs.Taken.{next_of, others_of, put}
 use Rattle.ioa_check.proofs.resolving.transitions.Goals as goal

@@ -2,7 +2,7 @@ use Rattle.std.proofs.Common.{◌≡◌, ◌++◌, length, map}
 use Rattle.std.specs.Vec.Iter.{into_iter_items, into_iter_len}
 use Rattle.std.specs.List.{All}
 use Rattle.ioa_entries.specs.EntryViews.{meant_tree}
-use Rattle.ioa_rules.specs.Meant.{IsWholeEntry}
+use Rattle.ioa_trees.specs.Meant.{IsWholeEntry}
 use Rattle.ioa_check.specs.Resolutions.{transition_meaning}
 use Rattle.ioa_check.proofs.resolving.transitions.Given as goal
 

@@ -3,7 +3,7 @@ use Rattle.std.specs.Vec.Iter.{into_iter_items}
 use Rattle.terms.specs.TermTree.{TermTree}
 use Rattle.ioa_check.specs.AutomatonViews.{cell_kind, cell_start}
 use Rattle.ioa_typing.specs.KindViews.{option_tree}
-use Rattle.ioa_rules.specs.Kinds.{Kind}
+use Rattle.ioa_trees.specs.Kinds.{Kind}
 use Rattle.ioa_typing.specs.TermViews.{core_tree}
 use Rattle.ioa_check.specs.declared.resolved.Variable.{Variable}
 use Rattle.ioa_check.proofs.Taken.{others_of, put}

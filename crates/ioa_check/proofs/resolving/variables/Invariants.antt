@@ -2,7 +2,7 @@ use Rattle.std.proofs.Common.{◌≡◌, ◌++◌, length, map, Some}
 use Rattle.std.specs.Vec.Iter.{into_iter_items, into_iter_len}
 use Rattle.ioa_check.specs.AutomatonViews.{cell_kind, cell_start}
 use Rattle.ioa_typing.specs.KindViews.{option_tree}
-use Rattle.ioa_rules.specs.Meant.{AllSome}
+use Rattle.ioa_trees.specs.Meant.{AllSome}
 use Rattle.ioa_typing.specs.TermViews.{core_tree}
 use Rattle.ioa_check.proofs.resolving.variables.Given as goal
 

@@ -1,8 +1,8 @@
 use Rattle.std.proofs.Common.{arith, ◌≡◌, ◌+◌, ◌||◌, ◌∷◌, bytes_eq, drop, map, string_bytes, ap, sym, ◌∙◌}
 use Rattle.std.specs.List.{list_any}
 use Rattle.ioa_trees.specs.Views.{view_entry}
-use Rattle.ioa_rules.specs.AutomatonRules.{task_faults}
-use Rattle.ioa_rules.specs.Faults.{keep, where_wrong}
+use Rattle.ioa_trees.specs.AutomatonRules.{task_faults}
+use Rattle.ioa_trees.specs.Faults.{keep, where_wrong}
 use Rattle.ioa_typing.specs.TermViews.{least_tree}
 use Rattle.ioa_check.specs.AutomatonParts.{is_wrong_name}
 use Rattle.ioa_check.specs.AutomatonViews.{used_names}

@@ -1,8 +1,8 @@
 use Rattle.std.proofs.Common.{◌≡◌, ℕ, ◌+◌, ◌*◌, ◌||◌, bytes_eq, List, drop, map, string_bytes}
 use Rattle.std.specs.List.{list_any}
 use Rattle.ioa_trees.specs.Views.{view_entry}
-use Rattle.ioa_rules.specs.AutomatonRules.{task_faults}
-use Rattle.ioa_rules.specs.Faults.{keep}
+use Rattle.ioa_trees.specs.AutomatonRules.{task_faults}
+use Rattle.ioa_trees.specs.Faults.{keep}
 use Rattle.ioa_typing.specs.TermViews.{least_tree}
 use Rattle.ioa_check.specs.AutomatonViews.{used_names}
 use Rattle.ioa_check.proofs.tasks.check_names.Given as goal

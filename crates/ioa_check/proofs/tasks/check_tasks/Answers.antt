@@ -1,8 +1,8 @@
 use Rattle.std.proofs.Common.{rules, arith, ◌≡◌, ◌+◌, ◌∷◌, drop, map, string_bytes, ap, sym, ◌∙◌}
 use Rattle.ioa_trees.specs.Views.{view_entry}
-use Rattle.ioa_rules.specs.AutomatonRules.{task_faults, tasks_faults}
-use Rattle.ioa_rules.specs.Faults.{keep}
-use Rattle.ioa_rules.specs.Sizes.{row_size, task_size}
+use Rattle.ioa_trees.specs.AutomatonRules.{task_faults, tasks_faults}
+use Rattle.ioa_trees.specs.Faults.{keep}
+use Rattle.ioa_trees.specs.Sizes.{row_size, task_size}
 use Rattle.ioa_typing.specs.TermViews.{least_tree}
 use Rattle.ioa_check.specs.Sets.{Adds}
 use Rattle.ioa_check.specs.AutomatonViews.{used_names}

@@ -1,8 +1,8 @@
 use Rattle.std.proofs.Common.{◌≡◌, ◌+◌, [], drop, map}
 use Rattle.ioa_trees.specs.Views.{view_entry}
-use Rattle.ioa_rules.specs.AutomatonRules.{tasks_faults}
-use Rattle.ioa_rules.specs.Faults.{keep}
-use Rattle.ioa_rules.specs.Sizes.{row_size, task_size}
+use Rattle.ioa_trees.specs.AutomatonRules.{tasks_faults}
+use Rattle.ioa_trees.specs.Faults.{keep}
+use Rattle.ioa_trees.specs.Sizes.{row_size, task_size}
 use Rattle.ioa_typing.specs.TermViews.{least_tree}
 use Rattle.ioa_check.specs.AutomatonViews.{used_names}
 use Rattle.ioa_entries.specs.TaskNames.{task_names}

@@ -1,6 +1,6 @@
 use Rattle.std.proofs.Common.{rules, ◌≡◌, ◌+◌, ◌∷◌, false, drop, map, ap, sym, ◌∙◌}
 use Rattle.ioa_trees.specs.Views.{view_transition}
-use Rattle.ioa_rules.specs.AutomatonRules.{place_of}
+use Rattle.ioa_trees.specs.AutomatonRules.{place_of}
 use Rattle.ioa_check.specs.AutomatonParts.{is_controlled}
 use Rattle.ioa_typing.proofs.Items.{drop_at}
 use Rattle.ioa_check.proofs.Turns.{place_later}

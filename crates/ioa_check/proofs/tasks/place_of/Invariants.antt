@@ -1,6 +1,6 @@
 use Rattle.std.proofs.Common.{◌≡◌, drop, map}
 use Rattle.ioa_trees.specs.Views.{view_transition}
-use Rattle.ioa_rules.specs.AutomatonRules.{place_of}
+use Rattle.ioa_trees.specs.AutomatonRules.{place_of}
 use Rattle.ioa_check.proofs.tasks.place_of.Given as goal
 
 abbrev pub invariant-loop-place : goal.invariant-loop-place

@@ -1,7 +1,7 @@
 use Rattle.std.proofs.Common.{rules, ◌≡◌, ℕ, ◌+◌, ◌∷◌, ◌++◌, List, Vec, drop, map, string_bytes, ap, sym, ◌∙◌}
 use Rattle.std.specs.Global.{Global}
 use Rattle.ioa_trees.specs.Views.{view_transition}
-use Rattle.ioa_rules.specs.AutomatonRules.{place_of}
+use Rattle.ioa_trees.specs.AutomatonRules.{place_of}
 use Rattle.ioa_check.specs.AutomatonViews.{place_lists}
 use Rattle.ioa_entries.specs.TaskNames.{task_names}
 use Rattle.ioa_typing.proofs.Items.{drop_at, push_step}

@@ -1,8 +1,8 @@
 use Rattle.std.proofs.Common.{rules, arith, ◌≡◌, ◌+◌}
 use Rattle.ioa_trees.specs.Views.{view_variable}
-use Rattle.ioa_rules.specs.Faults.{keep}
-use Rattle.ioa_rules.specs.Sizes.{type_size}
-use Rattle.ioa_rules.specs.TypeRules.{kind_of}
+use Rattle.ioa_trees.specs.Faults.{keep}
+use Rattle.ioa_trees.specs.Sizes.{type_size}
+use Rattle.ioa_trees.specs.TypeRules.{kind_of}
 use Rattle.ioa_typing.specs.KindViews.{option_tree}
 use Rattle.ioa_typing.specs.NameViews.{names_tree}
 use Rattle.ioa_typing.specs.TermViews.{least_tree}

@@ -1,6 +1,6 @@
 use Rattle.std.proofs.Common.{◌≡◌, ◌+◌, ◌∷◌, None, drop, get_or, map, ap, sym, ◌∙◌}
 use Rattle.ioa_trees.specs.Views.{view_variable}
-use Rattle.ioa_rules.specs.AutomatonRules.{with_variables}
+use Rattle.ioa_trees.specs.AutomatonRules.{with_variables}
 use Rattle.ioa_typing.specs.KindViews.{option_tree}
 use Rattle.ioa_typing.specs.NameViews.{names_tree}
 use Rattle.ioa_check.specs.AutomatonParts.{kind_in}

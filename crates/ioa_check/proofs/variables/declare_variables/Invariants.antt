@@ -1,7 +1,7 @@
 use Rattle.std.proofs.Common.{◌≡◌, drop, map}
 use Rattle.ioa_trees.specs.Views.{view_variable}
-use Rattle.ioa_rules.specs.AutomatonRules.{with_variables}
-use Rattle.ioa_rules.specs.Scopes.{Scope}
+use Rattle.ioa_trees.specs.AutomatonRules.{with_variables}
+use Rattle.ioa_trees.specs.Scopes.{Scope}
 use Rattle.ioa_typing.specs.NameViews.{names_tree}
 use Rattle.ioa_check.specs.AutomatonParts.{kind_in}
 use Rattle.ioa_check.specs.AutomatonViews.{cell_kind}

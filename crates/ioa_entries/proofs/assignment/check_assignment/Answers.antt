@@ -1,11 +1,11 @@
 use Rattle.std.proofs.Common.{rules, arith, ◌≡◌, ◌+◌, not, ap, ◌∙◌}
 use Rattle.std.specs.Option.{is_some}
 use Rattle.ioa_trees.specs.Views.{option_view, view_init}
-use Rattle.ioa_rules.specs.Faults.{where_wrong}
-use Rattle.ioa_rules.specs.Scopes.{named, is_variable}
-use Rattle.ioa_rules.specs.Sizes.{at_size}
-use Rattle.ioa_rules.specs.EffectRules as rule
-use Rattle.ioa_rules.specs.ValueRules.{inner_faults, is_misfit}
+use Rattle.ioa_trees.specs.Faults.{where_wrong}
+use Rattle.ioa_trees.specs.Scopes.{named, is_variable}
+use Rattle.ioa_trees.specs.Sizes.{at_size}
+use Rattle.ioa_trees.specs.EffectRules as rule
+use Rattle.ioa_trees.specs.ValueRules.{inner_faults, is_misfit}
 use Rattle.ioa_typing.specs.NameViews.{names_tree}
 use Rattle.ioa_typing.specs.TermViews.{least_tree}
 use Rattle.ioa_entries.specs.EffectViews.{place_kind}

@@ -1,6 +1,6 @@
 use Rattle.std.proofs.Common.{map, take, ap, ◌∙◌}
 use Rattle.ioa_trees.specs.Views.{view_parameter}
-use Rattle.ioa_rules.specs.EntryRules.{with_parameters}
+use Rattle.ioa_trees.specs.EntryRules.{with_parameters}
 use Rattle.ioa_typing.specs.NameViews.{names_tree}
 use Rattle.ioa_entries.proofs.Rows.{take_parameters}
 use Rattle.ioa_entries.proofs.entries.check_bracketed.Goals as goal

@@ -1,9 +1,9 @@
 use Rattle.std.proofs.Common.{rules, arith, ◌≡◌, ◌+◌, ◌∷◌, drop, map, take, ap, sym, ◌∙◌}
 use Rattle.std.specs.Prelude.{reverse}
 use Rattle.ioa_trees.specs.Views.{view_entry, view_transition}
-use Rattle.ioa_rules.specs.EntryRules.{entries_faults, entry_faults}
-use Rattle.ioa_rules.specs.Faults.{keep}
-use Rattle.ioa_rules.specs.Sizes.{entry_size, row_size}
+use Rattle.ioa_trees.specs.EntryRules.{entries_faults, entry_faults}
+use Rattle.ioa_trees.specs.Faults.{keep}
+use Rattle.ioa_trees.specs.Sizes.{entry_size, row_size}
 use Rattle.ioa_typing.specs.NameViews.{names_tree}
 use Rattle.ioa_typing.specs.TermViews.{least_tree}
 use Rattle.ioa_entries.specs.TaskNames.{task_names}

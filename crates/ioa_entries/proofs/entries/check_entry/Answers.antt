@@ -1,6 +1,6 @@
 use Rattle.std.proofs.Common.{rules, arith, ◌≡◌, ◌+◌, map, option_map}
 use Rattle.ioa_trees.specs.Views.{view_entry, view_transition}
-use Rattle.ioa_rules.specs.EntryRules.{tuples}
+use Rattle.ioa_trees.specs.EntryRules.{tuples}
 use Rattle.ioa_typing.specs.KindViews.{capped}
 use Rattle.ioa_typing.specs.NameViews.{names_tree}
 use Rattle.ioa_typing.specs.TermViews.{least_tree}

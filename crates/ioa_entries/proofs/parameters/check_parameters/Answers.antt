@@ -2,9 +2,9 @@ use Rattle.std.proofs.Common.{rules, arith, ◌≡◌, ◌+◌, ◌∷◌, drop,
 use Rattle.ioa_trees.specs.Views.{view_parameter}
 use Rattle.ioa_typing.specs.KindViews.{capped}
 use Rattle.ioa_typing.specs.NameViews.{names_tree}
-use Rattle.ioa_rules.specs.EntryRules.{parameters_faults, times, tuples, with_parameters}
-use Rattle.ioa_rules.specs.Faults.{keep}
-use Rattle.ioa_rules.specs.Sizes.{listed_size, parameter_size}
+use Rattle.ioa_trees.specs.EntryRules.{parameters_faults, times, tuples, with_parameters}
+use Rattle.ioa_trees.specs.Faults.{keep}
+use Rattle.ioa_trees.specs.Sizes.{listed_size, parameter_size}
 use Rattle.ioa_typing.specs.TermViews.{least_tree}
 use Rattle.ioa_entries.specs.EntryParts.{after_parameter, between, parameter_faults, rest_size, values_of}
 use Rattle.ioa_entries.proofs.ParameterParts.{add_zero, capped_again, kept_between, names_next, parameter_kept, rest_sized, tuples_kept, tuples_start}

@@ -1,8 +1,8 @@
 use Rattle.std.proofs.Common.{◌≡◌, ◌+◌, drop, map, option_map}
 use Rattle.ioa_trees.specs.Views.{view_parameter}
-use Rattle.ioa_rules.specs.EntryRules.{parameters_faults, times, tuples, with_parameters}
-use Rattle.ioa_rules.specs.Faults.{keep}
-use Rattle.ioa_rules.specs.Sizes.{listed_size, parameter_size}
+use Rattle.ioa_trees.specs.EntryRules.{parameters_faults, times, tuples, with_parameters}
+use Rattle.ioa_trees.specs.Faults.{keep}
+use Rattle.ioa_trees.specs.Sizes.{listed_size, parameter_size}
 use Rattle.ioa_typing.specs.KindViews.{capped}
 use Rattle.ioa_typing.specs.NameViews.{names_tree}
 use Rattle.ioa_typing.specs.TermViews.{least_tree}

@@ -1,8 +1,8 @@
 use Rattle.std.proofs.Common.{rules, arith, ◌≡◌, ◌+◌, ◌∷◌, ◌++◌, drop, map, ap, sym, ◌∙◌}
 use Rattle.ioa_trees.specs.Views.{view_parameter}
 use Rattle.ioa_typing.specs.NameViews.{names_tree}
-use Rattle.ioa_rules.specs.EntryRules.{slots, with_parameters}
-use Rattle.ioa_rules.specs.Sizes.{listed_size, parameter_size}
+use Rattle.ioa_trees.specs.EntryRules.{slots, with_parameters}
+use Rattle.ioa_trees.specs.Sizes.{listed_size, parameter_size}
 use Rattle.ioa_entries.specs.EntryParts.{after_parameter, between, rest_size, slot_of}
 use Rattle.ioa_entries.specs.EntryViews.{slot_tree}
 use Rattle.ioa_entries.proofs.ParameterParts.{names_next, rest_sized, slots_next}

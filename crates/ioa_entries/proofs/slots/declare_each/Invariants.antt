@@ -1,7 +1,7 @@
 use Rattle.std.proofs.Common.{◌≡◌, ◌+◌, ◌++◌, drop, map}
 use Rattle.ioa_trees.specs.Views.{view_parameter}
-use Rattle.ioa_rules.specs.EntryRules.{slots, with_parameters}
-use Rattle.ioa_rules.specs.Sizes.{listed_size, parameter_size}
+use Rattle.ioa_trees.specs.EntryRules.{slots, with_parameters}
+use Rattle.ioa_trees.specs.Sizes.{listed_size, parameter_size}
 use Rattle.ioa_typing.specs.NameViews.{names_tree}
 use Rattle.ioa_entries.specs.EntryParts.{rest_size}
 use Rattle.ioa_entries.specs.EntryViews.{slot_tree}

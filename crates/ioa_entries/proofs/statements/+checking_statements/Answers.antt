@@ -1,11 +1,11 @@
 use Rattle.std.proofs.Common.{rules, arith, ◌≡◌, ◌+◌, ◌++◌, drop, map, take, ap, sym, ◌∙◌}
 use Rattle.ioa_trees.specs.Trees.{If, more_branches, more_statements, pack_branches}
 use Rattle.ioa_trees.specs.Views.{view, view_branch, view_declared, view_statement, view_statements}
-use Rattle.ioa_rules.specs.EffectRules.{branches_faults, effect_of, effects_of, in_loop, statement_faults, statements_faults}
-use Rattle.ioa_rules.specs.Faults.{keep}
-use Rattle.ioa_rules.specs.Sizes.{branches_size, later_size, statement_size, statements_size}
-use Rattle.ioa_rules.specs.Scopes.{OfLoop}
-use Rattle.ioa_rules.specs.TypeRules.{kind_of}
+use Rattle.ioa_trees.specs.EffectRules.{branches_faults, effect_of, effects_of, in_loop, statement_faults, statements_faults}
+use Rattle.ioa_trees.specs.Faults.{keep}
+use Rattle.ioa_trees.specs.Sizes.{branches_size, later_size, statement_size, statements_size}
+use Rattle.ioa_trees.specs.Scopes.{OfLoop}
+use Rattle.ioa_trees.specs.TypeRules.{kind_of}
 use Rattle.ioa_typing.specs.NameViews.{names_tree}
 use Rattle.ioa_typing.specs.TermViews.{least_tree}
 use Rattle.ioa_entries.specs.EffectLists.{arm_list, choice, effect_list}

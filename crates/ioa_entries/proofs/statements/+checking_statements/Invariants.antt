@@ -1,9 +1,9 @@
 use Rattle.std.proofs.Common.{◌≡◌, ◌++◌, ◌+◌, ◌≤◌, drop, map}
 use Rattle.ioa_trees.specs.Trees.{pack_branches}
 use Rattle.ioa_trees.specs.Views.{view_branch, view_statements}
-use Rattle.ioa_rules.specs.EffectRules.{branches_faults, statements_faults}
-use Rattle.ioa_rules.specs.Faults.{keep}
-use Rattle.ioa_rules.specs.Sizes.{branches_size, statements_size}
+use Rattle.ioa_trees.specs.EffectRules.{branches_faults, statements_faults}
+use Rattle.ioa_trees.specs.Faults.{keep}
+use Rattle.ioa_trees.specs.Sizes.{branches_size, statements_size}
 use Rattle.ioa_typing.specs.NameViews.{names_tree}
 use Rattle.ioa_typing.specs.TermViews.{least_tree}
 use Rattle.ioa_entries.specs.EffectLists.{arm_list, effect_list}

@@ -1,9 +1,9 @@
 use Rattle.std.proofs.Common.{rules, arith, ◌≡◌, ◌+◌, ap, ◌∙◌}
 use Rattle.ioa_trees.specs.Views.{view_transition}
-use Rattle.ioa_rules.specs.EffectRules.{statements_faults}
-use Rattle.ioa_rules.specs.EntryRules.{pre_faults, with_parameters}
-use Rattle.ioa_rules.specs.Faults.{keep}
-use Rattle.ioa_rules.specs.Sizes.{entry_size, pre_size}
+use Rattle.ioa_trees.specs.EffectRules.{statements_faults}
+use Rattle.ioa_trees.specs.EntryRules.{pre_faults, with_parameters}
+use Rattle.ioa_trees.specs.Faults.{keep}
+use Rattle.ioa_trees.specs.Sizes.{entry_size, pre_size}
 use Rattle.ioa_typing.specs.NameViews.{names_tree}
 use Rattle.ioa_typing.specs.TermViews.{least_tree}
 use Rattle.ioa_entries.proofs.Rows.{inside_noted}

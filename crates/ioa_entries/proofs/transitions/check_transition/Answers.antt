@@ -1,6 +1,6 @@
 use Rattle.std.proofs.Common.{rules, map, take, ap, ◌∙◌}
 use Rattle.ioa_trees.specs.Views.{view_entry, view_transition}
-use Rattle.ioa_rules.specs.EntryRules.{with_parameters}
+use Rattle.ioa_trees.specs.EntryRules.{with_parameters}
 use Rattle.ioa_typing.specs.NameViews.{names_tree}
 use Rattle.ioa_typing.specs.TermViews.{least_tree}
 use Rattle.ioa_entries.proofs.Rows.{again_is, take_parameters, transition_noted}

@@ -1,9 +1,9 @@
 use Rattle.std.proofs.Common.{◌≡◌, ◌+◌, ◌++◌, [], drop, map, take}
 use Rattle.std.specs.Prelude.{reverse}
 use Rattle.ioa_trees.specs.Views.{view_entry, view_transition}
-use Rattle.ioa_rules.specs.EntryRules.{meant_by, transitions_faults}
-use Rattle.ioa_rules.specs.Faults.{keep}
-use Rattle.ioa_rules.specs.Sizes.{row_size, transition_size}
+use Rattle.ioa_trees.specs.EntryRules.{meant_by, transitions_faults}
+use Rattle.ioa_trees.specs.Faults.{keep}
+use Rattle.ioa_trees.specs.Sizes.{row_size, transition_size}
 use Rattle.ioa_typing.specs.NameViews.{names_tree}
 use Rattle.ioa_typing.specs.TermViews.{least_tree}
 use Rattle.ioa_entries.specs.EntryViews.{meant_tree}

@@ -3,8 +3,8 @@ use Rattle.ioa_trees.specs.declared.tree.Init.{the_lemmas}
 use Rattle.ioa_trees.specs.Trees.{Empty, Fill}
 use Rattle.ioa_trees.specs.Views.{view_init}
 use Rattle.ioa_typing.specs.NameViews.{names_tree}
-use Rattle.ioa_rules.specs.ValueRules.{misfits}
-use Rattle.ioa_rules.specs.EffectRules.{item_of}
+use Rattle.ioa_trees.specs.ValueRules.{misfits}
+use Rattle.ioa_trees.specs.EffectRules.{item_of}
 use Rattle.ioa_entries.specs.EffectViews.{place_kind, misfit_faults}
 use Rattle.ioa_entries.proofs.values.+check_init.Goals as goal
 

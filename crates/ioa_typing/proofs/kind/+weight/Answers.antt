@@ -1,6 +1,6 @@
 use Rattle.std.proofs.Common.{rules, ◌≡◌}
 use Rattle.ioa_typing.specs.declared.kind.Kind.{the_lemmas}
-use Rattle.ioa_rules.specs.Kinds.{weight, count, SeqOf, ArrayOf}
+use Rattle.ioa_trees.specs.Kinds.{weight, count, SeqOf, ArrayOf}
 use Rattle.ioa_typing.specs.KindViews.{kind_tree}
 use Rattle.ioa_typing.proofs.Capped.{product_is}
 use Rattle.ioa_typing.proofs.kind.+weight.Goals as goal

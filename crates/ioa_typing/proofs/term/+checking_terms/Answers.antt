@@ -3,10 +3,10 @@ use Rattle.ioa_trees.specs.declared.tree.Term.{the_lemmas}
 use Rattle.ioa_trees.specs.declared.tree.Addend as addend
 use Rattle.ioa_trees.specs.Trees.{no_factor, more_factors, Append, Index, Product, Sum, Compare, And, Or, Times, pack_terms, pack_factors, pack_addends}
 use Rattle.ioa_trees.specs.Views.{view, view_factor, view_addend}
-use Rattle.ioa_rules.specs.Faults.{Fault, keep}
-use Rattle.ioa_rules.specs.Sizes.{size}
-use Rattle.ioa_rules.specs.Kinds.{is_seq, is_truth, is_whole}
-use Rattle.ioa_rules.specs.TermRules.{Judged, faults, judge, wants, append_faults, compare_faults, index_faults, indexes_faults, factors_faults, addends_faults, truths_faults, indexed, multiplied, added, combined, joined, element_of, operator_of, truth_of, whole_of}
+use Rattle.ioa_trees.specs.Faults.{Fault, keep}
+use Rattle.ioa_trees.specs.Sizes.{size}
+use Rattle.ioa_trees.specs.Kinds.{is_seq, is_truth, is_whole}
+use Rattle.ioa_trees.specs.TermRules.{Judged, faults, judge, wants, append_faults, compare_faults, index_faults, indexes_faults, factors_faults, addends_faults, truths_faults, indexed, multiplied, added, combined, joined, element_of, operator_of, truth_of, whole_of}
 use Rattle.ioa_typing.specs.NameViews.{names_tree}
 use Rattle.ioa_typing.specs.TermViews.{core_tree, judged_tree, least_tree}
 use Rattle.ioa_typing.proofs.Keeps.{keep_both, keep_three, keep_parts}

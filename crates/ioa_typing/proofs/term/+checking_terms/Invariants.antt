@@ -1,9 +1,9 @@
 use Rattle.std.proofs.Common.{◌≡◌, ◌+◌, drop, map}
 use Rattle.ioa_trees.specs.Trees.{pack_terms, pack_factors, pack_addends}
 use Rattle.ioa_trees.specs.Views.{view, view_factor, view_addend}
-use Rattle.ioa_rules.specs.Faults.{keep}
-use Rattle.ioa_rules.specs.Sizes.{joined_size, indexes_size, factors_size, addends_size}
-use Rattle.ioa_rules.specs.TermRules as rule
+use Rattle.ioa_trees.specs.Faults.{keep}
+use Rattle.ioa_trees.specs.Sizes.{joined_size, indexes_size, factors_size, addends_size}
+use Rattle.ioa_trees.specs.TermRules as rule
 use Rattle.ioa_typing.specs.NameViews.{names_tree}
 use Rattle.ioa_typing.specs.TermViews.{core_tree, judged_tree, least_tree}
 use Rattle.ioa_typing.proofs.term.+checking_terms.Given as goal

@@ -2,9 +2,9 @@ use Rattle.std.proofs.Common.{rules, arith, ◌≡◌, ◌++◌, ◌+◌, ℕ, L
 use Rattle.ioa_trees.specs.declared.tree.TypeTree.{the_lemmas}
 use Rattle.ioa_trees.specs.Trees.{SeqOf, ArrayOf}
 use Rattle.ioa_trees.specs.Views.{view_type}
-use Rattle.ioa_rules.specs.Sizes.{type_size}
-use Rattle.ioa_rules.specs.TypeRules.{type_faults, kind_of, is_bad_bound, overweight}
-use Rattle.ioa_rules.specs.Faults.{Fault, where_wrong}
+use Rattle.ioa_trees.specs.Sizes.{type_size}
+use Rattle.ioa_trees.specs.TypeRules.{type_faults, kind_of, is_bad_bound, overweight}
+use Rattle.ioa_trees.specs.Faults.{Fault, where_wrong}
 use Rattle.ioa_typing.specs.NameViews.{names_tree}
 use Rattle.ioa_typing.specs.TermViews.{least_tree}
 use Rattle.ioa_typing.proofs.Keeps.{keep_both, keep_three}

@@ -1,5 +1,0 @@
-use Rattle.ioa_rules.proofs.AutomataMeant.{automaton_if}
-use Rattle.ioa_rules.proofs.meant.automata_meant_law.Goals as goal
-
-pub returns : goal.returns
-returns c = record { meant = automaton_if }

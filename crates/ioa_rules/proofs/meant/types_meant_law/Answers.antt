@@ -1,5 +1,0 @@
-use Rattle.ioa_rules.proofs.TypesMeant.{kind_if}
-use Rattle.ioa_rules.proofs.meant.types_meant_law.Goals as goal
-
-pub returns : goal.returns
-returns c = record { meant = kind_if }
