@@ -1,14 +1,14 @@
 mod Beginnings
-pub mod Checked
+mod Checked
 pub mod DrawReports
-pub mod DriveReports
+mod DriveReports
 mod Driven
 pub mod FileReports
 mod Fronted
 pub mod HuntReports
-pub mod Pieces
-pub mod Reporting
+mod Pieces
+mod Reporting
 mod Rising
-pub mod SetupReports
+mod SetupReports
 mod Streaming
-pub mod Tellings
+mod Tellings

@@ -16,11 +16,10 @@ use Rattle.workers.specs.Runs.{IsWhole}
 use Rattle.commands.specs.declared.report.Report.{Report}
 use Rattle.commands.specs.declared.report.Report.TheVariants.{Done, No, Driven, Ran, Explained, Refused, Fault, Misused}
 use Rattle.commands.specs.Checks.{IsActionsReport, IsNo, IsVerdictOn, IsYes}
-use Rattle.service.specs.Crews.{IsCrewReport}
+use Rattle.service.specs.Crews.{IsCrewReport, IsRunFileReport}
 use Rattle.commands.specs.Drives.{IsStepsReport}
 use Rattle.commands.specs.Explained.{AllTold, IsExplainReport, IsStoryReport, IsTellingReport, LacksAny, named}
 use Rattle.commands.specs.FileReports.{FilesMean, FilesMeanNone, IsCheckFileReport, IsDriveFileReport, IsSimulateFileReport, IsSmallReport, form_for}
-use Rattle.service.specs.Crews.{IsRunFileReport}
 use Rattle.service.specs.Flushed.{IsFlushed, IsFlushedWhere}
 use Rattle.commands.specs.Parts.{IsSimulationReport}
 use Rattle.commands.specs.Reports.{is_served, IsPrintReport}
