@@ -1,14 +1,17 @@
 //! One case.
 
 use crate::crew::owned;
-use commands::{FileFault, Files, Unwatched};
+use crate::narrow::Narrow;
+use commands::{FileFault, Files, Looks};
 use compose::compose;
 use ioa_check::check;
 use ioa_front::read;
 use serde_json::{Error, Value};
 use service::serve::serve;
 use std::alloc::{AllocError, Global};
+use std::str;
 use std::sync::Wait;
+use std::sync::atomic::{AtomicU64, Ordering};
 use std::thread::Threads;
 use terms::Refusal;
 use trace::Counted;
@@ -30,6 +33,38 @@ const CREWS: [(&str, &str); 8] = [
 #[derive(Drop)]
 pub struct Case {
     value: Value,
+}
+
+// How many seeds were looked at.
+#[derive(Drop)]
+struct Tally {
+    looked: AtomicU64,
+}
+
+impl Tally {
+    fn new() -> Tally {
+        Tally {
+            looked: AtomicU64::new(0),
+        }
+    }
+}
+
+impl Looks for Tally {
+    fn looked(&self) {
+        self.looked.fetch_add(1, Ordering::SeqCst);
+    }
+}
+
+// Whether all is done by this status: of what is refused only `explain` writes anything. Then what was written is flushed, and only then.
+fn is_done(status: u8, held: &[u8]) -> bool {
+    status == 0 || status == 4 || (status == 1 && !held.is_empty())
+}
+
+fn has_part(bytes: &[u8], part: &str) -> bool {
+    match str::from_utf8(bytes) {
+        Ok(text) => text.contains(part),
+        Err(_) => false,
+    }
 }
 
 /// The files of a case, by their names.
@@ -236,13 +271,27 @@ impl Case {
             return Ok(false);
         };
         let files = CaseFiles { files };
-        let mut out = Counted::new(Vec::new(alloc));
+        let tally = Tally::new();
+        let room = self.number("room").unwrap_or(u64::MAX) as usize;
+        let is_stuck = self.value.get("stuck").is_some();
+        let mut out = Counted::new(Narrow::new(Vec::new(alloc), room, is_stuck));
         let mut err = Counted::new(Vec::new(alloc));
-        let status = serve(rt, alloc, words, &files, &Unwatched, &mut out, &mut err);
-        let status_is_right = self.number("status") == Some(u64::from(status));
-        let out_is_right = self.has_text(alloc, "stdout", out.into_inner().as_slice())?;
+        let status = serve(rt, alloc, words, &files, &tally, &mut out, &mut err);
+        let out = out.into_inner();
+        let is_right = self.number("status") == Some(u64::from(status))
+            && out.is_flushed == is_done(status, out.held.as_slice())
+            && self.has_looked(&tally);
+        let out_is_right = self.has_text(alloc, "stdout", out.held.as_slice())?;
         let err_is_right = self.has_text(alloc, "stderr", err.into_inner().as_slice())?;
-        Ok(status_is_right && out_is_right && err_is_right)
+        Ok(is_right && out_is_right && err_is_right)
+    }
+
+    // Whether as many seeds were looked at as the case wants; any number will do where it says none.
+    fn has_looked(&self, tally: &Tally) -> bool {
+        match self.number("looked") {
+            None => true,
+            Some(wanted) => tally.looked.load(Ordering::SeqCst) == wanted,
+        }
     }
 
     // Whether it is a run that is done to its end, and the case doesn't say that it is for its own words alone.
@@ -264,11 +313,14 @@ impl Case {
         Ok(words)
     }
 
-    // Whether the bytes are what the case wants under this name; anything will do where it says nothing.
+    // Whether the bytes are what the case wants under this name, or have the part that it wants; anything will do where it says nothing.
     fn has_text(&self, alloc: Global, name: &str, bytes: &[u8]) -> Result<bool, AllocError> {
         match self.value.get(name) {
             None | Some(Value::Null) => Ok(true),
-            Some(wanted) => Ok(content_of(alloc, wanted)?.as_slice() == bytes),
+            Some(wanted) => match wanted.get("has").and_then(Value::as_str) {
+                Some(part) => Ok(has_part(bytes, part)),
+                None => Ok(content_of(alloc, wanted)?.as_slice() == bytes),
+            },
         }
     }
 }

@@ -3,23 +3,27 @@
 //!
 //! A line of a file of cases is one case in JSON. For the service: the words after the program's name, the files by their names (a
 //! character is one byte; a list of texts is these one after another, each so often as a number before it says), what standard output and
-//! standard error have to be (`null`: anything), and the status. For the check: a
-//! source, with the number of its refusal (`null`: it is accepted) and the token at which it stands.
-//! For the composition: the same under the name `composed`, and the number of the component.
+//! standard error have to be (`null`: anything; `has`: this part), and the status; where it says so, how many bytes the output takes (`room`),
+//! that it fails to flush (`stuck`), and how many seeds are looked at (`looked`). For the check: a source, with the number of its refusal
+//! (`null`: it is accepted) and the token at which it stands. For the composition: the same under the name `composed`, and the number of the
+//! component.
 //!
 //! A file whose name ends with `.ioa` is a source, which is run by 1 to 8 workers and has to come out as by one thread, 200 runs of all sources.
 //!
-//! The word `lists` names no file: it has `fixtures` drive worlds by twelve lists of steps whose replies are known; worlds of four small
-//! compositions by a thousand random lists of steps, whose committed turns are compared with those of the one-thread simulator; and their exchanges
-//! by 1,250 random lists of calls, a thousand of them with windows, whose turns are compared with those of two simulators, and what is done and
-//! waits with the window's bounds.
+//! Two words name no file. `engines` calls the engines that take bytes. `lists` has `fixtures` drive worlds by twelve lists of steps whose replies
+//! are known; worlds of four small compositions by a thousand random lists of steps, whose committed turns are compared with those of the
+//! one-thread simulator; and their exchanges by 1,250 random lists of calls, a thousand of them with windows, whose turns are compared with those
+//! of two simulators, and what is done and waits with the window's bounds.
 #![tactic(auto)]
 
 mod case;
 mod crew;
+mod engines;
+mod narrow;
 
 use crate::case::Case;
 use crate::crew::run_all;
+use crate::engines::try_engines;
 use fixtures::Count;
 use fixtures::lists::try_lists;
 use std::alloc::{AllocGlobal, Global};
@@ -44,7 +48,7 @@ fn main(rt: HostRuntime) -> anyhow::Result<ExitCode> {
     Ok(ExitCode::from(if count.failed == 0 { 0 } else { 1 }))
 }
 
-// Tries the lists, or the cases of a file; a source is kept.
+// Tries the lists, the engines, or the cases of a file; a source is kept.
 fn try_word<R: AllocGlobal + Files + Threads + Wait + Sync + Eprint>(
     rt: &R,
     alloc: Global,
@@ -54,6 +58,9 @@ fn try_word<R: AllocGlobal + Files + Threads + Wait + Sync + Eprint>(
 ) -> anyhow::Result<()> {
     if word == "lists" {
         return try_lists(alloc, count);
+    }
+    if word == "engines" {
+        return try_engines(rt, alloc, count);
     }
     let text = fs::read_to_string(rt, word)?;
     if word.ends_with(".ioa") {
