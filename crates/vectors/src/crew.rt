@@ -1,11 +1,12 @@
 //! Sources by 1 to 8 workers, beside the one-thread simulator.
-use commands::{FileFault, Files, Unwatched};
+
+use crate::given::Given;
+use crate::served::ask;
+use cases::owned;
 use fixtures::Count;
-use service::serve::serve;
-use std::alloc::{AllocError, Global};
+use std::alloc::Global;
 use std::sync::Wait;
 use std::thread::Threads;
-use trace::Counted;
 
 // How often a source is run, in all.
 const RUNS: u64 = 200;
@@ -17,62 +18,26 @@ const BUDGETS: [&str; 5] = ["1", "2", "7", "64", "1000"];
 // Each for some runs of each source; the first stands for none.
 const WINDOWS: [&str; 5] = ["", "1", "2", "7", "65535"];
 
-// One file in memory, under the name F.
-#[derive(Clone, Copy)]
-struct Source<'a> {
-    text: &'a str,
-}
-
-impl<'a> Files for Source<'a> {
-    ghost has = { λ _ _ _. Unit {0} };
-
-    ghost lacks = { λ _ _. Unit {0} };
-
-    fn read(&self, alloc: Global, name: &str, most: u64) -> Result<Vec<u8>, FileFault> {
-        if name != "F" {
-            return Err(FileFault::Failed);
-        }
-        let count = (self.text.len() as u64).min(most) as usize;
-        match self.text.as_bytes()[..count].to_vec(alloc) {
-            Ok(bytes) => Ok(bytes),
-            Err(_) => Err(FileFault::NoMemory),
-        }
-    }
-}
-
 // What the program writes to these words; nothing where it fails, or writes an error.
 fn written<R: Threads + Wait + Sync>(
     rt: &R,
     alloc: Global,
     words: &[&str],
-    source: Source,
+    source: &str,
 ) -> anyhow::Result<Vec<u8>> {
     let said = owned(alloc, words)?;
-    let mut out = Counted::new(Vec::new(alloc));
-    let mut err = Counted::new(Vec::new(alloc));
-    let status = serve(
+    let mut answer = ask(
         rt,
         alloc,
         said.as_slice(),
-        &source,
-        &Unwatched,
-        &mut out,
-        &mut err,
+        Given::Source(source),
+        usize::MAX,
+        false,
     );
-    let mut text = out.into_inner();
-    if status != 0 || !err.into_inner().is_empty() {
-        text.clear();
+    if answer.status != 0 || !answer.err.is_empty() {
+        answer.out.clear();
     }
-    Ok(text)
-}
-
-/// The words as values of their own.
-pub fn owned(alloc: Global, words: &[&str]) -> Result<Vec<String>, AllocError> {
-    let mut owned = Vec::new(alloc);
-    for word in words {
-        owned.push(String::from_str(alloc, word)?)?;
-    }
-    Ok(owned)
+    Ok(answer.out)
 }
 
 // Whether run number k of a source writes just what one thread does, and something.
@@ -80,7 +45,7 @@ fn is_same<R: Threads + Wait + Sync>(
     rt: &R,
     alloc: Global,
     k: u64,
-    source: Source,
+    source: &str,
 ) -> anyhow::Result<bool> {
     let seed = format!(in alloc; "{k}")?;
     let workers = WORKERS[(k % 8) as usize];
@@ -96,7 +61,7 @@ fn is_same_by<R: Threads + Wait + Sync>(
     workers: &str,
     budget: &str,
     window: &str,
-    source: Source,
+    source: &str,
 ) -> anyhow::Result<bool> {
     let alone = ["reference", "F", "--seed", seed, "--ticks", "500"];
     let shared = [
@@ -131,7 +96,7 @@ pub fn run_all<R: Threads + Wait + Sync + Eprint>(
     }
     for k in 0..RUNS {
         let text = texts[(k % texts.len() as u64) as usize].as_str();
-        let is_well = is_same(rt, alloc, k, Source { text })?;
+        let is_well = is_same(rt, alloc, k, text)?;
         count.add(is_well);
         if !is_well {
             eprintln!(rt; "run {k}: failed")?;

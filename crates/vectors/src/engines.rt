@@ -1,5 +1,6 @@
 //! The engines that take bytes: what they write, and what their reports say.
 
+use crate::narrow::Narrow;
 use command_line::Crew;
 use commands::GivenTurns;
 use commands::drives::drive_source;
@@ -43,11 +44,11 @@ const SIMULATED: [(&str, &str, u64, &str, &str); 7] = [
 ];
 
 // Whether an engine wrote this, and this is said of its report.
-fn came_to(alloc: Global, report: &Report, out: Counted<Vec<u8>>, text: &str, said: &str) -> bool {
+fn came_to(alloc: Global, report: &Report, out: Counted<Narrow>, text: &str, said: &str) -> bool {
     let mut err = Counted::new(Vec::new(alloc));
     report.tell(&mut err);
     let (out, err) = (out.into_inner(), err.into_inner());
-    let is_right = out.as_slice() == text.as_bytes() && err.as_slice() == said.as_bytes();
+    let is_right = out.held.as_slice() == text.as_bytes() && err.as_slice() == said.as_bytes();
     drop(out);
     drop(err);
     is_right
@@ -67,10 +68,10 @@ fn are_simulated<R: Threads + Wait + Sync>(
         window: Some(2),
         stats: false,
     };
-    let mut out = Counted::new(Vec::new(alloc));
+    let mut out = Counted::new(Narrow::wide(alloc));
     let report = simulate_source(alloc, source, given, ticks, ALL, &mut out);
     let alone = came_to(alloc, &report, out, text, said);
-    let mut out = Counted::new(Vec::new(alloc));
+    let mut out = Counted::new(Narrow::wide(alloc));
     let report = run_source(
         rt, alloc, source, given, ticks, crew, &Unheld, ALL, &mut out,
     );
@@ -80,14 +81,14 @@ fn are_simulated<R: Threads + Wait + Sync>(
 // Whether turns by this and these steps write and say this.
 fn is_driven(alloc: Global, given: GivenTurns, steps: &str, text: &str, said: &str) -> bool {
     let (ring, steps) = (RING.as_bytes(), steps.as_bytes());
-    let mut out = Counted::new(Vec::new(alloc));
+    let mut out = Counted::new(Narrow::wide(alloc));
     let report = drive_source(alloc, ring, given, 4, steps, ALL, &mut out);
     came_to(alloc, &report, out, text, said)
 }
 
 // Whether these actions have this report and this text.
 fn is_checked(alloc: Global, actions: &str, wanted: &Report, text: &str) -> bool {
-    let mut out = Counted::new(Vec::new(alloc));
+    let mut out = Counted::new(Narrow::wide(alloc));
     let report = check_source(alloc, RING.as_bytes(), actions.as_bytes(), &mut out);
     report == *wanted && came_to(alloc, &report, out, text, "")
 }

@@ -16,14 +16,16 @@
 //! of two simulators, and what is done and waits with the window's bounds.
 #![tactic(auto)]
 
-mod case;
 mod crew;
 mod engines;
+mod given;
 mod narrow;
+mod served;
 
-use crate::case::Case;
 use crate::crew::run_all;
 use crate::engines::try_engines;
+use crate::served::comes_out;
+use cases::Case;
 use fixtures::Count;
 use fixtures::lists::try_lists;
 use std::alloc::{AllocGlobal, Global};
@@ -89,7 +91,7 @@ fn try_all<R: Threads + Wait + Sync + Eprint>(
 
 fn has_passed<R: Threads + Wait + Sync>(rt: &R, alloc: Global, line: &str) -> anyhow::Result<bool> {
     let case = Case::read(alloc, line)?;
-    let has_passed = case.comes_out(rt, alloc);
+    let has_passed = comes_out(rt, alloc, &case);
     drop(case);
     Ok(has_passed?)
 }

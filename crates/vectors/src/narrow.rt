@@ -1,5 +1,6 @@
 //! A writer that may be full, and may fail to flush.
 
+use std::alloc::Global;
 use std::io::{self, Write};
 
 /// A writer over memory that takes so many bytes in all, may fail to flush, and knows whether it was flushed after the last write.
@@ -19,6 +20,11 @@ impl Narrow {
             is_stuck,
             is_flushed: false,
         }
+    }
+
+    /// One that takes all.
+    pub fn wide(alloc: Global) -> Narrow {
+        Narrow::new(Vec::new(alloc), usize::MAX, false)
     }
 }
 

@@ -1,4 +1,0 @@
-use Rattle.vectors.proofs.case.CaseFilesFiles.read.Goals as goal
-
-pub returns-clause-bytes : goal.returns-clause-bytes
-returns-clause-bytes c = record { all = c.in-Ok.bytes.items; is = tt; front = c.truncate.ensures.items }
