@@ -1,9 +1,13 @@
 -- Why a hunt ends early.
-use Rattle.std.specs.Prelude.{◌<◌, ◌⊎◌, ℕ, Option, None}
+use Rattle.std.specs.Prelude.{◌≡◌, ◌<◌, ◌⊎◌, ℕ, Option, None}
 use Rattle.compose.specs.Composed.{IsComposed, IsRefused}
 use Rattle.compose.specs.Refusals.{source_number, source_place}
 use Rattle.plans.specs.declared.plan.Plan.{Plan}
 use Rattle.task_seed.specs.Refusals.{seed_turns_number, setup_number}
+use Rattle.task_seed.specs.declared.seed_turns.SeedTurnsError.{SeedTurnsError}
+use Rattle.task_seed.specs.declared.seed_turns.SeedTurnsError.TheVariants.{GapOutOfRange}
+use Rattle.task_seed.specs.declared.setup.SetupError.{SetupError}
+use Rattle.task_seed.specs.declared.setup.SetupError.TheVariants.{HorizonTooLarge}
 use Rattle.trace.specs.declared.fault.WriteFault.{WriteFault}
 use Rattle.trace.specs.declared.fault.TraceError.{TraceError}
 use Rattle.trace.specs.Puts.{written_of}
@@ -11,8 +15,9 @@ use Rattle.trace.specs.Refusals.{fault_number, trace_number, trace_place}
 use Rattle.hunt.specs.declared.course.Course.{Course}
 use Rattle.hunt.specs.declared.fault.HuntFault.{HuntFault}
 use Rattle.hunt.specs.declared.fault.HuntFault.TheVariants as fault
-use Rattle.hunt.specs.Seeds.{Hunted}
-use Rattle.hunt.specs.Wanted.{IsUnwanted}
+use Rattle.hunt.specs.declared.wanted.Wanted.{Wanted}
+use Rattle.hunt.specs.Seeds.{HasGap, Hunted}
+use Rattle.hunt.specs.Wanted.{IsUnwanted, IsWanted}
 
 abbrev pub hunt_number : HuntFault → ℕ
 hunt_number fault.NoMemory = 1
@@ -30,23 +35,40 @@ hunt_place (fault.Ticks refusal) = None
 hunt_place (fault.Action refusal) = trace_place refusal
 hunt_place (fault.Write failed) = None
 
--- the greatest gap isn't 1 to 65,535
-abbrev pub IsBadGap : Course → Type 0
-IsBadGap course = (course.gap < 1) ⊎ (65535 < course.gap)
-
 -- the source means a plan of which the text names no action
 pub record NamesNothing (h : Hunted) (error : TraceError) : Type 0 where
   pub plan : Plan
   pub composed : IsComposed h.source plan
   pub unwanted : IsUnwanted plan h.action error
 
--- Why a hunt ends: what was there is kept, or a write failed and the text is cut.
+-- the source means a plan, and the text names actions of it
+pub record NamesSome (h : Hunted) : Type 0 where
+  pub plan : Plan
+  pub wanted : Wanted
+  pub composed : IsComposed h.source plan
+  pub named : IsWanted plan h.action wanted
+
+-- there are such actions, and the greatest gap isn't 1 to 65,535
+pub record IsBadGap (h : Hunted) (error : SeedTurnsError) : Type 0 where
+  pub named : NamesSome h
+  pub outside : (h.course.gap < 1) ⊎ (65535 < h.course.gap)
+  pub is : error ≡ GapOutOfRange
+
+-- there are such actions, the gap is in its range, and the last tick is above its own
+pub record IsTooLong (h : Hunted) (error : SetupError) : Type 0 where
+  pub named : NamesSome h
+  pub gap : HasGap h.course
+  pub long : 4294967296 < h.course.ticks
+  pub is : error ≡ HorizonTooLarge
+
+-- Why a hunt ends: what was there is kept, or a write failed and the text is cut. The source is
+-- judged first, then the action, the gap and the last tick.
 abbrev pub IsUnhunted : Hunted → Type 0 → (WriteFault → Type 0) → HuntFault → Type 0
 IsUnhunted h kept cut fault.NoMemory = kept
 IsUnhunted h kept cut (fault.Source refusal) = IsRefused h.source refusal × kept
-IsUnhunted h kept cut (fault.Turns refusal) = IsBadGap h.course × kept
-IsUnhunted h kept cut (fault.Ticks refusal) = (4294967296 < h.course.ticks) × kept
 IsUnhunted h kept cut (fault.Action refusal) = NamesNothing h refusal × kept
+IsUnhunted h kept cut (fault.Turns refusal) = IsBadGap h refusal × kept
+IsUnhunted h kept cut (fault.Ticks refusal) = IsTooLong h refusal × kept
 IsUnhunted h kept cut (fault.Write failed) = cut failed
 
 -- why a seed isn't looked at, where nothing is written

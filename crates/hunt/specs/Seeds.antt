@@ -1,5 +1,5 @@
 -- What the turns of a seed make of a source.
-use Rattle.std.specs.Prelude.{◌≡◌, ℕ, Bool, true, false, List}
+use Rattle.std.specs.Prelude.{◌≡◌, ◌≤◌, ℕ, Bool, true, false, List}
 use Rattle.event_keys.specs.declared.outcome.Turned.{Turned}
 use Rattle.compose.specs.Composed.{IsComposed}
 use Rattle.plans.specs.declared.plan.Plan.{Plan}
@@ -25,8 +25,15 @@ abbrev pub least_gap : Bool → ℕ
 least_gap true = 0
 least_gap false = 1
 
--- the system is the plan's composition with the turns of this seed
+-- the greatest gap is in its range
+abbrev pub HasGap : Course → Type 0
+HasGap course = (1 ≤ course.gap) × (course.gap ≤ 65535)
+
+-- gap and last tick are in their ranges, and the system is the plan's composition with the turns of
+-- this seed
 pub record IsSown (course : Course) (seed : ℕ) (plan : Plan) (s : System) : Type 0 where
+  pub gap : HasGap course
+  pub short : course.ticks ≤ 4294967296
   pub composition_is : s.composition ≡ composition plan
   pub drawn : s.turn ≡ drawn_turn seed course.stream (least_gap course.from_zero) course.gap
   pub horizon_is : s.horizon ≡ course.ticks

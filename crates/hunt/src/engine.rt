@@ -33,8 +33,9 @@ fn count_text(alloc: Global, count: u64) -> Result<Vec<u8>, AllocError>
 ///
 /// # Errors
 ///
-/// `Source`, `Turns`, `Ticks` and `Action` where the source, the gap, the last tick or the action is refused, in this order, and `NoMemory`;
-/// then nothing is written. `Write` where a write failed, with the number of the text's bytes that went out before.
+/// `Source`, `Action`, `Turns` and `Ticks` where the source, the action, the gap or the last tick is refused, in this order, and `NoMemory`;
+/// then nothing is written. Of an empty range nothing is judged. `Write` where a write failed, with the number of the text's bytes that went out
+/// before.
 pub fn hunt<W: Write, R: Threads + Sync, L: Looks + Sync>(
     rt: &R,
     alloc: Global,

@@ -23,7 +23,7 @@ pub enum HuntFault {
     /// The last tick is out of its range.
     #[error("{0}")]
     Ticks(SetupError),
-    /// The text names no action of the composition; the place is line 1.
+    /// The text names no action of the composition; the place is its line, which is 1 where it has no line feed inside.
     #[error("{0}")]
     Action(TraceError),
     #[error("{0}")]

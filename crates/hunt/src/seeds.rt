@@ -3,9 +3,9 @@ ghost use Rattle.std.specs.Prelude.{◌≡◌, ◌++◌, [], ℕ, List, IfErr, I
 ghost use Rattle.compose.specs.Composed.{IsComposed};
 ghost use Rattle.task_seed.specs.Drawn.{drawn_turn, seed_turn};
 ghost use Rattle.task_seed.specs.Setups.{plan_of, system};
-ghost use Rattle.hunt.specs.Faults.{IsBadGap, IsUnseen};
+ghost use Rattle.hunt.specs.Faults.{IsBadGap, IsUnseen, NamesSome};
 ghost use Rattle.hunt.specs.Known.{IsKnown};
-ghost use Rattle.hunt.specs.Seeds.{HasText, IsSown, Lacks, hunted, least_gap};
+ghost use Rattle.hunt.specs.Seeds.{HasGap, HasText, IsSown, Lacks, hunted, least_gap};
 ghost use Rattle.hunt.specs.Sightings.{IsShown, NeverOccurs, seed_text};
 ghost use Rattle.hunt.specs.Wanted.{IsWanted};
 
@@ -27,7 +27,9 @@ use trace::{Counted, Lines, append_turns};
 fn draw(course: Course, seed: u64) -> Result<SeedTurns, SeedTurnsError>
     ensures ok { IfOk result (λ turns. seed_turn turns
         ≡ drawn_turn seed course.stream (least_gap course.from_zero) course.gap) }
-    ensures err { IfErr result (λ refused. IsBadGap course) }
+    ensures within { IfOk result (λ turns. HasGap course) }
+    ensures err { (source action : List ℕ) → NamesSome (hunted source action course)
+        → IfErr result (IsBadGap (hunted source action course)) }
 {
     if course.from_zero {
         SeedTurns::from_zero(seed, course.stream, course.gap)
@@ -40,8 +42,8 @@ fn draw(course: Course, seed: u64) -> Result<SeedTurns, SeedTurnsError>
 fn sow(plan: Plan, course: Course, seed: u64) -> Result<Setup<SeedTurns>, HuntFault>
     ensures plan { IfOk result (λ setup. plan_of setup ≡ plan) }
     ensures sown { IfOk result (λ setup. IsSown course seed plan (system seed_turn setup)) }
-    ensures err { (source action : List ℕ) → IfErr result
-        (IsUnseen (hunted source action course)) }
+    ensures err { (source action : List ℕ) → NamesSome (hunted source action course)
+        → IfErr result (IsUnseen (hunted source action course)) }
 {
     let turns = match draw(course, seed) {
         Ok(turns) => turns,

@@ -62,8 +62,9 @@ fn name_number(plan: &Plan, text: &str) -> Option<u16>
 ///
 /// # Errors
 ///
-/// `BadLine(1)` where the text is neither, `UnknownAction(1)` where the composition has no such
-/// action, as for a file that is this one line, and `NoMemory`.
+/// `BadLine` where the text is neither, `UnknownAction` where the composition has no such action,
+/// both with the line as for a file that is this text, and `NoMemory`. Of more than one action the
+/// line is 1.
 pub fn read_wanted(alloc: Global, plan: &Plan, text: &str) -> Result<Wanted, TraceError>
     ensures ok { IfOk result (IsWanted plan.now text.now) }
     ensures err { IfErr result (IsUnwanted plan.now text.now) }

@@ -11,7 +11,9 @@ pub returns-in-Err-named-clause-err : goal.returns-in-Err-named-clause-err
 returns-in-Err-named-clause-err c = c.in-Err-named.ensures.err c.args.source.now c.args.course c.in-Ok.ensures.ok
 
 pub returns-in-Err-sow-clause-err : goal.returns-in-Err-sow-clause-err
-returns-in-Err-sow-clause-err c = c.in-Err-sow.ensures.err c.args.source.now c.args.action.now
+returns-in-Err-sow-clause-err c =
+    c.in-Err-sow.ensures.err c.args.source.now c.args.action.now
+    (record { plan = c.in-Ok.plan; wanted = c.in-Ok-named.wanted; composed = c.in-Ok.ensures.ok; named = c.in-Ok-named.ensures.ok })
 
 pub returns-clause-has : goal.returns-clause-has
 returns-clause-has c =
