@@ -12,7 +12,6 @@ use Rattle.trace.specs.declared.fault.WriteFault.{WriteFault}
 use Rattle.trace.specs.declared.fault.TraceError.{TraceError}
 use Rattle.trace.specs.Puts.{written_of}
 use Rattle.trace.specs.Refusals.{fault_number, trace_number, trace_place}
-use Rattle.hunt.specs.declared.course.Course.{Course}
 use Rattle.hunt.specs.declared.fault.HuntFault.{HuntFault}
 use Rattle.hunt.specs.declared.fault.HuntFault.TheVariants as fault
 use Rattle.hunt.specs.declared.wanted.Wanted.{Wanted}
@@ -54,7 +53,7 @@ pub record IsBadGap (h : Hunted) (error : SeedTurnsError) : Type 0 where
   pub outside : (h.course.gap < 1) ⊎ (65535 < h.course.gap)
   pub is : error ≡ GapOutOfRange
 
--- there are such actions, the gap is in its range, and the last tick is above its own
+-- there are such actions, the gap is in its range, and the last tick is above 4,294,967,296
 pub record IsTooLong (h : Hunted) (error : SetupError) : Type 0 where
   pub named : NamesSome h
   pub gap : HasGap h.course
