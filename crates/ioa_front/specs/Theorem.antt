@@ -1,19 +1,13 @@
 -- What the machine says of tokens, as the answer of a reader.
 use Rattle.std.specs.Prelude.{◌≡◌, ℕ, ◌-◌, true, List, length, drop, Result, Ok, Err}
 use Rattle.ioa_trees.specs.declared.tree.SourceTree.{SourceTree}
-use Rattle.ioa_phrases.specs.declared.stop.Stop.{Stop}
 use Rattle.ioa_front.specs.declared.fault.ReadError.{ReadError}
 use Rattle.ioa_front.specs.declared.fault.ReadError.TheVariants as fault
-use Rattle.ioa_tokens.specs.Tokens.{Tok, Placed}
+use Rattle.ioa_tokens.specs.Tokens.{Placed}
 use Rattle.ioa_phrases.specs.Machine.{start, go, Read, Syntax, Deep}
 use Rattle.ioa_trees.specs.Spelling.{source_node}
 use Rattle.ioa_trees.specs.Views.{view_source}
-use Rattle.ioa_phrases.specs.Reads.{Stops}
 use Rattle.ioa_front.specs.Reading.{first_at, toks}
-
-abbrev pub Exact : List Tok → Result SourceTree Stop → Type 0
-Exact ts (Ok s) = go true start ts ≡ Read (source_node (view_source s))
-Exact ts (Err e) = Stops e (go true start ts)
 
 -- the place of the first of the last n tokens
 abbrev pub left_at : ℕ → List Placed → ℕ → ℕ

@@ -10,8 +10,7 @@ ghost use Rattle.ioa_front.specs.Theorem.{IsFound, left_at};
 
 use crate::fault::ReadError;
 use crate::readable::Source;
-use crate::source::read_all;
-use ioa_phrases::Stop;
+use ioa_phrases::{Stop, read_source};
 use ioa_tokens::laws::{one_reading_law, read_back_law};
 use ioa_tokens::{Token, tokens};
 use ioa_trees::tree::SourceTree;
@@ -65,7 +64,7 @@ fn read_tree(alloc: Global, source: &[u8]) -> Result<SourceTree, ReadError>
 fn read_found(alloc: Global, found: &[Token], end: usize) -> Result<SourceTree, ReadError>
     ensures { IsFound (placed found.now) end result }
 {
-    match read_all(alloc, found) {
+    match read_source(alloc, found) {
         Ok(source) => Ok(source),
         Err(Stop::Memory) => Err(ReadError::NoMemory),
         Err(Stop::Syntax(left)) => Err(ReadError::Syntax(place_of(found, left, end))),

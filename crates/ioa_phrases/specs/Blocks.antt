@@ -5,16 +5,17 @@ use Rattle.std.specs.Prelude.{Vec}
 use Rattle.ioa_phrases.specs.declared.stop.Stop.{Stop}
 use Rattle.ioa_trees.specs.declared.tree.ComponentTree.{ComponentTree}
 use Rattle.ioa_trees.specs.declared.tree.Declared.{Declared}
+use Rattle.ioa_trees.specs.declared.tree.SourceTree.{SourceTree}
 use Rattle.ioa_trees.specs.declared.tree.TypeDefinition.{TypeDefinition}
 use Rattle.ioa_trees.specs.declared.tree.Variable.{Variable}
 use Rattle.ioa_tokens.specs.declared.Word.TheVariants as w
 use Rattle.ioa_tokens.specs.Tokens.{Tok}
 use Rattle.ioa_trees.specs.Nodes.{Sort, source, type_definition, basic, further, formal, formal_part, variable, variable_part, tasks, transition, component, component_part, hidden, Node}
 use Rattle.ioa_trees.specs.Grammar.{Part, token, name, word, one, maybe, many, outside, first, inside, after_signature, definition_parts, whole}
-use Rattle.ioa_phrases.specs.Machine.{Frames, Bottom, In, depth, at, want, go}
-use Rattle.ioa_trees.specs.Spelling.{key, branch, formal_node, formals_nodes, variable_node, task_node, component_node, type_definition_node}
+use Rattle.ioa_phrases.specs.Machine.{Frames, Bottom, In, Read, depth, at, want, start, go}
+use Rattle.ioa_trees.specs.Spelling.{key, branch, formal_node, formals_nodes, variable_node, task_node, component_node, source_node, type_definition_node}
 use Rattle.ioa_trees.specs.Trees.{PlainDeclared}
-use Rattle.ioa_trees.specs.Views.{view_component, view_declared, view_type_definition, view_variable}
+use Rattle.ioa_trees.specs.Views.{view_component, view_declared, view_source, view_type_definition, view_variable}
 use Rattle.ioa_phrases.specs.Reads.{Stops}
 
 abbrev pub formal_item : Declared → Node
@@ -110,3 +111,8 @@ abbrev pub SomeTypes : {Y : Type 0} → (Y → List Node) → (Y → List Tok) �
 SomeTypes n rest ts (Ok y) = (done : List Node)
     → go true (at type_definition (key w.Type ∷ []) definition_parts (In source done whole outside Bottom)) ts ≡ go true (at source (done ++ n y) automata_parts Bottom) (rest y)
 SomeTypes n rest ts (Err e) = (done : List Node) → Stops e (go true (at type_definition (key w.Type ∷ []) definition_parts (In source done whole outside Bottom)) ts)
+
+-- The tokens are one source, all of them, or it is said where they stop being one.
+abbrev pub Exact : List Tok → Result SourceTree Stop → Type 0
+Exact ts (Ok s) = go true start ts ≡ Read (source_node (view_source s))
+Exact ts (Err e) = Stops e (go true start ts)

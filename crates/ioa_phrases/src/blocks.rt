@@ -72,7 +72,7 @@ fn read_some_head<'a, 'b>(
 
 /// Reads the formals of an automaton, where there are some, and `signature`.
 #[tactic(auto, using(crate::proofs::Heads::bare_head, crate::proofs::Heads::no_head, crate::proofs::Heads::open_head))]
-pub fn read_head<'a, 'b>(
+pub(crate) fn read_head<'a, 'b>(
     alloc: Global,
     tokens: &'b [Token<'a>],
 ) -> Result<(Vec<Declared>, &'b [Token<'a>]), Stop>
@@ -112,7 +112,7 @@ fn read_variable_list<'a, 'b>(
 
 /// Reads the state variables, where there are some.
 #[tactic(auto, using(crate::proofs::Moves::no_states, crate::proofs::Joins::states_made))]
-pub fn read_states<'a, 'b>(
+pub(crate) fn read_states<'a, 'b>(
     alloc: Global,
     tokens: &'b [Token<'a>],
 ) -> Result<(Vec<Variable>, &'b [Token<'a>]), Stop>
@@ -162,7 +162,7 @@ fn read_task_list<'a, 'b>(
 
 /// Reads the tasks, where there are some.
 #[tactic(auto, using(crate::proofs::Moves::no_tasks, crate::proofs::Joins::tasks_made))]
-pub fn read_tasks<'a, 'b>(
+pub(crate) fn read_tasks<'a, 'b>(
     alloc: Global,
     tokens: &'b [Token<'a>],
 ) -> Result<(Vec<Vec<String>>, &'b [Token<'a>]), Stop>

@@ -113,7 +113,7 @@ fn read_parameters<'a, 'b>(
 
 /// Reads an entry at the front, inside of no pair.
 #[tactic(auto, using(crate::proofs::Moves::kind_step, crate::proofs::Moves::no_entry))]
-pub fn read_entry<'a, 'b>(
+pub(crate) fn read_entry<'a, 'b>(
     alloc: Global,
     tokens: &'b [Token<'a>],
 ) -> Result<(Entry, &'b [Token<'a>]), Stop>

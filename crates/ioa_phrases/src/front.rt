@@ -27,7 +27,7 @@ fn is(kind: &Kind, word: Word) -> bool
 }
 
 /// What follows this word, if it comes next.
-pub fn past<'a, 'b>(tokens: &'b [Token<'a>], word: Word) -> Option<&'b [Token<'a>]>
+pub(crate) fn past<'a, 'b>(tokens: &'b [Token<'a>], word: Word) -> Option<&'b [Token<'a>]>
     ensures cases { MatchOption result (sees word (toks_of tokens.now) ≡ false)
         (λ rest. toks_of tokens.now ≡ Key word ∷ toks_of rest.now) }
     ensures shorter { MatchOption result Unit (λ rest. length rest.now + 1 ≤ length tokens.now) }
@@ -41,7 +41,7 @@ pub fn past<'a, 'b>(tokens: &'b [Token<'a>], word: Word) -> Option<&'b [Token<'a
 }
 
 /// What follows this word, which has to come next.
-pub fn expect<'a, 'b>(tokens: &'b [Token<'a>], word: Word) -> Result<&'b [Token<'a>], Stop>
+pub(crate) fn expect<'a, 'b>(tokens: &'b [Token<'a>], word: Word) -> Result<&'b [Token<'a>], Stop>
     ensures cases { Expects (λ rest. toks_of rest.now) word (toks_of tokens.now) result }
     ensures shorter { IfOk result (λ rest. length rest.now + 1 ≤ length tokens.now) }
 {
@@ -49,7 +49,7 @@ pub fn expect<'a, 'b>(tokens: &'b [Token<'a>], word: Word) -> Result<&'b [Token<
 }
 
 /// The name that has to come next, and what follows it.
-pub fn expect_name<'a, 'b>(
+pub(crate) fn expect_name<'a, 'b>(
     alloc: Global,
     tokens: &'b [Token<'a>],
 ) -> Result<(String, &'b [Token<'a>]), Stop>

@@ -1,11 +1,17 @@
-//! The phrases of sources, read from the front of tokens: types, values, terms and statements, and the blocks of automata.
+//! The phrases of sources, read from the front of tokens: types, values, terms and statements, the blocks of automata, and whole
+//! sources.
 #![tactic(auto)]
 
+mod automata;
 mod blocks;
 mod build;
+mod components;
+mod definitions;
 mod entries;
 mod front;
+mod lists;
 mod names;
+mod source;
 mod statements;
 mod stop;
 mod term;
@@ -13,11 +19,5 @@ mod transitions;
 mod types;
 mod values;
 
-pub use blocks::{read_head, read_states, read_tasks};
-pub use entries::read_entry;
-pub use front::{expect, expect_name, past};
-pub use names::read_names;
+pub use source::read_source;
 pub use stop::Stop;
-pub use term::read_term;
-pub use transitions::read_transition;
-pub use types::read_type;

@@ -18,7 +18,7 @@ use std::alloc::Global;
 
 /// Reads a name and those behind commas.
 #[tactic(auto, using(crate::proofs::Items::names_push))]
-pub fn read_names<'a, 'b>(
+pub(crate) fn read_names<'a, 'b>(
     alloc: Global,
     tokens: &'b [Token<'a>],
 ) -> Result<(Vec<String>, &'b [Token<'a>]), Stop>

@@ -100,7 +100,7 @@ fn deep_negation(tokens: &[Token]) -> Stop
 /// Reads a term at the front, inside this many pairs and prefixes.
 #[cycle(reading_terms)]
 #[tactic(auto, using(crate::proofs::Items::or_made))]
-pub fn read_term<'a, 'b>(
+pub(crate) fn read_term<'a, 'b>(
     alloc: Global,
     tokens: &'b [Token<'a>],
     depth: u32,

@@ -88,7 +88,7 @@ fn read_eff<'a, 'b>(
 }
 
 /// Reads a transition.
-pub fn read_transition<'a, 'b>(
+pub(crate) fn read_transition<'a, 'b>(
     alloc: Global,
     tokens: &'b [Token<'a>],
 ) -> Result<(Transition, &'b [Token<'a>]), Stop>

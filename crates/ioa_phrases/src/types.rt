@@ -82,7 +82,7 @@ fn read_range<'a, 'b>(tokens: &'b [Token<'a>]) -> Result<(TypeTree, &'b [Token<'
 /// Reads a type at the front, inside this many pairs.
 #[cycle(reading_types)]
 #[tactic(auto, using(crate::proofs::Moves::gives_low, crate::proofs::Moves::deep_gives))]
-pub fn read_type<'a, 'b>(
+pub(crate) fn read_type<'a, 'b>(
     alloc: Global,
     tokens: &'b [Token<'a>],
     depth: u32,

@@ -1,6 +1,9 @@
 //! The tokens of terms and of what is put in a place.
-ghost use Rattle.std.specs.Prelude.{◌≡◌, ◌++◌, OnOk, map};
+ghost use Rattle.std.specs.Prelude.{◌≡◌, ◌++◌, ◌∷◌, [], OnOk, map};
+ghost use Rattle.ioa_tokens.specs.declared.Word.TheVariants as w;
+ghost use Rattle.ioa_tokens.specs.Tokens.{Key};
 ghost use Rattle.ioa_trees.specs.Nodes.{yield, yield_nodes};
+ghost use Rattle.ioa_trees.specs.Trees as plain;
 ghost use Rattle.ioa_trees.specs.Trees.{pack_terms, pack_factors, pack_addends};
 ghost use Rattle.ioa_trees.specs.Spelling.{word_of_sign, word_of_relation, word_of_call, node, index_nodes, and_nodes, or_nodes, factor_node, factor_nodes, addend_nodes, init_node};
 ghost use Rattle.ioa_trees.specs.Views.{view, view_factor, view_addend, view_init};
@@ -51,33 +54,17 @@ pub(crate) fn put_term<'a>(page: &mut Page<'a>, term: &'a Term) -> Result<(), No
         Term::True => page.put_word(Word::True),
         Term::False => page.put_word(Word::False),
         Term::Name(name) => page.put_name(name.as_str()),
-        Term::Group(inner) => {
-            page.put_word(Word::Open)?;
-            put_term(page, inner)?;
-            page.put_word(Word::Close)
-        }
-        Term::Call(call, of) => {
-            page.put_word(word_of_call(*call))?;
-            page.put_word(Word::Open)?;
-            put_term(page, of)?;
-            page.put_word(Word::Close)
-        }
+        Term::Group(inner) => put_group(page, inner),
+        Term::Call(call, of) => put_call(page, *call, of),
         Term::Append(list, item) => {
-            page.put_word(Word::Append)?;
-            page.put_word(Word::Open)?;
-            put_term(page, list)?;
-            page.put_word(Word::Comma)?;
-            put_term(page, item)?;
-            page.put_word(Word::Close)
+            put_list(page, list)?;
+            put_item(page, item)
         }
         Term::Index(of, indexes) => {
             put_term(page, of)?;
             put_indexes(page, indexes.as_slice())
         }
-        Term::Minus(of) => {
-            page.put_word(Word::Minus)?;
-            put_term(page, of)
-        }
+        Term::Minus(of) => put_behind(page, Word::Minus, of),
         Term::Product(first, factors) => {
             put_term(page, first)?;
             put_factors(page, factors.as_slice())
@@ -88,13 +75,9 @@ pub(crate) fn put_term<'a>(page: &mut Page<'a>, term: &'a Term) -> Result<(), No
         }
         Term::Compare(left, relation, right) => {
             put_term(page, left)?;
-            page.put_word(word_of_relation(*relation))?;
-            put_term(page, right)
+            put_behind(page, word_of_relation(*relation), right)
         }
-        Term::Not(of) => {
-            page.put_word(Word::Not)?;
-            put_term(page, of)
-        }
+        Term::Not(of) => put_behind(page, Word::Not, of),
         Term::And(first, others) => {
             put_term(page, first)?;
             put_ands(page, others.as_slice())
@@ -106,6 +89,59 @@ pub(crate) fn put_term<'a>(page: &mut Page<'a>, term: &'a Term) -> Result<(), No
     }
 }
 
+// A term behind a word.
+#[cycle(printing_terms)]
+#[tactic(auto, using(std::proofs::lemmas::List::append_assoc))]
+fn put_behind<'a>(page: &mut Page<'a>, word: Word, of: &'a Term) -> Result<(), NoMemory>
+    ensures { OnOk result (page.new ≡ page.old ++ (Key word ∷ yield (node (view of.now)))) }
+{
+    page.put_word(word)?;
+    put_term(page, of)
+}
+
+// A term in parentheses.
+#[cycle(printing_terms)]
+#[tactic(auto, using(std::proofs::lemmas::List::append_assoc))]
+fn put_group<'a>(page: &mut Page<'a>, inner: &'a Term) -> Result<(), NoMemory>
+    ensures { OnOk result (page.new ≡ page.old ++ yield (node (plain.Group (view inner.now)))) }
+{
+    page.put_word(Word::Open)?;
+    put_term(page, inner)?;
+    page.put_word(Word::Close)
+}
+
+#[cycle(printing_terms)]
+#[tactic(auto, using(std::proofs::lemmas::List::append_assoc))]
+fn put_call<'a>(page: &mut Page<'a>, call: Call, of: &'a Term) -> Result<(), NoMemory>
+    ensures { OnOk result (page.new ≡ page.old
+        ++ yield (node (plain.Called call (view of.now)))) }
+{
+    page.put_word(word_of_call(call))?;
+    put_group(page, of)
+}
+
+// `append`, `(` and the sequence.
+#[cycle(printing_terms)]
+#[tactic(auto, using(std::proofs::lemmas::List::append_assoc))]
+fn put_list<'a>(page: &mut Page<'a>, list: &'a Term) -> Result<(), NoMemory>
+    ensures { OnOk result (page.new ≡ page.old
+        ++ (Key w.Append ∷ (Key w.Open ∷ yield (node (view list.now))))) }
+{
+    page.put_word(Word::Append)?;
+    put_behind(page, Word::Open, list)
+}
+
+// What follows the sequence in an `append`.
+#[cycle(printing_terms)]
+#[tactic(auto, using(std::proofs::lemmas::List::append_assoc))]
+fn put_item<'a>(page: &mut Page<'a>, item: &'a Term) -> Result<(), NoMemory>
+    ensures { OnOk result (page.new ≡ page.old
+        ++ (Key w.Comma ∷ (yield (node (view item.now)) ++ (Key w.Close ∷ [])))) }
+{
+    put_behind(page, Word::Comma, item)?;
+    page.put_word(Word::Close)
+}
+
 #[cycle(printing_terms)]
 #[tactic(auto, using(std::proofs::lemmas::List::append_assoc))]
 fn put_indexes<'a>(page: &mut Page<'a>, indexes: &'a [Term]) -> Result<(), NoMemory>
@@ -113,8 +149,7 @@ fn put_indexes<'a>(page: &mut Page<'a>, indexes: &'a [Term]) -> Result<(), NoMem
         ++ yield_nodes (index_nodes (pack_terms (map view indexes.now)))) }
 {
     for index in indexes {
-        page.put_word(Word::OpenBracket)?;
-        put_term(page, index)?;
+        put_behind(page, Word::OpenBracket, index)?;
         page.put_word(Word::CloseBracket)?;
     }
     Ok(())
@@ -127,8 +162,7 @@ fn put_ands<'a>(page: &mut Page<'a>, others: &'a [Term]) -> Result<(), NoMemory>
         ++ yield_nodes (and_nodes (pack_terms (map view others.now)))) }
 {
     for other in others {
-        page.put_word(Word::And)?;
-        put_term(page, other)?;
+        put_behind(page, Word::And, other)?;
     }
     Ok(())
 }
@@ -140,8 +174,7 @@ fn put_ors<'a>(page: &mut Page<'a>, others: &'a [Term]) -> Result<(), NoMemory>
         ++ yield_nodes (or_nodes (pack_terms (map view others.now)))) }
 {
     for other in others {
-        page.put_word(Word::Or)?;
-        put_term(page, other)?;
+        put_behind(page, Word::Or, other)?;
     }
     Ok(())
 }
@@ -164,10 +197,7 @@ fn put_factor<'a>(page: &mut Page<'a>, factor: &'a Factor) -> Result<(), NoMemor
     ensures { OnOk result (page.new ≡ page.old ++ yield (factor_node (view_factor factor.now))) }
 {
     match factor {
-        Factor::Times(term) => {
-            page.put_word(Word::Times)?;
-            put_term(page, term)
-        }
+        Factor::Times(term) => put_behind(page, Word::Times, term),
         Factor::Modulo(number) => {
             page.put_word(Word::Mod)?;
             page.put_number(*number)
@@ -182,8 +212,7 @@ fn put_addends<'a>(page: &mut Page<'a>, addends: &'a [Addend]) -> Result<(), NoM
         ++ yield_nodes (addend_nodes (pack_addends (map view_addend addends.now)))) }
 {
     for addend in addends {
-        page.put_word(word_of_sign(addend.sign))?;
-        put_term(page, &addend.term)?;
+        put_behind(page, word_of_sign(addend.sign), &addend.term)?;
     }
     Ok(())
 }
