@@ -1,5 +1,5 @@
 -- A clock that reaches one turn after another.
-use Rattle.std.proofs.Common.{◌≡◌, ℕ, ◌+◌, ◌≤◌, inl, inr, Option, sym, subst, arith}
+use Rattle.std.proofs.Common.{◌≡◌, ℕ, ◌+◌, inl, inr, Option, sym, subst, arith}
 use Rattle.std.specs.Prelude.{max}
 use Rattle.task_seed.specs.Clocks.{CanReach, HasReached, IsPast, Reaching}
 use Rattle.task_seed.specs.declared.clock.Clock.{Clock}

@@ -1,5 +1,5 @@
 -- What people are told of a refusal.
-use Rattle.std.specs.Prelude.{◌≡◌, ◌==◌, ◌&&◌, ◌||◌, ℕ, Bool, Option, nat_le}
+use Rattle.std.specs.Prelude.{◌≡◌, ◌&&◌, ◌||◌, ℕ, Bool, Option, nat_le}
 use Rattle.ioa_tokens.specs.Bytes.{Text}
 use Rattle.compose.specs.Refusals.{source_number}
 use Rattle.compose.specs.declared.SourceError.{SourceError}

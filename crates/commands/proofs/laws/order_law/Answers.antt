@@ -1,10 +1,10 @@
-use Rattle.std.proofs.Common.{◌≡◌, ◌^◌, ◌<◌, length, sym, subst, arith}
+use Rattle.std.proofs.Common.{◌^◌, ◌<◌, length, sym, subst, arith}
 use Rattle.std.proofs.lemmas.List.{length-map}
 use Rattle.plans.specs.Automata.{instance_of}
 use Rattle.plans.specs.Plans.{composition}
 use Rattle.virtual_time.specs.Reference.{IsReference}
 use Rattle.task_seed.specs.Machines.{machine, end_rank}
-use Rattle.task_seed.specs.Setups.{plan_of, system}
+use Rattle.task_seed.specs.Setups.{system}
 use Rattle.task_seed.specs.Taken.{turns_of}
 use Rattle.commands.proofs.Rising.{rising}
 use Rattle.commands.proofs.laws.order_law.Goals as goal

@@ -1,4 +1,3 @@
-use Rattle.std.proofs.Common.{ℕ, List}
 use Rattle.std.proofs.lemmas.Result.{IfErr-weaker, on_ok_weaker}
 use Rattle.task_seed.specs.Setups.{plan_of, system}
 use Rattle.trace.specs.Given.{stops}
