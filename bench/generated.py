@@ -57,3 +57,27 @@ def stragglers(turns, depth, times):
     back itself."""
     message = "1 " + next(turn for turn in turns if turn.endswith(" pass(1)"))
     return (["process 1"] * depth + ["process 0", f"deliver + {message}", "back 0", f"deliver - {message}"]) * times
+
+
+PRECONDITIONS = ("held > 0", "held mod 2 = 0", "held < 3", "not quiet", "held = seen mod 4", "seen >= held", "held >= 0")
+EFFECTS = ("held := held + 1", "held := held - 1", "held := 0", "quiet := not quiet", "seen := seen + held", "held := seen mod 3; seen := seen + 1", "quiet := false", "if quiet then held := held + 2 else seen := seen + 1 fi")
+
+
+def mesh(chance):
+    """Returns the source of a composition of 2 to 12 components at random: each gives to one other, lends numbers to another, rests, and calls all
+    listeners; when it may, and what comes of that, is drawn too."""
+    size = chance.randrange(2, 13)
+    pre, eff = (lambda: " pre " + chance.choice(PRECONDITIONS)), (lambda: " eff " + chance.choice(EFFECTS))
+    outputs = ["output give(const me, const a)", "output lend(const me, const b, v: 0..2)", "internal rest(const me)", "output call(const me)"]
+    inputs = ["input give(i: Id, const me)", "input lend(i: Id, const me, v: 0..2)"]
+    lines = [f"type Id = 0..{size + 2}", "automaton Node(me: Id, a: Id, b: Id)", " signature", *(f"  {it}" for it in inputs + outputs)]
+    lines += [" states held: Int := me mod 2, seen: Int := 0, quiet: Bool := false", " transitions"]
+    lines += [f"  {it}{pre()}{' and v = seen mod 3' if 'v:' in it else ''}{eff()}" for it in outputs]
+    lines += [f"  {it}{eff()}{'; seen := seen + v' if 'v:' in it else ''}" for it in inputs]
+    tasks = chance.choice(["{ give, lend, rest, call }", "{ give, lend } { rest, call }", "{ give } { lend } { rest } { call }", "{ rest, give } { call, lend }"])
+    lines += [f" tasks {tasks}", "automaton Listener", " signature", "  input call(i: Id)", "  output echo", " states heard: Int := 0", " transitions"]
+    lines += ["  input call(i: Id) eff heard := heard + 1", "  output echo pre heard > 0 eff heard := heard - 1", " tasks { echo }"]
+    lines += ["automaton Mesh", " components"]
+    other = lambda it: chance.choice([to for to in range(size) if to != it])
+    parts = [f"  c{it}: Node({it}, {other(it)}, {other(it)})" for it in range(size)]
+    return "\n".join(lines) + "\n" + ";\n".join([*parts, "  listener: Listener"]) + "\n"

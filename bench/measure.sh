@@ -2,7 +2,7 @@
 # Measures the program, which it builds first if that in dist/ is none of this checkout: bench/measure.sh WORD, where WORD is
 #   instructions   how many instructions it takes by callgrind: a turn on the loads, a line of check, a byte of a source, a component, a step
 #   times          how many turns a second it takes on the loads, and how fast workers are beside one thread
-#   runs           whether 10,000 random runs by workers write what one thread writes
+#   runs           whether 20,000 random runs by workers, with all options together, end and write what one thread writes
 set -eu
 top=$(cd "$(dirname "${BASH_SOURCE[0]}")/.." && pwd)
 case ${1:-} in

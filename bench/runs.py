@@ -1,18 +1,21 @@
 #!/usr/bin/env python3
-"""Compares `run` with `reference` byte by byte, so often: the examples, token rings of 2 to 16 and PHOLD, with random seeds, streams, gaps, last
-ticks, 1 to 64 workers, budgets of 1 to 65,535, and no window or one of 1, 2, 7 or 65,535 turns. Prints how many differ, and the command of each that does; its status is 1 if any does.
+"""Compares `run` with `reference` byte by byte, so often: examples, token rings of 2 to 16, PHOLD and generated sources, turns of seeds, with gaps from 1
+or from 0, or of tables with many turns in one tick, 1 to 64 workers, budgets of 1 to 65,535, no window or one of 1 to 8 or 65,535 turns, all drawn
+together. Prints the command of each run that differs, or is still there after 20 seconds, and how many there are of both; its status is 1 if any is.
+A source or table of such a command that isn't in the checkout is kept in the folder that is told.
 
 usage: runs.py PROGRAM [TIMES [SEED]]"""
-import os, random, subprocess, sys, tempfile
+import os, random, shutil, subprocess, sys, tempfile
 from concurrent.futures import ThreadPoolExecutor
 from pathlib import Path
 
-from generated import ring
+from generated import mesh, phold, ring
 
 TOP = Path(__file__).parent.parent
 PROGRAM = Path(sys.argv[1]).resolve()
-TIMES = int(sys.argv[2]) if len(sys.argv) > 2 else 10000
+TIMES = int(sys.argv[2]) if len(sys.argv) > 2 else 20000
 CHANCE = random.Random(int(sys.argv[3]) if len(sys.argv) > 3 else 1)
+SECONDS = 20
 
 
 def up_to(most):
@@ -20,29 +23,67 @@ def up_to(most):
     return min(most, int(most ** CHANCE.random()) + CHANCE.randrange(2))
 
 
-def draw(sources):
-    source = CHANCE.choice(sources)
-    turns = ["--seed", CHANCE.randrange(2**64), "--stream", CHANCE.randrange(4), "--gap", CHANCE.choice([1, 2, 8, 50]), "--ticks", up_to(1500)]
-    window = CHANCE.choice([[], ["--window", "1"], ["--window", "2"], ["--window", "7"], ["--window", "65535"]])
-    return source, [str(it) for it in turns], ["--workers", str(up_to(64)), "--budget", str(up_to(65535)), *window]
+def components(source):
+    """Returns how many components a source has: with gaps of 1 each has a turn in the first tick."""
+    words = [PROGRAM, "reference", source, "--seed", "1", "--gap", "1", "--ticks", "1"]
+    return len(subprocess.run(words, stdin=subprocess.DEVNULL, capture_output=True, check=True).stdout.splitlines())
 
 
-def differs(drawn):
+def table(count):
+    """Returns rows of turns of so many components, most of them in the tick of the one before."""
+    rows = [f"{CHANCE.randrange(count)} {CHANCE.choice([0, 0, 0, 0, 1, 2, 9])} 0 {CHANCE.randrange(2**32)}\n" for _ in range(up_to(400))]
+    return "".join(rows)
+
+
+def draw_turns(count, most_ticks, folder, number):
+    """Returns the words for the turns of a source with so many components."""
+    if CHANCE.randrange(4) == 0:
+        file = folder / f"{number}.table"
+        file.write_text(table(count))
+        return ["--table", file, "--ticks", CHANCE.choice([1, 20, 2000])]
+    seed = ["--seed", CHANCE.randrange(2**64), "--stream", CHANCE.randrange(4), "--ticks", up_to(most_ticks)]
+    if CHANCE.randrange(2):
+        return [*seed, "--from-zero", "--gap", CHANCE.choice([2, 3, 4, 8, 50])]
+    return [*seed, "--gap", CHANCE.choice([1, 2, 3, 8, 50])]
+
+
+def draw(sources, folder, number):
+    source, count, most_ticks = CHANCE.choice(sources)
+    window = CHANCE.choice([None, *range(1, 9), 1, 2, 65535])
+    crew = ["--workers", up_to(64), "--budget", up_to(65535), *([] if window is None else ["--window", window])]
+    return source, draw_turns(count, most_ticks, folder, number), crew
+
+
+def fault_of(drawn):
+    """Returns what is wrong with a run, or nothing."""
     source, turns, crew = drawn
-    wanted = subprocess.run([PROGRAM, "reference", source, *turns], stdin=subprocess.DEVNULL, capture_output=True)
-    command = [PROGRAM, "run", source, *turns, *crew]
-    got = subprocess.run(command, stdin=subprocess.DEVNULL, capture_output=True, timeout=120)
+    call = {"stdin": subprocess.DEVNULL, "capture_output": True}
+    wanted = subprocess.run(list(map(str, [PROGRAM, "reference", source, *turns])), **call)
+    command = list(map(str, [PROGRAM, "run", source, *turns, *crew]))
+    try:
+        got = subprocess.run(command, timeout=SECONDS, **call)
+    except subprocess.TimeoutExpired:
+        return "stays: " + " ".join(command)
     same = (wanted.returncode, wanted.stdout) == (got.returncode, got.stdout) == (0, wanted.stdout)
-    return 0 if same else " ".join(map(str, command))
+    return None if same else "differs: " + " ".join(command)
 
 
-with tempfile.TemporaryDirectory() as folder:
-    sources = sorted((TOP / "examples").glob("*.ioa")) + [TOP / "bench/loads/phold64.ioa", TOP / "bench/loads/phold64w.ioa"] * 2
-    for size in (2, 3, 5, 8, 16):
-        sources.append(Path(folder) / f"ring{size}.ioa")
-        sources[-1].write_text(ring(size))
-    drawn = [draw(sources) for _ in range(TIMES)]
-    with ThreadPoolExecutor(os.cpu_count()) as pool:
-        wrong = [it for it in pool.map(differs, drawn) if it]
-print("\n".join([*wrong, f"{TIMES} runs, {len(wrong)} differ"]))
-sys.exit(bool(wrong))
+folder = Path(tempfile.mkdtemp(prefix="runs-"))
+sources = [(file, 150) for file in sorted((TOP / "examples").glob("*.ioa"))]
+made = {f"ring{size}": ring(size) for size in (2, 3, 5, 8, 16)} | {f"phold{size}": phold(size) for size in (4, 9, 64)}
+made |= {f"mesh{number}": mesh(random.Random(number)) for number in range(40)}
+for name, text in made.items():
+    (folder / f"{name}.ioa").write_text(text)
+    sources.append((folder / f"{name}.ioa", 800))
+sources.append((TOP / "bench/loads/phold64w.ioa", 200))
+sources = [(file, components(file), most) for file, most in sources]
+drawn = [draw(sources, folder, number) for number in range(TIMES)]
+with ThreadPoolExecutor(os.cpu_count()) as pool:
+    faults = [it for it in pool.map(fault_of, drawn) if it]
+stay = sum(it.startswith("stays") for it in faults)
+print("\n".join([*faults, f"{TIMES} runs, {len(faults) - stay} differ, {stay} stay"]))
+if faults:
+    print(f"their files are in {folder}")
+else:
+    shutil.rmtree(folder)
+sys.exit(bool(faults))

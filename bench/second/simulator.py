@@ -8,7 +8,7 @@ usage: simulator.py print F
 
 It answers as the program does, but for two things: it has no `drive`, and faults of a source that only the check finds (10 to 17) are told as
 `not judged: ..`, status 99, without their number and place. It also reads hidden outputs, `--head`, more than 64 components and trace files of
-version 2, which the program doesn't yet."""
+version 2."""
 import heapq
 import os
 import re

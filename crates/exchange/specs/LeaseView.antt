@@ -109,9 +109,9 @@ abbrev pub may_go_on : {T : Type 0} → (T → ℕ → ℕ → Option Turn) → 
 may_go_on turn_of h = lets_through h.window h.component.history.done (next_entry turn_of h.component)
 
 -- why a lease stopped that ran ahead by so many entries of a budget, and is now this: the budget is used up, nothing is next, something
--- is next and memory was refused, or its window has no room for what is next
+-- is next for which its window has room and memory was refused, or its window has no room for what is next
 abbrev pub HasStopped : {T : Type 0} → (T → ℕ → ℕ → Option Turn) → (budget count : ℕ) → Stop → LeaseView (Setup T) → Type 0
 HasStopped turn_of budget count Budget h = count ≡ budget
 HasStopped turn_of budget count End h = next_entry turn_of h.component ≡ None
-HasStopped turn_of budget count NoMemory h = (count < budget) × (next_entry turn_of h.component ≡ None → ⊥)
+HasStopped turn_of budget count NoMemory h = (count < budget) × (next_entry turn_of h.component ≡ None → ⊥) × (may_go_on turn_of h ≡ true)
 HasStopped turn_of budget count NoRoom h = (count < budget) × (may_go_on turn_of h ≡ false)

@@ -193,11 +193,14 @@ impl<T: Turns> Exchange<T> {
         ensures count { result ≡ length
             (reference_below (machine_of T.turn_of self.old.setup) (rank_of_bound self.new.bound)) }
         ensures core { IsOneCommit T.turn_of self.old self.new }
+        ensures inboxes { HasFewInInboxes T.turn_of self.new }
     {
         machine_is_lawful(self.setup());
         exchange_is_core::<State, Action>();
         self.soundness_law();
-        self.raise_bound()
+        let count = self.raise_bound();
+        self.soundness_law();
+        count
     }
 
     fn raise_bound(&mut self) -> u64

@@ -297,6 +297,30 @@ impl<T: Turns> Exchange<T> {
         ensures rest { self.new ≡ record self.old { stubs = self.new.stubs; held = self.new.held } }
         ensures same { OnOk result (KeepsComponent lease.old lease.new) }
         ensures kept { OnErr result ((self.new ≡ self.old) × (lease.new ≡ lease.old)) }
+        ensures inboxes { HasFewInInboxes T.turn_of self.new }
+        ensures lease { StaysInWindow lease.new }
+    {
+        let met = self.meet_in_window(lease);
+        self.soundness_law();
+        lease.soundness_law();
+        met
+    }
+
+    // The same meeting.
+    fn meet_in_window(&mut self, lease: &mut Lease<T>) -> Result<Bound, MeetRefused>
+        requires own { system T.turn_of self.old.setup
+            ≡ system T.turn_of lease.old.component.setup }
+        ensures ok { IsOk result ↔ ((same_window self.old.window lease.old.window ≡ true)
+            × Knows T.turn_of self.old lease.old) }
+        ensures other { IsErrOf result MeetRefused.OtherSetup
+            ↔ (same_window self.old.window lease.old.window ≡ false) }
+        ensures window { OnOk result (self.old.window ≡ lease.old.window) }
+        ensures bound { IfOk result (λ bound. bound ≡ self.old.bound) }
+        ensures met { OnOk result (HaveMet T.turn_of self.old lease.old self.new lease.new) }
+        ensures core { OnOk result (OnlyMeets T.turn_of self.old lease.old self.new lease.new) }
+        ensures rest { self.new ≡ record self.old { stubs = self.new.stubs; held = self.new.held } }
+        ensures same { OnOk result (KeepsComponent lease.old lease.new) }
+        ensures kept { OnErr result ((self.new ≡ self.old) × (lease.new ≡ lease.old)) }
     {
         if !is_same_window(self.window, lease.window()) {
             return Err(MeetRefused::OtherSetup);
@@ -335,12 +359,17 @@ impl<T: Turns> Exchange<T> {
         ensures core { OnlyMeets T.turn_of self.old lease.old self.new lease.new }
         ensures rest { self.new ≡ record self.old { stubs = self.new.stubs; held = self.new.held } }
         ensures same { KeepsComponent lease.old lease.new }
+        ensures inboxes { HasFewInInboxes T.turn_of self.new }
+        ensures lease { StaysInWindow lease.new }
     {
         machine_is_lawful(self.setup());
         exchange_is_core::<State, Action>();
         exchange_is_sound::<State, Action>();
         self.soundness_law();
-        self.accept(lease)
+        let bound = self.accept(lease);
+        self.soundness_law();
+        lease.soundness_law();
+        bound
     }
 
     // The meeting. The cells of messages that are kept no longer serve the lease again.

@@ -6,7 +6,7 @@ ghost use Rattle.task_seed.specs.Setups.{plan_of};
 ghost use Rattle.task_seed.specs.Taken.{turns_of};
 ghost use Rattle.virtual_time.specs.Reference.{Falls};
 ghost use Rattle.exchange.specs.Held.{AreInOrder, all_below, all_from, put_all};
-ghost use Rattle.exchange.specs.Seen.{HasGiven, LeavesTheWorld};
+ghost use Rattle.exchange.specs.Seen.{HasFewInInboxes, HasGiven, LeavesTheWorld};
 
 use crate::chunk::{is_few, least_base};
 use crate::exchange::{Exchange, is_bounded};
@@ -109,9 +109,12 @@ impl<T: Turns> Exchange<T> {
         ensures first { result ≡ self.old.given }
         ensures rest { self.new ≡ record self.old { held = self.new.held; given = self.new.given } }
         ensures core { LeavesTheWorld T.turn_of self.old self.new }
+        ensures inboxes { HasFewInInboxes T.turn_of self.new }
     {
         machine_is_lawful(self.setup());
-        self.give_apart(parcel)
+        let first = self.give_apart(parcel);
+        self.soundness_law();
+        first
     }
 
     fn give_apart(&mut self, parcel: &mut Parcel) -> u64

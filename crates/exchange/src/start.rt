@@ -163,6 +163,23 @@ impl<T: Turns> Exchange<T> {
             ≡ start_shared_within T.turn_of (arc_value setup) window) }
         ensures leases { IfOk result (λ both. both.1.items
             ≡ start_leases_within T.turn_of (arc_value setup) window) }
+        ensures inboxes { IfOk result (λ both. HasFewInInboxes T.turn_of both.0) }
+    {
+        let (exchange, leases) = Exchange::begin(alloc, setup, window)?;
+        exchange.soundness_law();
+        Ok((exchange, leases))
+    }
+
+    // The same exchange and leases.
+    fn begin(
+        alloc: Global,
+        setup: Arc<Setup<T>>,
+        window: Option<Window>,
+    ) -> Result<(Exchange<T>, Vec<Lease<T>>), NoMemory>
+        ensures exchange { IfOk result (λ both. both.0
+            ≡ start_shared_within T.turn_of (arc_value setup) window) }
+        ensures leases { IfOk result (λ both. both.1.items
+            ≡ start_leases_within T.turn_of (arc_value setup) window) }
     {
         machine_is_lawful(&setup);
         exchange_is_sound::<State, Action>();

@@ -11,12 +11,40 @@ use std::thread::Threads;
 // How often a source is run, in all.
 const RUNS: u64 = 200;
 
-const WORKERS: [&str; 8] = ["1", "2", "3", "4", "5", "6", "7", "8"];
+const WORKERS: [&str; 8] = [
+    "--workers=1",
+    "--workers=2",
+    "--workers=3",
+    "--workers=4",
+    "--workers=5",
+    "--workers=6",
+    "--workers=7",
+    "--workers=8",
+];
 
-const BUDGETS: [&str; 5] = ["1", "2", "7", "64", "1000"];
+const BUDGETS: [&str; 5] = [
+    "--budget=1",
+    "--budget=2",
+    "--budget=7",
+    "--budget=64",
+    "--budget=1000",
+];
 
 // Each for some runs of each source; the first stands for none.
-const WINDOWS: [&str; 5] = ["", "1", "2", "7", "65535"];
+const WINDOWS: [&str; 5] = [
+    "",
+    "--window=1",
+    "--window=2",
+    "--window=7",
+    "--window=65535",
+];
+
+// The turns: far apart, or several of a component in one tick.
+const TICKS: [&str; 2] = ["--ticks=500", "--ticks=60"];
+
+const GAPS: [&str; 2] = ["--gap=20", "--gap=3"];
+
+const LEAST_GAPS: [&str; 2] = ["--stream=0", "--from-zero"];
 
 // What the program writes to these words; nothing where it fails, or writes an error.
 fn written<R: Threads + Wait + Sync>(
@@ -47,38 +75,40 @@ fn is_same<R: Threads + Wait + Sync>(
     k: u64,
     source: &str,
 ) -> anyhow::Result<bool> {
-    let seed = format!(in alloc; "{k}")?;
-    let workers = WORKERS[(k % 8) as usize];
-    let budget = BUDGETS[(k % 5) as usize];
-    let window = WINDOWS[(k / 7 % 5) as usize];
-    is_same_by(rt, alloc, seed.as_str(), workers, budget, window, source)
+    let seed = format!(in alloc; "--seed={k}")?;
+    is_same_by(rt, alloc, k, seed.as_str(), source)
 }
 
+// The same by the word of a seed.
 fn is_same_by<R: Threads + Wait + Sync>(
     rt: &R,
     alloc: Global,
+    k: u64,
     seed: &str,
-    workers: &str,
-    budget: &str,
-    window: &str,
     source: &str,
 ) -> anyhow::Result<bool> {
-    let alone = ["reference", "F", "--seed", seed, "--ticks", "500"];
+    let turns = (k / 35 % 2) as usize;
+    let alone = [
+        "reference",
+        "F",
+        seed,
+        TICKS[turns],
+        GAPS[turns],
+        LEAST_GAPS[turns],
+    ];
+    let window = WINDOWS[(k / 7 % 5) as usize];
     let shared = [
         "run",
         "F",
-        "--seed",
         seed,
-        "--ticks",
-        "500",
-        "--workers",
-        workers,
-        "--budget",
-        budget,
-        "--window",
+        TICKS[turns],
+        GAPS[turns],
+        LEAST_GAPS[turns],
+        WORKERS[(k % 8) as usize],
+        BUDGETS[(k % 5) as usize],
         window,
     ];
-    let many = if window.is_empty() { 10 } else { 12 };
+    let many = if window.is_empty() { 8 } else { 9 };
     let wanted = written(rt, alloc, &alone, source)?;
     let given = written(rt, alloc, &shared[..many], source)?;
     Ok(given.as_slice() == wanted.as_slice() && !wanted.is_empty())

@@ -386,12 +386,12 @@ impl<T: Turns> Depot<T> {
         }
     }
 
-    // Whether a lease can go on that is to be taken. It meets the exchange first, where something came to it.
+    // The lease that is to be taken, or in its place one that can go on. It meets the exchange first, where something came to it.
     fn make_ready(
         &mut self,
         number: u16,
         spare: &mut EventList<Turned>,
-    ) -> Result<bool, MeetRefused>
+    ) -> Result<Option<u16>, MeetRefused>
         ensures { self.new ≡ self.old }
     {
         if self.is_stopped(number) {
@@ -400,25 +400,48 @@ impl<T: Turns> Depot<T> {
         if self.waiting.exchange().has_mail(number) {
             self.meet_with(number, spare)?;
         }
-        Ok(true)
+        Ok(Some(number))
     }
 
-    // A lease that its window stops meets the exchange, once the bound is raised. Where that isn't enough and none is away, all that wait meet first,
-    // and tell so how far they are. Whether it can go on then.
-    fn make_room(&mut self, number: u16, spare: &mut EventList<Turned>) -> Result<bool, MeetRefused>
+    // A lease that its window stops meets the exchange, once the bound is raised. Where that isn't enough and none is away, the one that holds the
+    // bound back goes on in its place.
+    fn make_room(
+        &mut self,
+        number: u16,
+        spare: &mut EventList<Turned>,
+    ) -> Result<Option<u16>, MeetRefused>
         ensures { self.new ≡ self.old }
     {
         self.commit();
         self.meet_with(number, spare)?;
-        if self.is_stopped(number) && self.away.oldest().is_none() {
-            self.settle(spare)?;
-            self.commit();
-            self.meet_with(number, spare)?;
+        if !self.is_stopped(number) {
+            return Ok(Some(number));
         }
-        Ok(!self.is_stopped(number))
+        if self.away.oldest().is_some() {
+            self.place(number);
+            return Ok(None);
+        }
+        self.make_holder_ready(spare)
     }
 
-    // The lease with the least to do, if it may be taken, and its window doesn't stop it.
+    // All that wait meet the exchange, and tell so how far they are. Then the bound is the least key that any of them has to do, and the one that has
+    // it has nothing done that isn't below the bound: so once it has given that up, its window has room.
+    fn make_holder_ready(
+        &mut self,
+        spare: &mut EventList<Turned>,
+    ) -> Result<Option<u16>, MeetRefused>
+        ensures { self.new ≡ self.old }
+    {
+        self.settle(spare)?;
+        self.commit();
+        let Some(number) = self.waiting.first() else {
+            return Ok(None);
+        };
+        self.meet_with(number, spare)?;
+        Ok(Some(number))
+    }
+
+    // The lease with the least to do, if it may be taken; where its window stops it, the one that holds the bound back.
     fn take_least(&mut self, spare: &mut EventList<Turned>) -> Result<Option<Visit<T>>, MeetRefused>
         ensures same { self.new ≡ self.old }
         ensures own { IfOk result (IsVisitOf self.old) }
@@ -429,11 +452,9 @@ impl<T: Turns> Depot<T> {
         if !self.may_take(least) {
             return Ok(None);
         }
-        let number = least.number;
-        if !self.make_ready(number, spare)? {
-            self.place(number);
+        let Some(number) = self.make_ready(least.number, spare)? else {
             return Ok(None);
-        }
+        };
         self.places.leave(number);
         let reach = self.reach(1, least.is_parked);
         let visit = self.visit(number, reach, spare);

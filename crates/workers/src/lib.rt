@@ -12,7 +12,7 @@ mod waiting;
 mod working;
 mod writing;
 
-pub use exchange::Window;
+pub use exchange::{Ran, Stop, Window};
 pub use fault::RunFault;
 pub use gate::{Gate, Unheld};
 pub use pools::{Hand, Numbered, Pass, Pool};

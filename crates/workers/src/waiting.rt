@@ -8,7 +8,7 @@ ghost use Rattle.workers.specs.Portions.{IsCutOf};
 
 use crate::crew::{Handed, Paced};
 use crate::writing::{Cut, take_cut};
-use event_keys::Turned;
+use event_keys::{Bound, Turned, lesser};
 use exchange::{Effort, Exchange, Lease, MeetRefused, Parcel};
 use raw_events::EventList;
 use std::alloc::Global;
@@ -172,6 +172,23 @@ impl<T: Turns> Waiting<T> {
             Some(Some(waiter)) => Some(&*waiter.paced),
             _ => None,
         }
+    }
+
+    // The component of the lease that waits and has the least key to do, in its tray or as its next entry, if any has something to do.
+    pub(crate) fn first(&self) -> Option<u16> {
+        let mut first = None;
+        let mut least = Bound::End;
+        for waiter in &self.waiters {
+            if let Some(waiter) = waiter {
+                let lease = &waiter.paced.lease;
+                let bound = lesser(lease.next(), lease.least_coming());
+                if bound < least {
+                    least = bound;
+                    first = Some(lease.number());
+                }
+            }
+        }
+        first
     }
 
     // A lease waits from now on.

@@ -10,7 +10,7 @@ use crate::fault::WorkFault;
 use crate::gate::Gate;
 use crate::shared::{Shared, end, ends, hold, looks, note};
 use event_keys::{Bound, Turned};
-use exchange::{Lease, MeetRefused};
+use exchange::{Lease, MeetRefused, Stop};
 use raw_events::EventList;
 use std::alloc::Global;
 use std::sync::Wait;
@@ -198,6 +198,22 @@ fn later(first: Bound, horizon: Bound) -> Bound {
     }
 }
 
+// Runs a lease ahead by at most so many entries, as the gate lets it, and answers how many. Memory that is refused for the first ends the run.
+fn ahead<T: Turns, G: Gate<T>>(
+    alloc: Global,
+    gate: &G,
+    lease: &mut Lease<T>,
+    most: u32,
+) -> Result<u32, NoMemory>
+    ensures { lease.new.component.setup ≡ lease.old.component.setup }
+{
+    let ran = gate.ahead(alloc, lease, most);
+    if ran.count == 0 && ran.stop == Stop::NoMemory {
+        return Err(NoMemory);
+    }
+    Ok(ran.count)
+}
+
 // Runs a lease on by at most so many entries, and answers how many were done. One that waits for an answer ends where it does nothing.
 fn run_on<T: Turns, G: Gate<T>>(
     alloc: Global,
@@ -209,10 +225,10 @@ fn run_on<T: Turns, G: Gate<T>>(
     ensures { lease.new.component.setup ≡ lease.old.component.setup }
 {
     if !waits {
-        return gate.ahead(alloc, lease, most);
+        return ahead(alloc, gate, lease, most);
     }
     for count in 0..most {
-        if lease.is_idle() || gate.ahead(alloc, lease, 1)? == 0 {
+        if lease.is_idle() || ahead(alloc, gate, lease, 1)? == 0 {
             return Ok(count);
         }
     }
@@ -242,7 +258,7 @@ fn catch_up<T: Turns, G: Gate<T>>(
         if count >= least && lease.next() > bound {
             return Ok(count);
         }
-        if gate.ahead(alloc, lease, 1)? == 0 {
+        if ahead(alloc, gate, lease, 1)? == 0 {
             return Ok(count);
         }
     }

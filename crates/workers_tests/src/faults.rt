@@ -2,13 +2,13 @@
 ghost use Rattle.std.specs.Prelude.{◌≤◌};
 
 use crate::rings::{TEXT, assert_held, page_of, run_ring};
-use exchange::Lease;
+use exchange::{Lease, Ran};
 use std::alloc::Global;
 use std::io::{self, Write};
 use std::sync::atomic::{AtomicBool, Ordering};
 use std::thread;
 use task_seed::AnyTurns;
-use terms::{NoMemory, Refusal};
+use terms::Refusal;
 use trace::{Counted, WriteFault};
 use workers::{Gate, RunFault, Summary, Unheld};
 
@@ -41,13 +41,8 @@ struct Few {
 }
 
 impl Gate<AnyTurns> for Few {
-    fn ahead(
-        &self,
-        alloc: Global,
-        lease: &mut Lease<AnyTurns>,
-        budget: u32,
-    ) -> Result<u32, NoMemory> {
-        lease.run_ahead(alloc, budget)
+    fn ahead(&self, alloc: Global, lease: &mut Lease<AnyTurns>, budget: u32) -> Ran {
+        lease.run_and_tell(alloc, budget)
     }
 
     fn may_start(&self, worker: u16) -> bool {
@@ -82,12 +77,7 @@ struct Waiting<'a> {
 }
 
 impl<'a> Gate<AnyTurns> for Waiting<'a> {
-    fn ahead(
-        &self,
-        alloc: Global,
-        lease: &mut Lease<AnyTurns>,
-        budget: u32,
-    ) -> Result<u32, NoMemory> {
+    fn ahead(&self, alloc: Global, lease: &mut Lease<AnyTurns>, budget: u32) -> Ran {
         if !self.held.swap(true, Ordering::SeqCst) {
             for _ in 0..1_000_000u32 {
                 if self.failed.load(Ordering::SeqCst) {
@@ -96,7 +86,7 @@ impl<'a> Gate<AnyTurns> for Waiting<'a> {
                 thread::yield_now();
             }
         }
-        lease.run_ahead(alloc, budget)
+        lease.run_and_tell(alloc, budget)
     }
 }
 

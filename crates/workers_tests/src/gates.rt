@@ -1,13 +1,12 @@
 //! That leases run ahead side by side, without the lock, and that what is written comes of them.
 
 use crate::rings::{TEXT, run_ring};
-use exchange::Lease;
+use exchange::{Lease, Ran, Stop};
 use std::alloc::Global;
 use std::io::{self, Write};
 use std::sync::atomic::{AtomicBool, AtomicU64, Ordering};
 use std::thread;
 use task_seed::AnyTurns;
-use terms::NoMemory;
 use trace::Counted;
 use workers::{Gate, Summary};
 
@@ -36,12 +35,7 @@ impl Together {
 }
 
 impl Gate<AnyTurns> for Together {
-    fn ahead(
-        &self,
-        alloc: Global,
-        lease: &mut Lease<AnyTurns>,
-        budget: u32,
-    ) -> Result<u32, NoMemory> {
+    fn ahead(&self, alloc: Global, lease: &mut Lease<AnyTurns>, budget: u32) -> Ran {
         let number = u64::from(lease.number());
         match self.begun.fetch_add(1, Ordering::SeqCst) {
             0 => {
@@ -51,7 +45,7 @@ impl Gate<AnyTurns> for Together {
             1 => self.second.store(number, Ordering::SeqCst),
             _ => {}
         }
-        lease.run_ahead(alloc, budget)
+        lease.run_and_tell(alloc, budget)
     }
 }
 
@@ -119,17 +113,15 @@ impl<'a> Holding<'a> {
 }
 
 impl<'a> Gate<AnyTurns> for Holding<'a> {
-    fn ahead(
-        &self,
-        alloc: Global,
-        lease: &mut Lease<AnyTurns>,
-        budget: u32,
-    ) -> Result<u32, NoMemory> {
+    fn ahead(&self, alloc: Global, lease: &mut Lease<AnyTurns>, budget: u32) -> Ran {
         if lease.number() == 0 && self.holds() {
             thread::yield_now();
-            return Ok(0);
+            return Ran {
+                count: 0,
+                stop: Stop::Budget,
+            };
         }
-        lease.run_ahead(alloc, budget)
+        lease.run_and_tell(alloc, budget)
     }
 }
 

@@ -1,4 +1,4 @@
-//! A pool of two marks, and one of the ring's two leases.
+//! Pools of the ring's two leases, with two passes and with one.
 ghost use Rattle.std.specs.Prelude.{◌≡◌, ◌<◌, All, IfOk, Some, length, map};
 ghost use Rattle.pools.specs.Passes.{IsOf, holding};
 ghost use Rattle.pools.specs.Places.{AreAlike, AreOnce, times};
@@ -8,82 +8,75 @@ use crate::exchanges::steps::setup;
 use exchange::laws::pooled_leases_law;
 use exchange::{Exchange, Lease};
 use fixtures::memory::{Held, Refused, exhaust, refuse, room, serve};
-use pools::{Numbered, Pass, Pool};
+use pools::{Pass, Pool};
 use std::alloc::{AllocGlobal, Global};
 use std::process::Abort;
 use std::sync::{Arc, Wait};
 use task_seed::{Setup, TableTurns};
-use terms::{NoMemory, Refusal};
+use terms::Refusal;
 
-#[derive(Drop)]
-struct Mark {
-    number: u16,
-    kind: u8,
-}
-
-impl Numbered<u8> for Mark {
-    ghost number_of = { λ mark. mark.number };
-
-    ghost kind_of = { λ mark. mark.kind };
-}
-
-fn marks(alloc: Global) -> Result<Vec<Mark>, NoMemory>
-    ensures once { IfOk result (λ marks. AreOnce (map (λ mark. mark.number) marks.items)) }
-    ensures alike { IfOk result (λ marks. AreAlike (λ mark. mark.kind) marks.items) }
+// The two leases of the ring.
+fn two_leases(rt: &(impl Abort + AllocGlobal)) -> Vec<Lease<TableTurns>>
+    ensures once { AreOnce (map number_of result.items) }
+    ensures alike { AreAlike setup_of result.items }
 {
-    let first = Mark { number: 0, kind: 7 };
-    let second = Mark { number: 1, kind: 7 };
-    Ok(Vec::from_array(alloc, [first, second])?)
+    pooled_leases_law::<TableTurns>();
+    let setup = Arc::new(rt.alloc(), setup(rt, 1000)).expect(rt, "memory for a setup");
+    let (exchange, leases) = Exchange::new(rt.alloc(), setup).expect(rt, "an exchange");
+    drop(exchange);
+    leases
 }
 
-// Takes a mark that has to be there.
-fn take<R: Wait + Abort>(rt: &R, pool: &Pool<Mark, u8>, pass: &mut Pass<Mark, u8>) -> Mark
+// Takes a lease that has to be there.
+fn take<R: Wait + Abort>(
+    rt: &R,
+    pool: &Pool<Lease<TableTurns>, Setup<TableTurns>>,
+    pass: &mut Pass<Lease<TableTurns>, Setup<TableTurns>>,
+) -> Lease<TableTurns>
     requires { IsOf pool.now pass.old }
     ensures pass { IsOf pool.now pass.new }
-    ensures held { 0 < times result.number (holding pass.new).held }
-    ensures kind { (holding pass.new).kind ≡ Some result.kind }
+    ensures held { 0 < times (number_of result) (holding pass.new).held }
+    ensures kind { (holding pass.new).kind ≡ Some (setup_of result) }
 {
-    let Some(mark) = pool.take(rt, pass) else {
-        panic!(rt; "no mark")
+    let Some(lease) = pool.take(rt, pass) else {
+        panic!(rt; "no lease")
     };
-    mark
+    lease
 }
 
-fn assert_both(rt: &impl Abort, first: &Mark, second: &Mark) {
-    let numbers = (first.number, second.number);
-    assert!(rt; numbers == (0, 1) || numbers == (1, 0));
-    assert!(rt; first.kind == 7 && second.kind == 7);
-}
-
-// Both passes take a mark, there is no third, and both give theirs back.
+// Both passes take a lease, there is no third, and both give theirs back.
 fn take_both<R: Wait + Abort>(
     rt: &R,
-    pool: &Pool<Mark, u8>,
-    one: &mut Pass<Mark, u8>,
-    two: &mut Pass<Mark, u8>,
+    pool: &Pool<Lease<TableTurns>, Setup<TableTurns>>,
+    one: &mut Pass<Lease<TableTurns>, Setup<TableTurns>>,
+    two: &mut Pass<Lease<TableTurns>, Setup<TableTurns>>,
 )
     requires { IsOf pool.now one.old × IsOf pool.now two.old }
     ensures { IsOf pool.now one.new × IsOf pool.now two.new }
 {
     let first = take(rt, pool, one);
     let second = take(rt, pool, two);
-    assert_both(rt, &first, &second);
+    let numbers = (first.number(), second.number());
+    assert!(rt; numbers == (0, 1) || numbers == (1, 0));
     let None = pool.take(rt, one) else {
-        panic!(rt; "a third mark")
+        panic!(rt; "a third lease")
     };
     pool.give_back(rt, one, first);
     pool.give_back(rt, two, second);
 }
 
-// A pool of two marks, which isn't made where its memory is refused.
+// A pool of both with two passes, which isn't made where its memory is refused.
 fn pool_of_two<R: Wait + Abort + AllocGlobal>(
     rt: &R,
     held: &mut Held,
-) -> (Pool<Mark, u8>, Vec<Pass<Mark, u8>>)
+) -> (
+    Pool<Lease<TableTurns>, Setup<TableTurns>>,
+    Vec<Pass<Lease<TableTurns>, Setup<TableTurns>>>,
+)
     ensures count { length result.1.items ≡ 2 }
     ensures passes { All (λ pass. IsOf result.0 pass) result.1.items }
 {
-    let first = marks(rt.alloc()).expect(rt, "memory for marks");
+    let first = two_leases(rt);
     let how = refuse(rt.alloc(), held);
     let made = Pool::new(rt, rt.alloc(), first, 2);
     serve(rt.alloc(), held);
@@ -94,14 +87,14 @@ fn pool_of_two<R: Wait + Abort + AllocGlobal>(
         }
         Err(refused) => {
             assert!(rt; how != Refused::None && refused.number() == 1);
-            let again = marks(rt.alloc()).expect(rt, "memory for marks");
+            let again = two_leases(rt);
             Pool::new(rt, rt.alloc(), again, 2).expect(rt, "memory for a pool")
         }
     }
 }
 
 #[test]
-fn each_mark_is_in_one_place(rt: HostRuntime) {
+fn each_lease_is_in_one_place(rt: HostRuntime) {
     let mut held = room(rt.alloc()).expect(&rt, "room for blocks");
     let (pool, mut passes) = pool_of_two(&rt, &mut held);
     let (Some(mut one), Some(mut two)) = (passes.pop(), passes.pop()) else {
@@ -134,18 +127,6 @@ fn run_one<R: Wait + Abort>(
     let done = lease.run_ahead(alloc, 9).expect(rt, "memory for entries");
     pool.give_back(rt, pass, lease);
     (number, done)
-}
-
-// The two leases of the ring.
-fn two_leases(rt: &(impl Abort + AllocGlobal)) -> Vec<Lease<TableTurns>>
-    ensures once { AreOnce (map number_of result.items) }
-    ensures alike { AreAlike setup_of result.items }
-{
-    pooled_leases_law::<TableTurns>();
-    let setup = Arc::new(rt.alloc(), setup(rt, 1000)).expect(rt, "memory for a setup");
-    let (exchange, leases) = Exchange::new(rt.alloc(), setup).expect(rt, "an exchange");
-    drop(exchange);
-    leases
 }
 
 #[test]

@@ -2,7 +2,7 @@
 
 use crate::exchanges::steps::setup;
 use crate::rings::{ROWS, TEXT, assert_held, page_of, ring_setup, run_ring};
-use exchange::{Exchange, Lease};
+use exchange::{Exchange, Lease, Ran, Stop};
 use fixtures::memory::{Held, Refused, exhaust, refuse, room, serve};
 use std::alloc::{AllocGlobal, Global};
 use std::process::Abort;
@@ -86,13 +86,8 @@ struct Starving {
 }
 
 impl Gate<AnyTurns> for Starving {
-    fn ahead(
-        &self,
-        alloc: Global,
-        lease: &mut Lease<AnyTurns>,
-        budget: u32,
-    ) -> Result<u32, NoMemory> {
-        lease.run_ahead(alloc, budget)
+    fn ahead(&self, alloc: Global, lease: &mut Lease<AnyTurns>, budget: u32) -> Ran {
+        lease.run_and_tell(alloc, budget)
     }
 
     fn may_start(&self, _worker: u16) -> bool {
@@ -115,23 +110,23 @@ struct Wanting {
 }
 
 impl Gate<AnyTurns> for Wanting {
-    fn ahead(
-        &self,
-        alloc: Global,
-        lease: &mut Lease<AnyTurns>,
-        budget: u32,
-    ) -> Result<u32, NoMemory> {
+    fn ahead(&self, alloc: Global, lease: &mut Lease<AnyTurns>, budget: u32) -> Ran {
         if self.calls.fetch_add(1, Ordering::SeqCst) < self.served {
-            return lease.run_ahead(alloc, budget);
+            return lease.run_and_tell(alloc, budget);
         }
-        let mut held = room(alloc)?;
+        let Ok(mut held) = room(alloc) else {
+            return Ran {
+                count: 0,
+                stop: Stop::NoMemory,
+            };
+        };
         exhaust(alloc, &mut held);
-        let ahead = lease.run_ahead(alloc, budget);
-        if ahead.is_err() {
+        let ran = lease.run_and_tell(alloc, budget);
+        if ran.count == 0 && ran.stop == Stop::NoMemory {
             self.is_refused.store(true, Ordering::SeqCst);
         }
         drop(held);
-        ahead
+        ran
     }
 }
 

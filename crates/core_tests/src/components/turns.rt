@@ -5,9 +5,13 @@ ghost use Rattle.task_seed.specs.Clocks.{HasReached};
 
 use super::given::{AT_1, AT_2, AT_3, AT_4, Given, key, plan_of, setup};
 use event_keys::{Key, Outcome};
+use fixtures::memory::{exhaust, room};
+use rand_core::RngCore;
+use rand_pcg::Lcg64Xsh32;
 use reference::Reference;
-use std::alloc::Global;
+use std::alloc::{AllocGlobal, Global};
 use std::marker::{Send, Sync};
+use std::process::Abort;
 use std::sync::Arc;
 use std::sync::atomic::{AtomicU64, Ordering};
 use task_seed::{Clock, SeedTurns, Setup, Turn, Turns};
@@ -26,13 +30,15 @@ fn a_seed_gives_the_published_words(rt: HostRuntime) {
     let plan = plan_of(rt.alloc(), TWO_TASKS).expect(&rt, "memory for a plan");
     let turns = SeedTurns::new(42, 54, 4).expect(&rt, "turns of a seed");
     let setup = Setup::new(plan, turns, 8).expect(&rt, "a setup");
+    let mut words = Lcg64Xsh32::new(42, 54);
     for (number, (choice, tick)) in DRAWN.iter().enumerate() {
         let number = number as u64;
         let turn = Turn {
-            gap: 4,
-            task: 1,
-            choice: *choice,
+            gap: words.next_u32() % 4 + 1,
+            task: words.next_u32() % 2,
+            choice: words.next_u32(),
         };
+        assert!(rt; turn.gap == 4 && turn.task == 1 && turn.choice == *choice);
         assert!(rt; setup.turn(0, number) == Some(turn));
         assert!(rt; setup.key(0, number) == Some(key(*tick, 0, number)));
     }
@@ -73,10 +79,13 @@ fn a_clock_gives_the_keys_of_its_setup(rt: HostRuntime) {
     let turns = SeedTurns::from_zero(7, 3, 9).expect(&rt, "turns of a seed");
     let setup = Setup::new(plan, turns, 2_000).expect(&rt, "a setup");
     let clock = reached(rt.alloc(), &setup, 0, 600).expect(&rt, "memory for a clock");
+    let mut held = room(rt.alloc()).expect(&rt, "room for blocks");
+    assert!(rt; exhaust(rt.alloc(), &mut held));
     for n in 0..601u64 {
         assert!(rt; key_of(&clock, &setup, 0, n, 600) == setup.key(0, n));
         assert!(rt; key_of(&clock, &setup, 0, 600 - n, 600) == setup.key(0, 600 - n));
     }
+    drop(held);
     // The last turn comes after the second tick that is kept, and before turn 600.
     assert!(rt; setup.key(0, 257).is_some() && setup.key(0, 600).is_none());
     drop(clock);
@@ -140,6 +149,9 @@ const RING: [(Key, Option<i64>); 4] = [
     (AT_4, Some(1)),
 ];
 
+// The turns of the fan, and what its sender says.
+const FAN: [(Key, Option<i64>); 2] = [(key(1, 0, 0), Some(0)), (key(2, 0, 1), Some(1))];
+
 // Whether a turn was idle, or took the action 0 with this argument.
 pub(crate) fn is_outcome(outcome: &Outcome, argument: Option<i64>) -> bool {
     match outcome {
@@ -151,20 +163,26 @@ pub(crate) fn is_outcome(outcome: &Outcome, argument: Option<i64>) -> bool {
     }
 }
 
-#[test]
-fn the_simulator_takes_one_turn_a_step(rt: HostRuntime) {
-    let setup = setup(rt.alloc(), Given::Ring).expect(&rt, "memory for a setup");
-    let setup = Arc::new(rt.alloc(), setup).expect(&rt, "memory for a setup");
-    let mut simulator = Reference::new(rt.alloc(), setup).expect(&rt, "memory for a simulator");
-    for (key, passed) in RING {
+// The simulator takes these turns, one a step, and then none.
+fn assert_taken(rt: &(impl Abort + AllocGlobal), given: Given, turns: &[(Key, Option<i64>)]) {
+    let setup = setup(rt.alloc(), given).expect(rt, "memory for a setup");
+    let setup = Arc::new(rt.alloc(), setup).expect(rt, "memory for a setup");
+    let mut simulator = Reference::new(rt.alloc(), setup).expect(rt, "memory for a simulator");
+    for (key, argument) in turns {
         let Ok(Some(turned)) = simulator.step(rt.alloc()) else {
             panic!(rt; "a turn is wanted")
         };
-        assert!(rt; turned.key == key && is_outcome(&turned.outcome, passed));
+        assert!(rt; turned.key == *key && is_outcome(&turned.outcome, *argument));
         drop(turned);
     }
     for _ in 0..2u32 {
         assert!(rt; matches!(simulator.step(rt.alloc()), Ok(None)));
     }
     drop(simulator);
+}
+
+#[test]
+fn the_simulator_takes_one_turn_a_step(rt: HostRuntime) {
+    assert_taken(&rt, Given::Ring, &RING);
+    assert_taken(&rt, Given::Fan, &FAN);
 }

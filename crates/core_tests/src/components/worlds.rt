@@ -1,7 +1,7 @@
 //! Worlds of the ring: their calls without memory, against replies worked out by hand, and a list of steps that is refused its memory.
 
-use super::given::{AT_2, AT_3, Given, setup};
-use event_keys::{Bound, Step};
+use super::given::{AT_1, AT_2, AT_3, Given, setup};
+use event_keys::{Bound, Key, Step};
 use fixtures::memory::{Held, Refused, exhaust, refuse, room, serve};
 use std::alloc::{AllocGlobal, Global};
 use std::process::Abort;
@@ -34,13 +34,14 @@ fn run(rt: &(impl Abort + AllocGlobal), world: &mut Ring, text: &str) {
     drop(steps);
 }
 
-/// Steps with memory, then steps without, with their answers, and what is global virtual time in the end.
+/// Steps with memory, then steps without, with their answers, and in the end global virtual time and the key of the last committed turn.
 #[derive(Clone, Copy)]
 struct Row {
     before: &'static str,
     steps: &'static str,
     answers: [Answer; 5],
     time: Bound,
+    last: Key,
 }
 
 const ROWS: [Row; 2] = [
@@ -56,6 +57,7 @@ const ROWS: [Row; 2] = [
             Err(NothingToRollBack),
         ],
         time: Bound::At(AT_2),
+        last: AT_1,
     },
     // the token is on its way back, and meets its antimessage
     Row {
@@ -69,6 +71,7 @@ const ROWS: [Row; 2] = [
             Err(BehindCommit),
         ],
         time: Bound::At(AT_3),
+        last: AT_2,
     },
 ];
 
@@ -88,6 +91,12 @@ fn count_refused(
     steps.len()
 }
 
+// The key of the last committed turn.
+fn last_committed(world: &Ring) -> Option<Key> {
+    let turned = world.committed().peek_last()?;
+    Some(turned.key)
+}
+
 fn assert_row(rt: &(impl Abort + AllocGlobal), held: &mut Held, row: Row) {
     let mut world = start(rt.alloc()).expect(rt, "memory for a world");
     let mut twin = start(rt.alloc()).expect(rt, "memory for a world");
@@ -97,7 +106,8 @@ fn assert_row(rt: &(impl Abort + AllocGlobal), held: &mut Held, row: Row) {
     let steps = steps_of(rt, &world, row.steps);
     let right = count_refused(rt.alloc(), held, &mut world, steps.as_slice(), &row.answers);
     assert_eq!(rt; right, row.answers.len());
-    assert!(rt; world.gvt() == row.time && world == twin);
+    assert!(rt; world.gvt() == row.time && last_committed(&world) == Some(row.last));
+    assert!(rt; world == twin);
     assert!(rt; world.step(rt.alloc(), &Step::Commit(Bound::End)) == Err(AheadOfTime));
     held.clear();
     drop(steps);

@@ -15,5 +15,5 @@ returns-clause-core g c leases here =
     let lease = c.args.lease.now in
     let m = machine_of t own.setup in
     let law : Lawful m = subst (λ p. Lawful (machine_of t p)) c.setup.ensures c.machine_is_lawful.ensures.lawful in
-    meet_leads m law (c.exchange_is_core.ensures.world m) (c.exchange_is_core.ensures.meet m) (c.exchange_is_sound.ensures.meet m) (length (composition (plan_of own.setup))) lease.component.number (exchange_of m own) (exchange_of m c.accept.new.self) (lease_of lease)
-    (lease_of c.accept.new.lease) c.soundness_law.ensures.sound c.accept.ensures.met leases here
+    meet_leads m law (c.exchange_is_core.ensures.world m) (c.exchange_is_core.ensures.meet m) (c.exchange_is_sound.ensures.meet m) (length (composition (plan_of own.setup))) lease.component.number (exchange_of m own) (exchange_of m c.accept-bound.new.self) (lease_of lease)
+    (lease_of c.accept-bound.new.lease) c.soundness_law.ensures.sound c.accept-bound.ensures.met leases here

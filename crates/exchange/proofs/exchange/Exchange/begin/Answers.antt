@@ -13,7 +13,7 @@ use Rattle.exchange.specs.Start.{start_stub, start_within}
 use Rattle.exchange.proofs.Starting.{seen, shared_kept}
 use Rattle.exchange.proofs.Windowed.{shared_within}
 use Rattle.exchange.proofs.Repeated.{same_more}
-use Rattle.exchange.proofs.exchange.Exchange.start.Goals as goal
+use Rattle.exchange.proofs.exchange.Exchange.begin.Goals as goal
 
 pub invariant_of-exchange : goal.invariant_of-exchange
 invariant_of-exchange g c =

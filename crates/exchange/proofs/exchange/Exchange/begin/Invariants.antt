@@ -4,7 +4,7 @@ use Rattle.std.specs.Arc.{arc_value}
 use Rattle.std.specs.List.{range_with_len}
 use Rattle.task_seed.specs.Setups.{system}
 use Rattle.exchange.specs.Start.{start_stub, start_within}
-use Rattle.exchange.proofs.exchange.Exchange.start.Given as goal
+use Rattle.exchange.proofs.exchange.Exchange.begin.Given as goal
 
 abbrev pub invariant-loop-i : goal.invariant-loop-i
 invariant-loop-i g l =
