@@ -6,7 +6,7 @@ ghost use Rattle.virtual_time.specs.Reference.{IsReference};
 ghost use Rattle.task_seed.specs.Machines.{machine};
 ghost use Rattle.task_seed.specs.Setups.{plan_of, system};
 ghost use Rattle.task_seed.specs.Taken.{turns_of};
-ghost use Rattle.reference.specs.Schedules.{AreAllTurns};
+ghost use Rattle.schedules.specs.Schedules.{AreAllTurns};
 ghost use Rattle.trace.specs.declared.lines.Lines.{Lines};
 ghost use Rattle.trace.specs.Heads.{head_text};
 ghost use Rattle.trace.specs.Lines.{text_of};

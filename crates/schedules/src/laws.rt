@@ -1,6 +1,10 @@
-//! The law of the simulator's schedules. Its function does nothing: its contract is the law.
+//! The laws of the simulator's turns. Each function does nothing: its contract is the law.
+ghost use Rattle.std.specs.Prelude.{◌≡◌, List};
+ghost use Rattle.event_keys.specs.declared.outcome.Turned.{Turned};
+ghost use Rattle.plans.specs.declared.plan.Plan.{Plan};
 ghost use Rattle.task_seed.specs.Setups.{plan_of, system};
-ghost use Rattle.reference.specs.Schedules.{HasSchedules, HasSchedulesBelow};
+ghost use Rattle.task_seed.specs.Turning.{System};
+ghost use Rattle.schedules.specs.Schedules.{AreAllTurns, HasSchedules, HasSchedulesBelow};
 
 use plans::laws::{compatible, turn_is_step};
 use task_seed::laws::machine_is_lawful;
@@ -18,3 +22,9 @@ pub fn turns_are_schedule<T: Turns>(setup: &Setup<T>)
     compatible(setup.plan());
     turn_is_step(setup.plan());
 }
+
+/// A setup has one list of all turns. So whatever writes all of them by one definition of their lines writes one text.
+pub fn turns_are_one()
+    ensures { (plan : Plan) (s : System) (turns others : List Turned) → AreAllTurns plan s turns
+        → AreAllTurns plan s others → turns ≡ others }
+{}

@@ -1,0 +1,2 @@
+mod Scheduled
+pub mod Told
