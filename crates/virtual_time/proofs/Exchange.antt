@@ -21,3 +21,4 @@ pub mod Moved
 pub mod Exists
 pub mod Quiet
 pub mod Merging
+pub mod Progress

@@ -5,6 +5,7 @@ pub mod Meetings
 pub mod Moved
 pub mod Wholes
 pub mod Windows
+pub mod Progress
 pub mod Calls
 pub mod WindowCalls
 pub mod Merged

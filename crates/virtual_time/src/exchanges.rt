@@ -1,15 +1,16 @@
 //! The exchange of several workers, and the leases that they hold.
-ghost use Rattle.std.specs.Prelude.{List, None, Option, Some, [], length, ◌*◌, ◌+◌, ◌++◌, ◌-◌, ◌<◌, ◌∷◌, ◌≡◌, ◌≤◌, ℕ};
+ghost use Rattle.std.specs.Prelude.{List, None, Option, Some, [], length, ◌*◌, ◌+◌, ◌++◌, ◌-◌, ◌<◌, ◌∷◌, ◌≡◌, ◌≤◌, ◌⊎◌, ℕ};
 ghost use Rattle.virtual_time.specs.Inverses.{meets_of};
 ghost use Rattle.virtual_time.specs.Bags.{inputs, times};
-ghost use Rattle.virtual_time.specs.Entries.{Entry, Item, below};
+ghost use Rattle.virtual_time.specs.Entries.{Entry, Item, Own, below};
 ghost use Rattle.virtual_time.specs.Exchange.Calls.{Call, CallMeet, Called, Calls, IsShared, Shared, start_shared};
 ghost use Rattle.virtual_time.specs.Exchange.WindowCalls.{CallsWithin, IsWindowed};
 ghost use Rattle.virtual_time.specs.Exchange.Windows.{HasRoom, IsExchangeWithin, IsWithin, inboxes, own_turns};
-ghost use Rattle.virtual_time.specs.Records.{Record, after_entry, antimessage_comes, back_by_antimessage, back_by_message, message_comes, next_of, sent_by, turns_among, unsent};
+ghost use Rattle.virtual_time.specs.Exchange.Progress.{CanGoOn, HasNextTurn, HaveAllMet};
+ghost use Rattle.virtual_time.specs.Records.{Record, after_entry, antimessage_comes, back_by_antimessage, back_by_message, cut_of, message_comes, next_of, sent_by, turns_among, unsent};
 ghost use Rattle.virtual_time.specs.Exchange.Stubs.{Exchange, IsSound, start_exchange};
 ghost use Rattle.virtual_time.specs.Exchange.Leases.{Does, IsLease, Lease, Matches, alone, lease_after, lease_of, start_lease};
-ghost use Rattle.virtual_time.specs.Worlds.{Commit, Reaches, Step, World, deliver_antimessage, deliver_message, process, put_back, record_of, same, start_world, taken_at};
+ghost use Rattle.virtual_time.specs.Worlds.{Commit, Part, Reaches, Step, World, deliver_antimessage, deliver_message, process, put_back, record_of, same, start_world, taken_at};
 ghost use Rattle.virtual_time.specs.Rules.{IsWorld};
 ghost use Rattle.virtual_time.specs.Reference.{Falls, IsReference, Turn, outcome_at, reference_below};
 ghost use Rattle.virtual_time.specs.Exchange.Meetings.{IsChunk, IsCommit, Met};
@@ -222,4 +223,17 @@ pub fn window_law<S, A>()
         → IsWindowed machine window count shared
         → CallsWithin machine window count shared calls new_shared
         → IsWindowed machine window count new_shared }
+{}
+
+/// A run with small windows does not stand still. Where every lease has met the exchange, no inbox has anything, and the bound was raised
+/// as far as it goes, the bound is the end, or one of the components has something to do at the bound. What waits in its tray and an
+/// input need no room in a window; an own turn finds room in each, once what is below the bound is given up.
+pub fn progress_law<S, A>()
+    ensures goes_on { (machine : Machine S A) (count : ℕ) (exchange new_exchange : Exchange A)
+        (leases : ℕ → Lease S A) → Lawful machine → HaveAllMet machine count exchange leases
+        → IsCommit machine exchange new_exchange → (new_exchange.bound ≡ machine.top)
+        ⊎ ((i : ℕ) × (i < count) × CanGoOn machine i new_exchange.bound (leases i).part) }
+    ensures room { (machine : Machine S A) (window i g : ℕ) (part : Part S A) → 0 < window
+        → (turn : HasNextTurn machine i g part)
+        → HasRoom window (cut_of machine i g (record_of part)) (Own g turn.outcome) }
 {}
