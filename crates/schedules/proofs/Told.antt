@@ -1,5 +1,5 @@
 -- Turns of the code that a list of the theory's turns tells: there are some, and one list of them alone.
-use Rattle.std.proofs.Common.{◌≡◌, ℕ, zero, suc, ◌+◌, ◌/◌, ◌%◌, ◌^◌, ◌<◌, ◌≤◌, Option, None, Some, List, [], ◌∷◌, ◌++◌, map, reverse, refl, ap, sym, subst, ◌∙◌, arith}
+use Rattle.std.proofs.Common.{◌≡◌, ℕ, zero, suc, ◌/◌, ◌%◌, ◌^◌, ◌<◌, ◌≤◌, Option, None, Some, List, [], ◌∷◌, ◌++◌, map, reverse, refl, ap, sym, subst, ◌∙◌, arith}
 use Rattle.std.specs.List.{AllByRecursion}
 use Rattle.std.proofs.lemmas.List.{map-append, reverse-append, reverse-reverse}
 use Rattle.terms.specs.Named.{Named}
@@ -19,14 +19,17 @@ end_is : end_rank ≡ 2 ^ 144
 unfolding end_rank
 end_is = refl
 
--- keys of turns that are put together, turned round, and cut off
-pub fit_joined : (turns later : List Turned) → KeysFit turns → KeysFit later → KeysFit (turns ++ later)
-fit_joined [] later fit last = last
-fit_joined (turned ∷ turns) later fit last = (fit.0, fit_joined turns later fit.1 last)
+-- what holds of each item of lists that are put together, or turned round
+all_joined : {X : Type 0} (P : X → Type 0) (xs ys : List X) → AllByRecursion P xs → AllByRecursion P ys → AllByRecursion P (xs ++ ys)
+all_joined P [] ys first last = last
+all_joined P (x ∷ xs) ys first last = (first.0, all_joined P xs ys first.1 last)
 
-fit_reversed : (turns : List Turned) → KeysFit turns → KeysFit (reverse turns)
-fit_reversed [] fit = tt
-fit_reversed (turned ∷ turns) fit = subst KeysFit (sym (reverse-append (turned ∷ []) turns)) (fit_joined (reverse turns) (turned ∷ []) (fit_reversed turns fit.1) (fit.0, tt))
+pub all_reversed : {X : Type 0} (P : X → Type 0) (xs : List X) → AllByRecursion P xs → AllByRecursion P (reverse xs)
+all_reversed P [] all = tt
+all_reversed P (x ∷ xs) all = subst (AllByRecursion P) (sym (reverse-append (x ∷ []) xs)) (all_joined P (reverse xs) (x ∷ []) (all_reversed P xs all.1) (all.0, tt))
+
+pub fit_joined : (turns later : List Turned) → KeysFit turns → KeysFit later → KeysFit (turns ++ later)
+fit_joined = all_joined (λ turned. KeyFits turned.key)
 
 -- the key of a rank
 abbrev key_of_rank : ℕ → Key
@@ -94,7 +97,7 @@ followed m turns extra are fit =
     record {
       later = reverse newest;
       are = turns_joined turns (reverse newest) ∙ ap (λ l. l ++ turns_of turns) (newest_first newest ∙ turns_again extra) ∙ sym are;
-      keys = fit_joined turns (reverse newest) fit (fit_reversed newest (turns_fit extra low));
+      keys = fit_joined turns (reverse newest) fit (all_reversed (λ turned. KeyFits turned.key) newest (turns_fit extra low));
     }
 
 -- keys of one rank are one key, where they fit
