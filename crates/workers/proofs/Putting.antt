@@ -21,14 +21,14 @@ pub record ArePut {W : Type 0} (known : W → Option (List ℕ)) (plan : Plan) (
   pub keys : KeysFit first
   pub puts : Puts known old new start bytes (text_of plan lines first)
 
+-- those that are left begin with a turn
+next_first : {turns left rest : List Turned} (first : List Turned) (turned : Turned) → turns ≡ first ++ left → left ≡ turned ∷ rest → turns ≡ (first ++ turned ∷ []) ++ rest
+next_first {rest = rest} first turned are next = are ∙ ap (λ l. first ++ l) next ∙ sym (append_assoc first (turned ∷ []) rest)
+
 module _ {W : Type 0} {known : W → Option (List ℕ)} {plan : Plan} {lines : Lines} where
   -- none went out yet
   pub none_put : (out : Counted W) (start : ℕ) {turns left : List Turned} → start < 2 ^ 64 → left ≡ turns → ArePut known plan lines out out start start turns left
   none_put out start low are = record { first = []; are = sym are; keys = tt; puts = puts_nothing out start low }
-
-  -- those that are left begin with a turn
-  next_first : {turns left rest : List Turned} (first : List Turned) (turned : Turned) → turns ≡ first ++ left → left ≡ turned ∷ rest → turns ≡ (first ++ turned ∷ []) ++ rest
-  next_first {turns} {left} {rest} first turned are next = are ∙ ap (λ l. first ++ l) next ∙ sym (append_assoc first (turned ∷ []) rest)
 
   -- one line more went out
   pub next_put : {old mid new : Counted W} {start before after : ℕ} {turns left rest : List Turned} (turned : Turned) → ArePut known plan lines old mid start before turns left → left ≡ turned ∷ rest → KeyFits turned.key

@@ -6,7 +6,7 @@ use Rattle.commands.proofs.driving.committed_fits.Goals as goal
 pub loop-turned-init : goal.loop-turned-init
 loop-turned-init g c =
     subst KeysFit
-    (c.into_iter-turned-iterator.ensures.into_iter_gives ∙ c.iter.ensures ∙ ap (λ a. reverse a.before ++ a.after) c.committed.ensures.turns
+    (c.into_iter-turned-iterator.ensures.into_iter_gives ∙ c.iter-turned-items.ensures ∙ ap (λ a. reverse a.before ++ a.after) c.committed.ensures.turns
     ∙ append-nil (reverse c.args.world.now.committed))
 
 pub loop-turned-preserved : goal.loop-turned-preserved

@@ -9,7 +9,7 @@ failed_with P r e is p = subst (λ x. IfErr x P) (sym is) p
 pub loop-turned-init : goal.loop-turned-init
 loop-turned-init g c =
     let turns = c.args.turns.now in
-    none_put c.args.out.now c.args.before (omega arith) (c.into_iter-turned-iterator.ensures.into_iter_gives ∙ c.iter.ensures ∙ ap (λ l. reverse l ++ turns.after) c.requires.front)
+    none_put c.args.out.now c.args.before (omega arith) (c.into_iter-turned-iterator.ensures.into_iter_gives ∙ c.iter-turned-items.ensures ∙ ap (λ l. reverse l ++ turns.after) c.requires.front)
 
 pub loop-turned-preserved : goal.loop-turned-preserved
 loop-turned-preserved g c = next_put c.in-Some.turned.now c.loop-turned.invariant c.in-Some.ensures.steps c.fits.ensures c.in_ok-written.ensures.ok
