@@ -19,7 +19,7 @@ use Rattle.world.specs.Simulation.{Simulation, world_of}
 use Rattle.world.specs.Steps.{answer_of, step_of}
 use Rattle.commands.specs.declared.driving.RefusedStep.{RefusedStep}
 use Rattle.commands.specs.Driven.{IsBeginning, IsDriven, refused_from}
-use Rattle.commands.proofs.Beginnings.{newest_first}
+use Rattle.schedules.proofs.Told.{newest_first}
 
 module _ {T : Type 0} (turn_of : T → ℕ → ℕ → Option Turn) (setup : Setup T) (lines : Lines) (steps : List Step) (left : Simulation (Setup T)) (same : left.setup ≡ setup) where
   -- the steps have answers and lead from the start to what is left

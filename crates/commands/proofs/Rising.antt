@@ -1,5 +1,5 @@
 -- The simulator's turns are in the order of their keys.
-use Rattle.std.proofs.Common.{◌≡◌, ℕ, ◌^◌, ◌<◌, List, [], ◌∷◌, ◌++◌, map, reverse, length, sym, subst, ◌∙◌, arith}
+use Rattle.std.proofs.Common.{◌≡◌, ℕ, ◌^◌, ◌<◌, List, [], ◌∷◌, ◌++◌, map, reverse, length, refl, sym, subst, ◌∙◌, arith}
 use Rattle.std.specs.Prelude.{None, Some}
 use Rattle.std.specs.Cmp.{nat_cmp_is}
 use Rattle.std.specs.List.{AllByRecursion}
@@ -7,7 +7,10 @@ use Rattle.std.specs.declared.cmp.Ordering.TheVariants.{Less}
 use Rattle.std.proofs.lemmas.List.{reverse-append}
 use Rattle.terms.specs.Named.{Named}
 use Rattle.event_keys.specs.declared.key.Key.{Key}
+use Rattle.event_keys.specs.declared.outcome.Outcome.{Outcome}
+use Rattle.event_keys.specs.declared.outcome.Outcome.TheVariants.{Idle, Did}
 use Rattle.event_keys.specs.declared.outcome.Turned.{Turned}
+use Rattle.event_keys.specs.Entries.{action_of}
 use Rattle.event_keys.specs.Orders.{key_order}
 use Rattle.event_keys.specs.Ranked.{key_rank}
 use Rattle.event_keys.specs.Ranks.{rank}
@@ -15,7 +18,10 @@ use Rattle.virtual_time.specs.Reference.{Turn, AllBelow, Falls}
 use Rattle.plans.specs.declared.plan.Plan.{Plan}
 use Rattle.plans.specs.Plans.{composition}
 use Rattle.task_seed.specs.Taken.{turn_of, turns_of}
+use Rattle.schedules.specs.Turns.{IsOwnTurn, IsTaken}
 use Rattle.trace.specs.OrderedFile.{AreInOrder, IsKeyOf, IsTurnOf}
+use Rattle.trace.specs.WrittenTurns.{IsOutcome}
+use Rattle.commands.specs.Said.{IsSaid, SaysAll}
 
 -- of falling turns the first ones fall, and those at the end are below each of them
 below_front : (k : ℕ) (xs ys : List (Turn Named)) → AllBelow k (xs ++ ys) → AllBelow k xs
@@ -52,3 +58,23 @@ module _ (plan : Plan) (few : length (composition plan) < 2 ^ 16) where
   pub rising : (turns : List Turned) → AllByRecursion (IsTurnOf plan) turns → Falls (turns_of turns) → AreInOrder plan None turns
   rising [] all falls = tt
   rising (a ∷ turns) all falls = (all.0, tt, rising_on a turns all.0 all.1 falls)
+
+-- turns of the components, whose actions lines say, are turns of the plan
+is_turn : (plan : Plan) (turned : Turned) → IsOwnTurn (composition plan) turned → IsSaid plan turned → IsTurnOf plan turned
+is_turn plan turned own said =
+    let fits = own.fits in
+    let component : turned.key.component < 2 ^ 64 = omega (arith, fits.component) in
+    record { key = record { numbers = record { tick = fits.tick; component = component; number = fits.number }; exists = own.exists }; outcome = said }
+
+pub are_turns : (plan : Plan) (turns : List Turned) → AllByRecursion (IsOwnTurn (composition plan)) turns → AllByRecursion (IsSaid plan) turns → AllByRecursion (IsTurnOf plan) turns
+are_turns plan [] own said = tt
+are_turns plan (turned ∷ turns) own said = (is_turn plan turned own.0 said.0, are_turns plan turns own.1 said.1)
+
+is_said : (plan : Plan) → SaysAll plan → (i : ℕ) (outcome : Outcome) → ((action : Named) → action_of outcome ≡ Some action → IsTaken (composition plan) i action) → IsOutcome plan outcome
+is_said plan says i Idle taken = tt
+is_said plan says i (Did action) taken = says i action (taken action refl)
+
+-- where lines say what turns of components take, they say what those turns did
+pub all_said : (plan : Plan) → SaysAll plan → (turns : List Turned) → AllByRecursion (IsOwnTurn (composition plan)) turns → AllByRecursion (IsSaid plan) turns
+all_said plan says [] own = tt
+all_said plan says (turned ∷ turns) own = (is_said plan says turned.key.component turned.outcome own.0.taken, all_said plan says turns own.1)

@@ -11,7 +11,7 @@ use Rattle.task_seed.specs.Turning.{System}
 use Rattle.task_seed.specs.Taken.{turns_of}
 use Rattle.event_keys.specs.declared.step.Step.{Step}
 use Rattle.world.specs.Steps.{step_of}
-use Rattle.reference.specs.Schedules.{AreAllTurns, AreSchedule}
+use Rattle.schedules.specs.Schedules.{AreAllTurns, AreSchedule, KeysFit}
 use Rattle.trace.specs.declared.fault.WriteFault.{WriteFault}
 use Rattle.trace.specs.declared.lines.Lines.{Lines}
 use Rattle.trace.specs.Lines.{text_of}
@@ -33,9 +33,10 @@ abbrev pub refused_from : ℕ → List Reply → List RefusedStep
 refused_from place [] = []
 refused_from place (reply ∷ replies) = add_refused place reply (refused_from (place + 1) replies)
 
--- the text of the turns is a beginning of the text of all turns of the simulator that always takes the least key, and their actions are a schedule of
--- the plan
+-- the text of the turns is a beginning of the text of all turns of the simulator that always takes the least key; the numbers of their keys fit their
+-- types, and their actions are a schedule of the plan
 pub record IsBeginning (plan : Plan) (system : System) (lines : Lines) (turns : List Turned) : Type 0 where
+  pub keys : KeysFit turns
   pub scheduled : AreSchedule plan turns
   pub all : List Turned
   pub are : AreAllTurns plan system all

@@ -22,3 +22,4 @@ pub mod Tables
 pub mod Unread
 pub mod Whole
 pub mod Written
+pub mod Said

@@ -3,7 +3,7 @@ use Rattle.std.specs.Prelude.{ℕ, List}
 use Rattle.event_keys.specs.declared.outcome.Turned.{Turned}
 use Rattle.plans.specs.declared.plan.Plan.{Plan}
 use Rattle.task_seed.specs.Turning.{System}
-use Rattle.reference.specs.Schedules.{AreAllTurns}
+use Rattle.schedules.specs.Schedules.{AreAllTurns}
 use Rattle.trace.specs.declared.fault.WriteFault.{WriteFault}
 use Rattle.trace.specs.declared.lines.Lines.{Lines}
 use Rattle.trace.specs.Lines.{text_of}

@@ -1,6 +1,7 @@
 //! The engine of `drive`, for a setup and steps.
 ghost use Rattle.std.specs.Prelude.{◌≡◌, IfErr, IfOk, OnOk, map, reverse};
 ghost use Rattle.task_seed.specs.Setups.{plan_of, system};
+ghost use Rattle.schedules.specs.Schedules.{KeysFit};
 ghost use Rattle.rollback.specs.ComponentView.{machine_of};
 ghost use Rattle.virtual_time.specs.Worlds.{start_world};
 ghost use Rattle.trace.specs.Headed.{Behind, headed};
@@ -12,7 +13,8 @@ ghost use Rattle.world.specs.Steps.{answer_of};
 ghost use Rattle.commands.specs.Driven.{IsBeginning, IsDriven, IsUndriven, refused_from};
 
 use crate::fault::DriveFault;
-use reference::laws::turns_are_schedule;
+use schedules::fits;
+use schedules::laws::turns_are_schedule;
 use std::alloc::{AllocError, Global};
 use std::io::Write;
 use std::sync::Arc;
@@ -103,7 +105,16 @@ fn refused_steps(
     Ok(refused)
 }
 
-// The text of what is committed is a beginning of that of all turns, and its actions are a schedule. The call does nothing.
+// The numbers of the keys of what is committed fit their types. The call reads each of them, so that they are known to.
+fn committed_fits<T: Turns>(world: &World<T>)
+    ensures { KeysFit (reverse world.now.committed) }
+{
+    for turned in world.committed().iter() {
+        fits(turned.key);
+    }
+}
+
+// The text of what is committed is a beginning of that of all turns, and its actions are a schedule. The call changes nothing.
 fn committed_begins<T: Turns>(world: &World<T>, lines: Lines)
     ensures { IsBeginning (plan_of world.now.setup) (system T.turn_of world.now.setup) lines
         (reverse world.now.committed) }
@@ -112,6 +123,7 @@ fn committed_begins<T: Turns>(world: &World<T>, lines: Lines)
     turns_are_schedule(world.setup());
     reference_is_one::<State, Action>();
     reference_is_complete::<State, Action>();
+    committed_fits(world);
     let _ = world.committed();
 }
 

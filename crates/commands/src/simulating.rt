@@ -3,6 +3,7 @@ ghost use Rattle.std.specs.Prelude.{◌≡◌, [], IfErr, IfOk, OnOk, option_cop
 ghost use Rattle.std.specs.Io.KnownBytes.{Keeps};
 ghost use Rattle.task_seed.specs.Setups.{plan_of, system};
 ghost use Rattle.task_seed.specs.Taken.{turned_of};
+ghost use Rattle.schedules.specs.Schedules.{KeyFits};
 ghost use Rattle.trace.specs.Counts.{failures_of, writer_of};
 ghost use Rattle.trace.specs.Headed.{Behind, headed};
 ghost use Rattle.trace.specs.Lines.{shown_text};
@@ -15,7 +16,7 @@ use crate::fault::SimulateFault;
 use event_keys::Key;
 use plans::Plan;
 use reference::Reference;
-use reference::laws::turns_are_schedule;
+use schedules::laws::turns_are_schedule;
 use std::alloc::Global;
 use std::io::Write;
 use std::sync::Arc;
@@ -125,6 +126,7 @@ fn put_turn<W: Write>(
     before: u64,
     out: &mut Counted<W>,
 ) -> Result<u64, WriteFault>
+    ensures key { KeyFits key }
     ensures ok { IfOk result (λ after. Puts W.contents out.old out.new before after
         (shown_text plan.now lines (turned_of (option_copied found.entry) key))) }
     ensures err { IfErr result (λ fault. Stops W.contents out.old out.new before

@@ -5,7 +5,7 @@ use Rattle.virtual_time.specs.Reference.{Turn, IsReference, reference_below}
 use Rattle.plans.specs.declared.plan.Plan.{Plan}
 use Rattle.task_seed.specs.Machines.{machine, end_rank}
 use Rattle.task_seed.specs.Turning.{System}
-use Rattle.reference.specs.Schedules.{HasSchedulesBelow}
+use Rattle.schedules.specs.Schedules.{HasSchedulesBelow}
 
 -- the actions of its turns below a bound are a schedule of the plan, all of its turns begin with
 -- those, and all are one list

@@ -8,7 +8,7 @@ use Rattle.event_keys.specs.declared.outcome.Turned.{Turned}
 use Rattle.plans.specs.declared.plan.Plan.{Plan}
 use Rattle.task_seed.specs.Machines.{same_action}
 use Rattle.task_seed.specs.Turning.{System}
-use Rattle.reference.specs.Schedules.{AreAllTurns}
+use Rattle.schedules.specs.Schedules.{AreAllTurns}
 use Rattle.trace.specs.declared.lines.Lines.TheVariants.{All}
 use Rattle.trace.specs.Lines.{text_of}
 use Rattle.hunt.specs.declared.wanted.Wanted.{Wanted}

@@ -7,7 +7,8 @@ ghost use Rattle.hunt.specs.Sightings.{NeverOccurs, Occurs};
 use crate::wanted::Wanted;
 use event_keys::Turned;
 use reference::Reference;
-use reference::laws::turns_are_schedule;
+use schedules::fits;
+use schedules::laws::turns_are_schedule;
 use std::alloc::Global;
 use task_seed::laws::machine_is_lawful;
 use task_seed::{Setup, Turns};
@@ -42,6 +43,7 @@ pub(crate) fn seek<T: Turns>(
 {
     let mut turns = Vec::new(alloc);
     while let Some(turned) = reference.step(alloc)? {
+        fits(turned.key);
         let seen = wanted.saw(&turned);
         turns.push(turned)?;
         if seen {

@@ -2,7 +2,6 @@ pub mod Checked
 mod Joining
 mod Queued
 pub mod Runs
-mod Scheduled
 mod Stepping
 mod Takers
 mod Reached

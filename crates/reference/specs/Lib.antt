@@ -1,6 +1,5 @@
 pub mod Queues
 pub mod Clocks
-pub mod Schedules
 pub mod Standing
 pub mod Taking
 pub mod Verdicts

@@ -1,11 +1,9 @@
 -- A simulator as its callers see it.
-use Rattle.std.specs.Prelude.{◌≡◌, ℕ, ◌≤◌, Option, None, Some, List, [], ◌∷◌}
+use Rattle.std.specs.Prelude.{◌≡◌, ℕ, ◌≤◌, Option, None, Some, List, ◌∷◌}
 use Rattle.terms.specs.Datum.{Datum}
 use Rattle.terms.specs.Named.{Named}
 use Rattle.event_keys.specs.declared.outcome.Turned.{Turned}
-use Rattle.event_keys.specs.Entries.{action_of}
 use Rattle.virtual_time.specs.Machine.{Machine}
-use Rattle.virtual_time.specs.Executions.{add_action}
 use Rattle.virtual_time.specs.Reference.{Turn, IsNext, IsReference, after, reference_below}
 use Rattle.task_seed.specs.Taken.{turn_of}
 
@@ -13,11 +11,6 @@ use Rattle.task_seed.specs.Taken.{turn_of}
 pub record Ran (P : Type 0) : Type 0 where
   pub setup : P
   pub taken : List (Turn Named)
-
--- the actions of turns, idle turns left out
-abbrev pub actions_of : List Turned → List Named
-actions_of [] = []
-actions_of (turned ∷ turns) = add_action (action_of turned.outcome) (actions_of turns)
 
 -- one more turn is taken, the next one; or all turns that there are were taken
 abbrev pub IsNextTurn : Machine (List Datum) Named → List (Turn Named) → Option Turned → List (Turn Named) → Type 0

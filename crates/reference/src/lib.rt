@@ -4,7 +4,6 @@
 pub mod checking;
 mod clocks;
 mod frontier;
-pub mod laws;
 pub mod scheduling;
 pub mod simulator;
 mod taking;

@@ -6,11 +6,12 @@ ghost use Rattle.task_seed.specs.Taken.{turns_of};
 ghost use Rattle.virtual_time.specs.Reference.{IsReference, reference_below};
 ghost use Rattle.reference.specs.Clocks.{AreClocks};
 ghost use Rattle.reference.specs.Standing.{taken_at, IsBeforeLeast};
-ghost use Rattle.reference.specs.Schedules.{AreAllTurns};
+ghost use Rattle.schedules.specs.Schedules.{AreAllTurns, KeysFit};
 
 use crate::frontier::Frontier;
-use crate::laws::turns_are_schedule;
 use event_keys::Turned;
+use schedules::fits;
+use schedules::laws::turns_are_schedule;
 use std::alloc::Global;
 use task_seed::laws::machine_is_lawful;
 use task_seed::{Setup, Turns};
@@ -34,12 +35,14 @@ fn take_all<T: Turns>(
         (machine (system T.turn_of setup.now)) end_rank (turns_of turns.items)) }
     ensures turns { IfOk result (λ turns. turns_of turns.items
         ≡ reference_below (machine (system T.turn_of setup.now)) end_rank) }
+    ensures keys { IfOk result (λ turns. KeysFit turns.items) }
 {
     machine_is_lawful(setup);
     reference_is_one::<State, Action>();
     reference_is_complete::<State, Action>();
     let mut turns = Vec::new(alloc);
     while let Some(turned) = frontier.take_next(alloc, setup)? {
+        fits(turned.key);
         turns.push(turned)?;
     }
     Ok(turns)

@@ -7,3 +7,4 @@ mod Portioned
 mod Settled
 mod Started
 mod Written
+mod Putting

@@ -2,14 +2,15 @@
 use Rattle.std.proofs.Common.{◌≡◌, ℕ, ◌<◌, ◌≤◌, ◌^◌, List, [], ◌++◌, length, take, refl, ap, sym, subst, ◌∙◌, arith, length-append}
 use Rattle.std.specs.Prelude.{Option}
 use Rattle.std.proofs.lemmas.Grind.{flat_map-append}
-use Rattle.std.proofs.lemmas.List.{take-append-le, take_all}
+use Rattle.std.proofs.lemmas.List.{append_assoc, take-append-le, take_all}
 use Rattle.event_keys.specs.declared.outcome.Turned.{Turned}
 use Rattle.virtual_time.specs.Reference.{reference_below}
 use Rattle.plans.specs.declared.plan.Plan.{Plan}
 use Rattle.task_seed.specs.Machines.{machine, end_rank}
 use Rattle.task_seed.specs.Turning.{System}
 use Rattle.task_seed.specs.Taken.{turns_of}
-use Rattle.reference.specs.Schedules.{AreAllTurns, AreSchedule, HasSchedulesBelow}
+use Rattle.schedules.specs.Schedules.{AreAllTurns, AreSchedule, HasSchedulesBelow, KeysFit}
+use Rattle.schedules.proofs.Told.{AreFollowed, fit_joined, followed, turns_joined}
 use Rattle.exchange.specs.Chunks.{IsGiven}
 use Rattle.trace.specs.declared.counted.Counted.{Counted}
 use Rattle.trace.specs.declared.fault.WriteFault.{WriteFault}
@@ -21,10 +22,10 @@ use Rattle.trace.specs.Went.{IsWritten}
 use Rattle.workers.specs.declared.fault.WorkFault.{WorkFault}
 use Rattle.workers.specs.declared.fault.WorkFault.TheVariants.{NoMemory, Meeting, ThreadRefused}
 use Rattle.workers.specs.declared.writing.Portion.{Portion}
-use Rattle.workers.specs.Portions.{IsPortion}
+use Rattle.workers.specs.Portions.{IsPortion, IsStoppedIn}
 use Rattle.workers.specs.Refusals.{run_fault}
 use Rattle.workers.specs.Runs.{IsBegun, IsCut, IsUnfinished, IsWhole}
-use Rattle.workers.proofs.Growing.{as_many, grown, length_turns, turns_for, turns_joined}
+use Rattle.workers.proofs.Growing.{as_many, grown, length_turns}
 
 -- the lines of the first turns went out, so many turns, and so many bytes with those from the start
 pub record Sofar {W : Type 0} (known : W → Option (List ℕ)) (plan : Plan) (s : System) (lines : Lines) (old new : Counted W) (start written bytes : ℕ) : Type 0 where
@@ -33,6 +34,7 @@ pub record Sofar {W : Type 0} (known : W → Option (List ℕ)) (plan : Plan) (s
   pub within : bound ≤ end_rank
   pub are : turns_of turns ≡ reference_below (machine s) bound
   pub count : written ≡ length turns
+  pub keys : KeysFit turns
   pub puts : Puts known old new start bytes (text_of plan lines turns)
 
 module _ (s : System) where
@@ -44,28 +46,27 @@ module _ (s : System) where
       turns_joined turns more ∙ ap (λ l. turns_of more ++ l) (are ∙ sym same) ∙ sym given.next
 
   -- all turns begin with these
-  all_after : (turns : List Turned) (b : ℕ) → b ≤ end_rank → turns_of turns ≡ reference_below (machine s) b → (later : List Turned) × (turns_of (turns ++ later) ≡ reference_below (machine s) end_rank)
-  all_after turns b within are =
+  all_after : (turns : List Turned) (b : ℕ) → b ≤ end_rank → turns_of turns ≡ reference_below (machine s) b → KeysFit turns → AreFollowed turns (reference_below (machine s) end_rank)
+  all_after turns b within are keys =
       let found = grown (machine s) b end_rank within in
-      let later = turns_for found.0 in
-      (later.0, turns_joined turns later.0 ∙ (λ i. later.1 i ++ are i) ∙ sym found.1)
+      followed (machine s) turns found.0 (found.1 ∙ ap (λ l. found.0 ++ l) (sym are)) keys
 
-all_turns : (plan : Plan) (s : System) → HasSchedulesBelow plan s → (turns : List Turned) → turns_of turns ≡ reference_below (machine s) end_rank → AreAllTurns plan s turns
-all_turns plan s has turns are = record { all = are; scheduled = has turns end_rank (omega arith) are }
+all_turns : (plan : Plan) (s : System) → HasSchedulesBelow plan s → (turns : List Turned) → turns_of turns ≡ reference_below (machine s) end_rank → KeysFit turns → AreAllTurns plan s turns
+all_turns plan s has turns are keys = record { all = are; keys = keys; scheduled = has turns end_rank (omega arith) are }
 
 -- what is so of each text is so of that of all turns
 pub of_any : (plan : Plan) (s : System) (lines : Lines) → HasSchedulesBelow plan s → (Cut : List ℕ → Type 0) → ((text : List ℕ) → Cut text) → IsCut plan s lines Cut
 of_any plan s lines has Cut always =
-    let rest = all_after s [] 0 (omega arith) refl in record { turns = rest.0; are = all_turns plan s has rest.0 rest.1; cut = always _ }
+    let rest = all_after s [] 0 (omega arith) refl tt in record { turns = rest.later; are = all_turns plan s has rest.later rest.are rest.keys; cut = always _ }
 
 module _ {W : Type 0} {known : W → Option (List ℕ)} {plan : Plan} {s : System} {lines : Lines} where
   pub starts : (out : Counted W) (start : ℕ) → start < 2 ^ 64 → Sofar known plan s lines out out start 0 start
-  starts out start low = record { turns = []; bound = 0; within = omega arith; are = refl; count = refl; puts = puts_nothing out start low }
+  starts out start low = record { turns = []; bound = 0; within = omega arith; are = refl; count = refl; keys = tt; puts = puts_nothing out start low }
 
   -- a portion more
   pub more : {old mid new : Counted W} {start written before after : ℕ} (portion : Portion) → Sofar known plan s lines old mid start written before → IsPortion s portion → portion.first ≡ written
-      → Puts known mid new before after (text_of plan lines portion.turns.after) → Sofar known plan s lines old new start portion.given after
-  more {old} {mid} {new} {start} {written} {before} {after} portion h is first puts =
+      → KeysFit portion.turns.after → Puts known mid new before after (text_of plan lines portion.turns.after) → Sofar known plan s lines old new start portion.given after
+  more {old} {mid} {new} {start} {written} {before} {after} portion h is first keys puts =
       let first_is : portion.first ≡ length h.turns = first ∙ h.count in
       let given = is.count in record {
         turns = h.turns ++ portion.turns.after;
@@ -73,16 +74,17 @@ module _ {W : Type 0} {known : W → Option (List ℕ)} {plan : Plan} {s : Syste
         within = is.within;
         are = next_turns s h.turns portion.turns.after h.bound portion.first is.bound h.are first_is is.next;
         count = simp length-append (omega (arith, given, first_is));
+        keys = fit_joined h.turns portion.turns.after h.keys keys;
         puts = subst (Puts known old new start after) (sym (flat_map-append (shown_text plan lines) h.turns portion.turns.after)) (then_puts h.puts puts);
       }
 
   -- the lines of the first turns went out
   pub begun : {old new : Counted W} {start written bytes : ℕ} → HasSchedulesBelow plan s → Sofar known plan s lines old new start written bytes → IsBegun plan s lines (IsWritten known old new)
   begun {old} {new} has h =
-      let rest = all_after s h.turns h.bound h.within h.are in
-      let front : take (length h.turns) (h.turns ++ rest.0) ≡ h.turns = take-append-le (length h.turns) h.turns rest.0 (omega arith) ∙ take_all (length h.turns) h.turns (omega arith) in record {
-        turns = h.turns ++ rest.0;
-        are = all_turns plan s has (h.turns ++ rest.0) rest.1;
+      let rest = all_after s h.turns h.bound h.within h.are h.keys in
+      let front : take (length h.turns) (h.turns ++ rest.later) ≡ h.turns = take-append-le (length h.turns) h.turns rest.later (omega arith) ∙ take_all (length h.turns) h.turns (omega arith) in record {
+        turns = h.turns ++ rest.later;
+        are = all_turns plan s has (h.turns ++ rest.later) rest.are rest.keys;
         count = length h.turns;
         begun = subst (AreSchedule plan) (sym front) (has h.turns h.bound h.within h.are);
         became = subst (λ (l : List Turned). IsWritten known old new (text_of plan lines l)) (sym front) (record { bytes = h.puts.bytes; failures = h.puts.failures });
@@ -90,27 +92,31 @@ module _ {W : Type 0} {known : W → Option (List ℕ)} {plan : Plan} {s : Syste
 
   -- the lines of all turns went out
   pub whole : {old new : Counted W} {start written bytes : ℕ} → HasSchedulesBelow plan s → (h : Sofar known plan s lines old new start written bytes) → h.bound ≡ end_rank → IsWhole plan s lines (IsWritten known old new) written
-  whole has h end = record { turns = h.turns; are = all_turns plan s has h.turns (h.are ∙ ap (reference_below (machine s)) end); count_is = h.count; became = record { bytes = h.puts.bytes; failures = h.puts.failures } }
+  whole has h end = record { turns = h.turns; are = all_turns plan s has h.turns (h.are ∙ ap (reference_below (machine s)) end) h.keys; count_is = h.count; became = record { bytes = h.puts.bytes; failures = h.puts.failures } }
 
   -- a portion more was the last one
   pub last : {old mid new : Counted W} {start written before after : ℕ} → HasSchedulesBelow plan s → (portion : Portion) → Sofar known plan s lines old mid start written before → (is : IsPortion s portion) → portion.first ≡ written
-      → Puts known mid new before after (text_of plan lines portion.turns.after) → is.bound ≡ end_rank → IsWhole plan s lines (IsWritten known old new) portion.given
+      → KeysFit portion.turns.after → Puts known mid new before after (text_of plan lines portion.turns.after) → is.bound ≡ end_rank → IsWhole plan s lines (IsWritten known old new) portion.given
   unfolding more
-  last has portion h is first puts end = whole has (more portion h is first puts) end
+  last has portion h is first keys puts end = whole has (more portion h is first keys puts) end
 
   -- a write failed in a portion
   pub cut : {old mid new : Counted W} {start written before : ℕ} {fault : WriteFault} → HasSchedulesBelow plan s → (portion : Portion) → Sofar known plan s lines old mid start written before → IsPortion s portion → portion.first ≡ written
-      → Stops known mid new before (text_of plan lines portion.turns.after) fault → IsCut plan s lines (λ text. Stops known old new start text fault)
+      → IsStoppedIn known plan lines mid new before portion.turns.after fault → IsCut plan s lines (λ text. Stops known old new start text fault)
   cut {old} {mid} {new} {start} {written} {before} {fault} has portion h is first stopped =
       let first_is : portion.first ≡ length h.turns = first ∙ h.count in
-      let turns = h.turns ++ portion.turns.after in
+      let turns = h.turns ++ stopped.first in
       let are = next_turns s h.turns portion.turns.after h.bound portion.first is.bound h.are first_is is.next in
-      let rest = all_after s turns is.bound is.within are in
+      let split : h.turns ++ portion.turns.after ≡ turns ++ stopped.rest = ap (λ l. h.turns ++ l) stopped.are ∙ sym (append_assoc h.turns stopped.first stopped.rest) in
+      let found = grown (machine s) is.bound end_rank is.within in
+      let all : reference_below (machine s) end_rank ≡ (found.0 ++ turns_of stopped.rest) ++ turns_of turns
+      = found.1 ∙ ap (λ l. found.0 ++ l) (sym are ∙ ap turns_of split ∙ turns_joined turns stopped.rest) ∙ sym (append_assoc found.0 (turns_of stopped.rest) (turns_of turns)) in
+      let rest = followed (machine s) turns (found.0 ++ turns_of stopped.rest) all (fit_joined h.turns stopped.first h.keys stopped.keys) in
       let f = shown_text plan lines in
-      let text = flat_map-append f turns rest.0 ∙ ap (λ l. l ++ text_of plan lines rest.0) (flat_map-append f h.turns portion.turns.after) in record {
-        turns = turns ++ rest.0;
-        are = all_turns plan s has (turns ++ rest.0) rest.1;
-        cut = subst (λ l. Stops known old new start l fault) (sym text) (stops (text_of plan lines rest.0) (then_stops h.puts stopped));
+      let text = flat_map-append f turns rest.later ∙ ap (λ l. l ++ text_of plan lines rest.later) (flat_map-append f h.turns stopped.first) in record {
+        turns = turns ++ rest.later;
+        are = all_turns plan s has (turns ++ rest.later) rest.are rest.keys;
+        cut = subst (λ l. Stops known old new start l fault) (sym text) (stops (text_of plan lines rest.later) (then_stops h.puts stopped.stops));
       }
 
   -- what befell a worker leaves the lines of the first turns

@@ -1,11 +1,19 @@
 -- The turns that the calling thread takes from the exchange.
-use Rattle.std.specs.Prelude.{◌≡◌, ℕ, ◌+◌, ◌≤◌, true, Option, None, Some, List, [], length}
+use Rattle.std.specs.Prelude.{◌≡◌, ℕ, ◌+◌, ◌++◌, ◌≤◌, true, Option, None, Some, List, [], length}
 use Rattle.terms.specs.Named.{Named}
+use Rattle.event_keys.specs.declared.outcome.Turned.{Turned}
 use Rattle.virtual_time.specs.Reference.{Turn}
+use Rattle.plans.specs.declared.plan.Plan.{Plan}
 use Rattle.task_seed.specs.Machines.{machine, end_rank}
 use Rattle.task_seed.specs.Turning.{System}
 use Rattle.task_seed.specs.Taken.{turns_of}
+use Rattle.schedules.specs.Schedules.{KeysFit}
 use Rattle.exchange.specs.Chunks.{IsGiven}
+use Rattle.trace.specs.declared.counted.Counted.{Counted}
+use Rattle.trace.specs.declared.fault.WriteFault.{WriteFault}
+use Rattle.trace.specs.declared.lines.Lines.{Lines}
+use Rattle.trace.specs.Lines.{text_of}
+use Rattle.trace.specs.Puts.{Stops}
 use Rattle.workers.specs.declared.writing.Cut.{Cut}
 use Rattle.workers.specs.declared.writing.Portion.{Portion}
 
@@ -30,3 +38,12 @@ pub record IsPortion (s : System) (p : Portion) : Type 0 where
 abbrev pub IsDuePortion : System → Option Portion → Type 0
 IsDuePortion s None = Unit {0}
 IsDuePortion s (Some portion) = IsPortion s portion
+
+-- a write failed in the lines of the first of these turns, the numbers of whose keys fit their types
+pub record IsStoppedIn {W : Type 0} (known : W → Option (List ℕ)) (plan : Plan) (lines : Lines)
+    (old new : Counted W) (before : ℕ) (turns : List Turned) (fault : WriteFault) : Type 0 where
+  pub first : List Turned
+  pub rest : List Turned
+  pub are : turns ≡ first ++ rest
+  pub keys : KeysFit first
+  pub stops : Stops known old new before (text_of plan lines first) fault

@@ -6,7 +6,7 @@ use Rattle.task_seed.specs.declared.setup.Setup.{Setup}
 use Rattle.task_seed.specs.declared.turns.Turn.{Turn}
 use Rattle.task_seed.specs.Setups.{plan_of, system}
 use Rattle.task_seed.specs.Turning.{System}
-use Rattle.reference.specs.Schedules.{AreAllTurns, AreSchedule}
+use Rattle.schedules.specs.Schedules.{AreAllTurns, AreSchedule}
 use Rattle.trace.specs.declared.fault.WriteFault.{WriteFault}
 use Rattle.trace.specs.declared.counted.Counted.{Counted}
 use Rattle.trace.specs.declared.lines.Lines.{Lines}

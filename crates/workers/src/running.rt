@@ -3,7 +3,7 @@ ghost use Rattle.std.specs.Prelude.{◌≡◌, ◌≤◌, All, IfErr, IfOk, leng
 ghost use Rattle.std.specs.Arc.{arc_value};
 ghost use Rattle.gvt.specs.Seats.{IsSeatOf};
 ghost use Rattle.pools.specs.Passes.{IsOf as IsOfPool};
-ghost use Rattle.reference.specs.Schedules.{HasSchedulesBelow};
+ghost use Rattle.schedules.specs.Schedules.{HasSchedulesBelow};
 ghost use Rattle.task_seed.specs.Setups.{plan_of, system};
 ghost use Rattle.workers.specs.Crews.{IsCallerOf, IsOf, IsOfAll};
 ghost use Rattle.workers.specs.Leases.{setup_of};
@@ -23,7 +23,7 @@ use exchange::{Exchange, Lease, Parcel, Window};
 use gvt::{Published, Seat};
 use pools::{Pass, Pool};
 use raw_events::EventList;
-use reference::laws::turns_are_schedule;
+use schedules::laws::turns_are_schedule;
 use std::alloc::Global;
 use std::io::Write;
 use std::sync::atomic::{AtomicBool, AtomicU64};

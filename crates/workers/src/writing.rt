@@ -1,12 +1,13 @@
 //! What the calling thread does: it writes the turns that are committed for good.
-ghost use Rattle.std.specs.Prelude.{◌≡◌, IfErr, IfOk, [], length};
+ghost use Rattle.std.specs.Prelude.{◌≡◌, IfErr, IfOk, OnOk, [], length};
 ghost use Rattle.exchange.specs.Held.{put_all};
 ghost use Rattle.plans.specs.Plans.{composition};
 ghost use Rattle.task_seed.specs.Setups.{plan_of, system};
+ghost use Rattle.schedules.specs.Schedules.{KeysFit};
 ghost use Rattle.trace.specs.Lines.{text_of};
-ghost use Rattle.trace.specs.Puts.{Puts, Stops};
+ghost use Rattle.trace.specs.Puts.{Puts};
 ghost use Rattle.workers.specs.Crews.{IsCallerOf};
-ghost use Rattle.workers.specs.Portions.{IsCutOf, IsDuePortion, IsPortion};
+ghost use Rattle.workers.specs.Portions.{IsCutOf, IsDuePortion, IsPortion, IsStoppedIn};
 ghost use Rattle.workers.specs.Runs.{WroteAll, WroteSome};
 
 use crate::crew::Caller;
@@ -16,13 +17,14 @@ use event_keys::Turned;
 use exchange::{Exchange, Parcel};
 use plans::Plan;
 use raw_events::EventList;
-use reference::laws::turns_are_schedule;
+use schedules::fits;
+use schedules::laws::turns_are_schedule;
 use std::io::Write;
 use std::sync::Wait;
 use steering::Stats;
 use steering::nap::nap;
 use task_seed::{Setup, Turns};
-use trace::{Counted, Lines, WriteFault, append_turns};
+use trace::{Counted, Lines, WriteFault, append_turn};
 
 // Turns that no chunk has given before, how many were given before them and with them, and whether they are the last ones.
 #[derive(Drop)]
@@ -119,12 +121,18 @@ fn put_portion<W: Write>(
     out: &mut Counted<W>,
 ) -> Result<u64, WriteFault>
     requires front { turns.now.before ≡ [] }
+    ensures keys { OnOk result (KeysFit turns.now.after) }
     ensures ok { IfOk result (λ after. Puts W.contents out.old out.new before after
         (text_of plan.now lines turns.now.after)) }
     ensures err { IfErr result
-        (Stops W.contents out.old out.new before (text_of plan.now lines turns.now.after)) }
+        (IsStoppedIn W.contents plan.now lines out.old out.new before turns.now.after) }
 {
-    append_turns(plan, turns.iter(), lines, before, out)
+    let mut written = before;
+    for turned in turns.iter() {
+        fits(turned.key);
+        written = append_turn(plan, turned, lines, written, out)?;
+    }
+    Ok(written)
 }
 
 // Naps, unless a worker has ended: then what is left can be had at once.

@@ -43,7 +43,7 @@ loop-found-preserved g c =
     let plan : c.plan-plan.result.now ≡ plan_of setup = c.plan-plan.ensures ∙ ap plan_of (c.setup.ensures ∙ c.step_into.ensures.setup ∙ here.invariant.same) in
     let at_plan = subst (λ (p : Plan). Puts known here.out c.put_turn.new.out here.written c.in-Ok.after (shown_text p c.args.lines (turned_of (option_copied c.as_ref.result) key))) plan c.in-Ok.ensures.ok in
     let puts = subst (λ (o : Option Named). Puts known here.out c.put_turn.new.out here.written c.in-Ok.after (shown_text (plan_of setup) c.args.lines (turned_of o key))) c.as_ref.ensures.value at_plan in
-    record { same = c.step_into.ensures.setup ∙ here.invariant.same; complete = complete; sofar = one_more (turned_of found key) next here.invariant.sofar puts }
+    record { same = c.step_into.ensures.setup ∙ here.invariant.same; complete = complete; sofar = one_more (turned_of found key) c.put_turn.ensures.key next here.invariant.sofar puts }
 
 pub returns-in-Err-clause-unsimulated : goal.returns-in-Err-clause-unsimulated
 returns-in-Err-clause-unsimulated g c =
@@ -59,4 +59,4 @@ returns-in-Err-clause-unsimulated g c =
     let plan : c.plan-plan.result.now ≡ plan_of setup = c.plan-plan.ensures ∙ ap plan_of (c.setup.ensures ∙ c.step_into.ensures.setup ∙ here.invariant.same) in
     let at_plan = subst (λ (p : Plan). Stops known here.out c.put_turn.new.out here.written (shown_text p c.args.lines (turned_of (option_copied c.as_ref.result) key)) c.in-Err.fault) plan c.in-Err.ensures.err in
     let stopped = subst (λ (o : Option Named). Stops known here.out c.put_turn.new.out here.written (shown_text (plan_of setup) c.args.lines (turned_of o key)) c.in-Err.fault) c.as_ref.ensures.value at_plan in
-    cut (plan_of setup) s c.requires.known (turned_of found key) next complete here.invariant.sofar stopped
+    cut (plan_of setup) s c.requires.known (turned_of found key) c.put_turn.ensures.key next complete here.invariant.sofar stopped

@@ -4,6 +4,7 @@ use Rattle.virtual_time.specs.Reference.{reference_below}
 use Rattle.task_seed.specs.Machines.{machine, end_rank}
 use Rattle.task_seed.specs.Setups.{system}
 use Rattle.task_seed.specs.Taken.{turns_of}
+use Rattle.schedules.specs.Schedules.{KeysFit}
 use Rattle.reference.specs.Views.{IsComplete}
 use Rattle.hunt.specs.Sightings.{saw}
 use Rattle.hunt.proofs.seeking.seek.Given as goal
@@ -15,6 +16,7 @@ invariant-loop-turns g l =
       same : l.reference.setup ≡ setup;
       complete : IsComplete (machine (system g.T.Turns.turn_of setup)) l.reference.taken;
       are : turns_of l.turns.items ≡ l.reference.taken;
+      keys : KeysFit l.turns.items;
       unseen : list_any (saw l.wanted) l.turns.items ≡ false;
     }
 

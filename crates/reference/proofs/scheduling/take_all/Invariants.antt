@@ -3,6 +3,7 @@ use Rattle.task_seed.specs.Setups.{system}
 use Rattle.task_seed.specs.Machines.{machine, end_rank}
 use Rattle.task_seed.specs.Taken.{turns_of}
 use Rattle.virtual_time.specs.Reference.{reference_below}
+use Rattle.schedules.specs.Schedules.{KeysFit}
 use Rattle.reference.specs.Clocks.{AreClocks}
 use Rattle.reference.specs.Standing.{taken_at, IsBeforeLeast}
 use Rattle.reference.proofs.scheduling.take_all.Given as goal
@@ -12,6 +13,7 @@ invariant-loop-turns g l = record {
   stands : IsBeforeLeast (system g.T.Turns.turn_of l.setup) l.frontier.places.items l.frontier.numbers.items l.frontier.states.items;
   clocks : AreClocks g.T.Turns.turn_of l.setup l.frontier.numbers.items l.frontier.clocks.clocks.items;
   taken : turns_of l.turns.items ≡ taken_at (system g.T.Turns.turn_of l.setup) l.frontier.places.items l.frontier.numbers.items;
+  keys : KeysFit l.turns.items;
 }
 
 abbrev pub decreases-loop-turns : goal.decreases-loop-turns

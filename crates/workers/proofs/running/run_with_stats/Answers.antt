@@ -3,7 +3,7 @@ use Rattle.std.proofs.lemmas.Result.{IfErr-weaker, IfOk-weaker}
 use Rattle.std.specs.Arc.{arc_value}
 use Rattle.task_seed.specs.declared.setup.Setup.{Setup}
 use Rattle.task_seed.specs.Setups.{plan_of, system}
-use Rattle.reference.specs.Schedules.{HasSchedulesBelow}
+use Rattle.schedules.specs.Schedules.{HasSchedulesBelow}
 use Rattle.trace.specs.Given.{stops}
 use Rattle.trace.specs.GivenHead.{stopped_behind, written_behind}
 use Rattle.trace.specs.Headed.{Behind, headed}

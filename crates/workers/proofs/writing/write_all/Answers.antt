@@ -2,16 +2,15 @@ use Rattle.std.proofs.Common.{◌≡◌, ℕ, sym, subst, arith}
 use Rattle.std.specs.Prelude.{Option, Some}
 use Rattle.task_seed.specs.Turning.{System}
 use Rattle.task_seed.specs.Setups.{plan_of, system}
-use Rattle.trace.specs.Puts.{Stops}
+use Rattle.trace.specs.Puts.{Puts, Stops}
 use Rattle.trace.specs.Went.{IsWritten}
 use Rattle.trace.specs.Lines.{text_of}
 use Rattle.plans.specs.declared.plan.Plan.{Plan}
-use Rattle.trace.specs.Puts.{Puts}
 use Rattle.workers.specs.declared.fault.RunFault.{RunFault}
 use Rattle.workers.specs.Runs.{IsUnfinished, IsWhole}
 use Rattle.workers.proofs.Written.{begun, cut, last, more, starts, unfinished}
 use Rattle.workers.specs.declared.writing.Portion.{Portion}
-use Rattle.workers.specs.Portions.{IsPortion, IsDuePortion}
+use Rattle.workers.specs.Portions.{IsPortion, IsDuePortion, IsStoppedIn}
 use Rattle.workers.proofs.writing.write_all.Goals as goal
 
 due : {s : System} (p : Portion) (o : Option Portion) → o ≡ Some p → IsDuePortion s o → IsPortion s p
@@ -34,7 +33,7 @@ returns-in-Err-put_portion-clause-unfinished g c =
     let known = g.W.Write.contents in
     let portion = c.in-Ok-Some.portion in
     let first : portion.first ≡ c.loop.written = omega arith in
-    let stopped = subst (λ (p : Plan). Stops known c.loop.out c.put_portion.new.out c.loop.bytes (text_of p c.args.lines portion.turns.after) c.in-Err-put_portion.fault) c.plan.ensures c.in-Err-put_portion.ensures.err in
+    let stopped = subst (λ (p : Plan). IsStoppedIn known p c.args.lines c.loop.out c.put_portion.new.out c.loop.bytes portion.turns.after c.in-Err-put_portion.fault) c.plan.ensures c.in-Err-put_portion.ensures.err in
     cut c.turns_are_schedule.ensures.below portion c.loop.invariant.sofar (due c.in-Ok-Some.portion c.in-Ok-Some.field-0 c.in-Ok-Some.field-0-is c.in-Ok-Some.ensures.portion) first stopped
 
 pub returns-then-portion-clause-whole : goal.returns-then-portion-clause-whole
@@ -45,7 +44,7 @@ returns-then-portion-clause-whole g c =
     let first : portion.first ≡ c.loop.written = omega arith in
     let puts = subst (λ (p : Plan). Puts known c.loop.out c.put_portion.new.out c.loop.bytes c.in-Ok.after (text_of p c.args.lines portion.turns.after)) c.plan.ensures c.in-Ok.ensures.ok in
     let own = c.args.own.now in
-    let whole = last c.turns_are_schedule.ensures.below portion c.loop.invariant.sofar is first puts (is.last c.if-portion.true) in
+    let whole = last c.turns_are_schedule.ensures.below portion c.loop.invariant.sofar is first c.in-Ok.ensures.keys puts (is.last c.if-portion.true) in
     subst (λ (n : ℕ). IsWhole (plan_of own) (system g.T.Turns.turn_of own) c.args.lines (IsWritten known c.args.out.now c.put_portion.new.out) n) (sym c.stats.ensures) whole
 
 pub loop-preserved : goal.loop-preserved
@@ -54,4 +53,4 @@ loop-preserved g c =
     let portion = c.in-Ok-Some.portion in
     let first : portion.first ≡ c.loop.written = omega arith in
     let puts = subst (λ (p : Plan). Puts known c.loop.out c.put_portion.new.out c.loop.bytes c.in-Ok.after (text_of p c.args.lines portion.turns.after)) c.plan.ensures c.in-Ok.ensures.ok in
-    record { caller = c.next_portion.ensures.caller; sofar = more portion c.loop.invariant.sofar (due c.in-Ok-Some.portion c.in-Ok-Some.field-0 c.in-Ok-Some.field-0-is c.in-Ok-Some.ensures.portion) first puts }
+    record { caller = c.next_portion.ensures.caller; sofar = more portion c.loop.invariant.sofar (due c.in-Ok-Some.portion c.in-Ok-Some.field-0 c.in-Ok-Some.field-0-is c.in-Ok-Some.ensures.portion) first c.in-Ok.ensures.keys puts }

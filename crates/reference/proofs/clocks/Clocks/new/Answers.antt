@@ -1,9 +1,8 @@
-use Rattle.std.proofs.Common.{◌≡◌, ◌+◌, [], ◌∷◌, ap, length, length-append, sym, subst, ◌∙◌, arith}
-use Rattle.std.specs.Prelude.{Some, slice_get}
+use Rattle.std.proofs.Common.{◌+◌, [], ◌∷◌, ap, length, length-append, sym, subst, ◌∙◌, arith}
+use Rattle.std.specs.Prelude.{slice_get}
 use Rattle.plans.specs.Plans.{composition}
 use Rattle.task_seed.specs.ClockLaws.{first_reached}
 use Rattle.task_seed.specs.Clocks.{HasReached}
-use Rattle.task_seed.specs.declared.clock.Clock.{Clock}
 use Rattle.reference.proofs.Reached.{all_zero, put_last}
 use Rattle.reference.proofs.clocks.Clocks.new.Goals as goal
 

@@ -1,4 +1,4 @@
-use Rattle.std.proofs.Common.{rules, ◌≡◌, Some, IsSome, sym, subst, ◌∙◌}
+use Rattle.std.proofs.Common.{rules, ◌≡◌, Some, IsSome, sym, subst}
 use Rattle.std.specs.Prelude.{slice_index_or}
 use Rattle.task_seed.specs.Clocks.{HasReached}
 use Rattle.task_seed.specs.Setups.{system}

@@ -23,7 +23,7 @@ use Rattle.task_seed.specs.declared.turns.Turn.{Turn as Row}
 use Rattle.task_seed.specs.Turning.{System, turn_in}
 use Rattle.task_seed.specs.Machines.{machine, outcome_by, turn_outcome}
 use Rattle.task_seed.specs.Taken.{turn_of, turns_of}
-use Rattle.reference.specs.Views.{actions_of}
+use Rattle.schedules.specs.Schedules.{actions_of}
 
 any_at : {X : Type 0} (test : X → Bool) (xs : List X) (place : ℕ) (x : X) → slice_get xs place ≡ Some x → test x ≡ true → list_any test xs ≡ true
 any_at test [] place x at passes = cc

@@ -10,8 +10,8 @@ use Rattle.virtual_time.specs.Reference.{IsReference, after}
 use Rattle.task_seed.specs.Setups.{system}
 use Rattle.task_seed.specs.Machines.{machine}
 use Rattle.task_seed.specs.Taken.{turns_of}
-use Rattle.reference.proofs.Scheduled.{is_schedule}
-use Rattle.reference.proofs.laws.turns_are_schedule.Goals as goal
+use Rattle.schedules.proofs.Scheduled.{is_schedule}
+use Rattle.schedules.proofs.laws.turns_are_schedule.Goals as goal
 
 pub returns-clause-reference : goal.returns-clause-reference
 returns-clause-reference g c =

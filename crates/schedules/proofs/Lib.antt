@@ -1,0 +1,3 @@
+mod Owned
+mod Scheduled
+pub mod Told
