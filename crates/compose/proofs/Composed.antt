@@ -21,7 +21,7 @@ use Rattle.compose.specs.Types.{TypesDiffer}
 use Rattle.compose.specs.Instances.{instance, instances}
 use Rattle.compose.specs.Names.{AreNames}
 use Rattle.compose.specs.declared.fault.ComposeError.{ComposeError}
-use Rattle.compose.specs.Faults.{Fault, Own, Internal, Output, HasFault, IsRefused, OutputMissing, least_error, unknown_at}
+use Rattle.compose.specs.Faults.{Fault, HasFault, IsRefused, OutputMissing, least_error, unknown_at}
 use Rattle.compose.proofs.LeastFault.{Firsts, refused_by, faultless_by}
 use Rattle.compose.proofs.Unknown.{unknown_first}
 
@@ -44,6 +44,35 @@ module _ (m : MeantSource) (is : IsMeant m) where
       let same : entries_in m.automata ≡ entries_in (source_meaning is.source).automata = ap (λ (z : MeantSource). entries_in z.automata) is.same in
       let bound : entries_in m.automata < 65536 = omega (arith, law is.source is.some, few, same) in
       bound
+
+-- ---- where there is no error no rule is broken
+
+unbroken_by : (z : List Instance) (unknown own internal output types : Option ℕ) (n : ℕ) (hidden : Option ℕ)
+    → IsFirst (Breaks rule.Own z) own → IsFirst (Breaks rule.Internal z) internal → IsFirst (Breaks rule.Output z) output
+    → least_error unknown own internal output types n hidden ≡ None → (k : Rule) (j : ℕ) → Breaks k z j → ⊥
+unbroken_by z (Some i) own internal output types n hidden o t p is k = cc
+unbroken_by z None (Some i) internal output types n hidden o t p is k = cc
+unbroken_by z None None (Some i) output types n hidden o t p is k = cc
+unbroken_by z None None None (Some i) types n hidden o t p is k = cc
+unbroken_by z None None None None types n hidden o t p is rule.Own = o
+unbroken_by z None None None None types n hidden o t p is rule.Internal = t
+unbroken_by z None None None None types n hidden o t p is rule.Output = p
+
+module _ (z : List Instance) (unknown own internal output types : Option ℕ) (n : ℕ) (hidden : Option ℕ)
+    (own_first : IsFirst (Breaks rule.Own z) own)
+    (internal_first : IsFirst (Breaks rule.Internal z) internal)
+    (output_first : IsFirst (Breaks rule.Output z) output)
+    (is : least_error unknown own internal output types n hidden ≡ None) where
+  unbroken : (k : Rule) (j : ℕ) → Breaks k z j → ⊥
+  unbroken = unbroken_by z unknown own internal output types n hidden own_first internal_first output_first is
+
+  pub compatible : ((z : List Instance) → ((r : Rule) (j : ℕ) → Breaks r z j → ⊥) → IsCompatible z) → IsCompatible z
+  compatible law = law z unbroken
+
+  pub formed : (m : MeantSource) (names : List Bytes) → z ≡ instances names m → AreNames names m
+      → ((m : MeantSource) (names : List Bytes) → AreNames names m → All (IsSoundAutomaton (length m.members)) m.automata → length m.members ≤ 2 ^ 16 → ((j : ℕ) → Breaks rule.Own (instances names m) j → ⊥) → IsWellFormed (instances names m))
+      → All (IsSoundAutomaton (length m.members)) m.automata → length m.members ≤ 2 ^ 16 → IsWellFormed z
+  formed m names same are law sound few = subst IsWellFormed (sym same) (law m names are sound few (subst (λ y. (j : ℕ) → Breaks rule.Own y j → ⊥) same (unbroken rule.Own)))
 
 -- ---- the first components with each fault
 
@@ -82,16 +111,3 @@ module _ (r : Resolved) (names : List Bytes) (automata : List Automaton) (compon
     module _ (is : least_error unknown own internal output types (length components) hidden ≡ None) where
       pub faultless : (f : Fault) (j : ℕ) → HasFault names m f j → ⊥
       faultless = faultless_by names m are unknown own internal output types (length components) hidden firsts is
-
-      unbroken : (k : Rule) (j : ℕ) → Breaks k (instances names m) j → ⊥
-      unbroken rule.Own = faultless Own
-      unbroken rule.Internal = faultless Internal
-      unbroken rule.Output = faultless Output
-
-      pub compatible : ((z : List Instance) → ((r : Rule) (j : ℕ) → Breaks r z j → ⊥) → IsCompatible z) → IsCompatible (composed automata components)
-      compatible law = subst IsCompatible (sym same) (law (instances names m) unbroken)
-
-      pub formed :
-          ((m : MeantSource) (names : List Bytes) → AreNames names m → All (IsSoundAutomaton (length m.members)) m.automata → length m.members ≤ 2 ^ 16 → ((j : ℕ) → Breaks rule.Own (instances names m) j → ⊥) → IsWellFormed (instances names m))
-          → All (IsSoundAutomaton (length m.members)) m.automata → length m.members ≤ 2 ^ 16 → IsWellFormed (composed automata components)
-      formed law sound few = subst IsWellFormed (sym same) (law m names are sound few (faultless Own))

@@ -5,7 +5,8 @@ use Rattle.ioa_trees.specs.SourceRules.{source_faults, source_meaning}
 use Rattle.ioa_front.specs.Reading.{IsReadable, IsRefusal, Spells, most_bytes}
 use Rattle.ioa_check.specs.Refusals as check
 use Rattle.plans.specs.declared.plan.Plan.{Plan}
-use Rattle.compose.specs.Faults.{IsPlan}
+use Rattle.plans.specs.Plans.{action_texts}
+use Rattle.compose.specs.Faults.{HasNoFault, IsPlan}
 use Rattle.compose.specs.Faults as compose
 use Rattle.compose.specs.declared.source_error.SourceError.{SourceError}
 use Rattle.compose.specs.declared.source_error.SourceError.TheVariants as fault
@@ -20,11 +21,12 @@ pub record IsRead (source : List ℕ) (tree : PlainSource) : Type 0 where
   pub spelled : Spells source tree
   pub readable : IsReadable tree
 
--- The source is read, has no fault, and the plan is what it means.
+-- The source is read, has no fault, its components can be composed, and the plan is what it means.
 pub record IsComposed (source : List ℕ) (plan : Plan) : Type 0 where
   pub tree : PlainSource
   pub read : IsRead source tree
   pub faultless : source_faults tree ≡ []
+  pub composes : HasNoFault (action_texts plan) (source_meaning tree)
   pub meant : IsPlan (source_meaning tree) plan
 
 -- The source is read, and has the fault.

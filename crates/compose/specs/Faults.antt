@@ -102,6 +102,10 @@ HasFault names m Types j = TypesDiffer m j
 HasFault names m Many j = (j ≡ most_components) × (most_components < length m.components)
 HasFault names m Hidden j = OutputMissing m j
 
+-- no fault is there
+abbrev pub HasNoFault : List Bytes → MeantSource → Type 0
+HasNoFault names m = (f : Fault) (j : ℕ) → HasFault names m f j → ⊥
+
 -- The fault is there, j is the least component, or hidden name, with which it is, and no fault of a lesser number is there.
 pub record IsLeastFault (names : List Bytes) (m : MeantSource) (f : Fault) (j : ℕ) : Type 0 where
   pub first : IsFirst (HasFault names m f) (Some j)

@@ -2,7 +2,7 @@
 ghost use Rattle.std.specs.Prelude.{◌≡◌, ◌<◌, ℕ, true, false, IfOk, IfErr, IfSome, IfNone};
 ghost use Rattle.ioa_check.specs.Resolutions.{meaning};
 ghost use Rattle.plans.specs.Plans.{action_texts};
-ghost use Rattle.compose.specs.Faults.{Fault as AnyFault, HasFault, IsPlan, IsRefused, last_error, least_error, unknown_at};
+ghost use Rattle.compose.specs.Faults.{HasNoFault, IsPlan, IsRefused, last_error, least_error, unknown_at};
 
 use crate::action_types::first_difference;
 use crate::compatibility::laws::compatible_law;
@@ -81,8 +81,7 @@ fn last_error(hidden: Option<usize>) -> Option<ComposeError>
 /// `NoMemory` may stand in its place, or in place of an answer.
 pub fn compose(alloc: Global, checked: Checked) -> Result<Plan, ComposeError>
     ensures plan { IfOk result (λ plan. IsPlan (meaning checked) plan) }
-    ensures faultless { IfOk result (λ plan. (f : AnyFault) (j : ℕ)
-        → HasFault (action_texts plan) (meaning checked) f j → ⊥) }
+    ensures faultless { IfOk result (λ plan. HasNoFault (action_texts plan) (meaning checked)) }
     ensures refused { IfErr result (λ e. IsRefused (meaning checked) e) }
 {
     compatible_law();
