@@ -2,5 +2,6 @@
 #![tactic(auto)]
 
 mod asked;
+pub mod laws;
 pub mod running;
 pub mod serve;

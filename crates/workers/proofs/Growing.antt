@@ -1,14 +1,8 @@
 -- The reference below a bound is a beginning of the one below a greater bound.
-use Rattle.std.proofs.Common.{◌≡◌, ℕ, zero, suc, ◌+◌, ◌-◌, ◌/◌, ◌%◌, ◌^◌, ◌<◌, ◌≤◌, ◌⊎◌, inl, inr, Option, None, Some, List, [], ◌∷◌, ◌++◌, map, length, refl, ap, sym, ◌∙◌, arith, length-append}
-use Rattle.std.proofs.lemmas.List.{map-append, append_assoc, length-map}
+use Rattle.std.proofs.Common.{◌≡◌, ℕ, zero, suc, ◌+◌, ◌-◌, ◌<◌, ◌≤◌, ◌⊎◌, inl, inr, Option, None, Some, List, [], ◌∷◌, ◌++◌, map, length, refl, ap, sym, ◌∙◌, arith, length-append}
+use Rattle.std.proofs.lemmas.List.{append_assoc, length-map}
 use Rattle.std.proofs.lemmas.Bool.{cases_lt}
-use Rattle.terms.specs.Named.{Named}
-use Rattle.event_keys.specs.declared.key.Key.{Key}
-use Rattle.event_keys.specs.declared.outcome.Outcome.{Outcome}
-use Rattle.event_keys.specs.declared.outcome.Outcome.TheVariants.{Idle, Did}
 use Rattle.event_keys.specs.declared.outcome.Turned.{Turned}
-use Rattle.event_keys.specs.Entries.{action_of}
-use Rattle.event_keys.specs.Ranks.{rank}
 use Rattle.virtual_time.specs.Machine.{Machine}
 use Rattle.virtual_time.specs.Reference.{Turn, add_turn, after, next_turn, reference_below}
 use Rattle.task_seed.specs.Taken.{turn_of, turns_of}
