@@ -1,11 +1,13 @@
-//! The law of what engines write behind a head. Its function does nothing: its contract is the law.
+//! Laws: of what engines write behind a head, and of tables. Their functions do nothing: their contracts are the laws.
 ghost use Rattle.std.specs.Prelude.{ℕ, ◌++◌, List, None};
 ghost use Rattle.std.specs.List.{AllByRecursion};
 ghost use Rattle.event_keys.specs.declared.outcome.Turned.{Turned};
 ghost use Rattle.virtual_time.specs.Reference.{IsReference};
 ghost use Rattle.task_seed.specs.Machines.{machine};
 ghost use Rattle.task_seed.specs.Setups.{plan_of, system};
+ghost use Rattle.task_seed.specs.Table.{IsFirstBadLine};
 ghost use Rattle.task_seed.specs.Taken.{turns_of};
+ghost use Rattle.task_seed.specs.declared.table.Row.{Row};
 ghost use Rattle.reference.specs.Schedules.{AreAllTurns};
 ghost use Rattle.trace.specs.declared.lines.Lines.{Lines};
 ghost use Rattle.trace.specs.Heads.{head_text};
@@ -13,6 +15,7 @@ ghost use Rattle.trace.specs.Lines.{text_of};
 ghost use Rattle.trace.specs.OrderedFile.{AreInOrder, IsTurnOf};
 ghost use Rattle.trace.specs.Versions.{GivesFile};
 ghost use Rattle.trace.specs.WrittenTurns.{actions_done, shown_turns};
+ghost use Rattle.commands.specs.Tables.{AreRows};
 
 use task_seed::laws::machine_is_lawful;
 use task_seed::{Setup, Turns};
@@ -38,3 +41,9 @@ pub fn order_law<T: Turns>(setup: &Setup<T>)
     reference_is_complete::<State, Action>();
     head_law();
 }
+
+/// A table whose lines are rows has no bad line: none that is accepted, or refused for a row's fault, could be refused for a line.
+pub fn table_law()
+    ensures { (table : List ℕ) (rows : List Row) (line : ℕ)
+        → AreRows table rows → IsFirstBadLine table line → ⊥ }
+{}
