@@ -1,3 +1,4 @@
+mod BadLines
 mod Beginnings
 mod Checked
 pub mod DrawReports

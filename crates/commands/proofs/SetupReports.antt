@@ -34,7 +34,7 @@ use Rattle.commands.specs.Parts.{IsMemory, IsRefusal}
 use Rattle.commands.specs.Reports.{report_of}
 use Rattle.commands.specs.Setups.{Given, AreRefused, AreTurns, GivesNoSystem, IsBadGap, IsSetup, IsSystem, IsTabled, IsWithin}
 use Rattle.commands.specs.Simulations.{Means}
-use Rattle.commands.specs.Tables.{AreSound, IsRefused, Spells}
+use Rattle.commands.specs.Tables.{AreRows, AreSound, IsRefused}
 
 -- what succeeded has no error
 pub no_error : {T E : Type 0} (x : T) (e : E) → Ok x ≡ Err e → ⊥
@@ -110,13 +110,13 @@ module _ (given gap : ℕ) (same : given ≤ 65535 → gap ≡ given) (large : 6
   gap_refused seeds.GapOutOfRange never outside = record { number_is = refl; place_is = refl; outside = gap_outside (outside refl) }
 
 -- the turns of rows are those of the table
-pub rows_are : (parts : List Instance) (table : List ℕ) (given : List Row) → Spells table given → (seen : List Row) → seen ≡ given → (turns : TableTurns) → ((i n : ℕ) → table_turn turns i n ≡ slice_get (turns_of seen i) n)
+pub rows_are : (parts : List Instance) (table : List ℕ) (given : List Row) → AreRows table given → (seen : List Row) → seen ≡ given → (turns : TableTurns) → ((i n : ℕ) → table_turn turns i n ≡ slice_get (turns_of seen i) n)
     → AreSound parts seen → IsTabled parts table (table_turn turns)
-rows_are parts table given spells seen same turns are sound = record {
+rows_are parts table given read seen same turns alike sound = record {
   rows = given;
-  spelling = spells;
+  are = read;
   sound = subst (AreSound parts) same sound;
-  is = (λ k i n. are i n k) ∙ ap (λ (l : List Row). λ i n. slice_get (turns_of l i) n) same;
+  is = (λ k i n. alike i n k) ∙ ap (λ (l : List Row). λ i n. slice_get (turns_of l i) n) same;
 }
 
 module _ (parts : List Instance) (table : List ℕ) where
@@ -126,13 +126,13 @@ module _ (parts : List Instance) (table : List ℕ) where
   table_refused (tables.BadTable line) first = inl (record { line = line; number_is = refl; place_is = refl; first = first line refl })
 
   -- a row has a fault
-  pub rows_refused : (given : List Row) → Spells table given → (seen : List Row) → seen ≡ given → (e : TableTurnsError)
+  pub rows_refused : (given : List Row) → AreRows table given → (seen : List Row) → seen ≡ given → (e : TableTurnsError)
       → (e ≢ turns.NoMemory → IsFirstFault parts seen (table_turns_number e) (table_turns_place e))
       → IsRefusal (IsRefused parts table) IsMemory (report_of (table_turns_number e) (table_turns_place e))
-  rows_refused given spells seen same turns.NoMemory first = refl
-  rows_refused given spells seen same (turns.GapOutOfRange line) first = inr (record { rows = given; spelling = spells; first = subst (λ (l : List Row). IsFirstFault parts l 27 (Some line)) same (first (λ e. cc)) })
-  rows_refused given spells seen same (turns.TaskOutOfRange line) first = inr (record { rows = given; spelling = spells; first = subst (λ (l : List Row). IsFirstFault parts l 28 (Some line)) same (first (λ e. cc)) })
-  rows_refused given spells seen same (turns.NoSuchComponent line) first = inr (record { rows = given; spelling = spells; first = subst (λ (l : List Row). IsFirstFault parts l 30 (Some line)) same (first (λ e. cc)) })
+  rows_refused given read seen same turns.NoMemory first = refl
+  rows_refused given read seen same (turns.GapOutOfRange line) first = inr (record { rows = given; are = read; first = subst (λ (l : List Row). IsFirstFault parts l 27 (Some line)) same (first (λ e. cc)) })
+  rows_refused given read seen same (turns.TaskOutOfRange line) first = inr (record { rows = given; are = read; first = subst (λ (l : List Row). IsFirstFault parts l 28 (Some line)) same (first (λ e. cc)) })
+  rows_refused given read seen same (turns.NoSuchComponent line) first = inr (record { rows = given; are = read; first = subst (λ (l : List Row). IsFirstFault parts l 30 (Some line)) same (first (λ e. cc)) })
 
 module _ (parts : List Instance) (given : Given) (ticks : ℕ) where
   -- turns that there aren't

@@ -16,7 +16,7 @@ use Rattle.commands.specs.declared.given.GivenTurns.{GivenTurns}
 use Rattle.commands.specs.declared.given.GivenTurns.TheVariants as turns
 use Rattle.commands.specs.declared.report.Report.{Report}
 use Rattle.commands.specs.Parts.{IsMemory, IsRefusal}
-use Rattle.commands.specs.Tables.{AreSound, IsRefused, Spells}
+use Rattle.commands.specs.Tables.{AreRows, AreSound, IsRefused}
 
 -- the turns that are given: by the numbers of a seed, or by the bytes of a table
 pub data Given : Type 0 where
@@ -40,7 +40,7 @@ least_gap false = 1
 pub record IsTabled (composition : List Instance) (table : List ℕ) (turn : ℕ → ℕ → Option Turn)
     : Type 0 where
   pub rows : List Row
-  pub spelling : Spells table rows
+  pub are : AreRows table rows
   pub sound : AreSound composition rows
   pub is : turn ≡ (λ i n. slice_get (turns_of rows i) n)
 

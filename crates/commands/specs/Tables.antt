@@ -2,12 +2,13 @@
 use Rattle.std.specs.Prelude.{◌≡◌, ◌⊎◌, ℕ, Option, Some, List, map, All}
 use Rattle.plans.specs.Automata.{Instance}
 use Rattle.task_seed.specs.declared.table.Row.{Row}
-use Rattle.task_seed.specs.Table.{lines_of, spelled, IsFirstBadLine}
+use Rattle.task_seed.specs.Table.{lines_of, spelled, IsInRange, IsFirstBadLine}
 use Rattle.task_seed.specs.Faults.{HasFault, IsFirstFault}
 
--- each line of the file is the spelling of one of these rows
-abbrev pub Spells : List ℕ → List Row → Type 0
-Spells table rows = lines_of table ≡ map spelled rows
+-- Each line of the file is the spelling of one of these rows, whose numbers are in range.
+pub record AreRows (table : List ℕ) (rows : List Row) : Type 0 where
+  pub spelling : lines_of table ≡ map spelled rows
+  pub in_range : All IsInRange rows
 
 -- no row has a fault
 abbrev pub AreSound : List Instance → List Row → Type 0
@@ -23,7 +24,7 @@ pub record IsBadTable (table : List ℕ) (number : ℕ) (place : Option ℕ) : T
 -- all lines are rows, and one has a fault
 pub record HasBadRow (composition : List Instance) (table : List ℕ) (number : ℕ) (place : Option ℕ) : Type 0 where
   pub rows : List Row
-  pub spelling : Spells table rows
+  pub are : AreRows table rows
   pub first : IsFirstFault composition rows number place
 
 -- the file is refused with this number at this line

@@ -1,11 +1,13 @@
-//! The law of what engines write behind a head. Its function does nothing: its contract is the law.
+//! Laws: of what engines write behind a head, and of tables. Their functions do nothing: their contracts are the laws.
 ghost use Rattle.std.specs.Prelude.{ℕ, ◌++◌, List, None};
 ghost use Rattle.std.specs.List.{AllByRecursion};
 ghost use Rattle.event_keys.specs.declared.outcome.Turned.{Turned};
 ghost use Rattle.virtual_time.specs.Reference.{IsReference};
 ghost use Rattle.task_seed.specs.Machines.{machine};
 ghost use Rattle.task_seed.specs.Setups.{plan_of, system};
+ghost use Rattle.task_seed.specs.Table.{IsFirstBadLine};
 ghost use Rattle.task_seed.specs.Taken.{turns_of};
+ghost use Rattle.task_seed.specs.declared.table.Row.{Row};
 ghost use Rattle.schedules.specs.Schedules.{AreAllTurns, KeysFit};
 ghost use Rattle.trace.specs.declared.lines.Lines.{Lines};
 ghost use Rattle.trace.specs.Heads.{head_text};
@@ -14,6 +16,7 @@ ghost use Rattle.trace.specs.OrderedFile.{AreInOrder};
 ghost use Rattle.trace.specs.Versions.{GivesFile};
 ghost use Rattle.trace.specs.WrittenTurns.{actions_done, shown_turns};
 ghost use Rattle.commands.specs.Said.{IsSaid, SaysAll};
+ghost use Rattle.commands.specs.Tables.{AreRows};
 
 use schedules::laws::turns_are_own;
 use task_seed::laws::machine_is_lawful;
@@ -44,3 +47,9 @@ pub fn order_law<T: Turns>(setup: &Setup<T>)
     turns_are_own(setup);
     head_law();
 }
+
+/// A table whose lines are rows has no bad line: none that is accepted, or refused for a row's fault, could be refused for a line.
+pub fn table_law()
+    ensures { (table : List ℕ) (rows : List Row) (line : ℕ)
+        → AreRows table rows → IsFirstBadLine table line → ⊥ }
+{}

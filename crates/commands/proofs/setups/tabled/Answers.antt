@@ -8,7 +8,7 @@ use Rattle.commands.proofs.setups.tabled.Goals as goal
 
 pub returns-in-Ok-new-clause-ok : goal.returns-in-Ok-new-clause-ok
 returns-in-Ok-new-clause-ok c =
-    rows_are (composition c.args.plan.now) c.args.table.now c.in-Ok.rows.items c.in-Ok.ensures.ok c.as_slice.result.now c.as_slice.ensures.value c.in-Ok-new.turns c.in-Ok-new.ensures.turns c.in-Ok-new.ensures.sound
+    rows_are (composition c.args.plan.now) c.args.table.now c.in-Ok.rows.items (record { spelling = c.in-Ok.ensures.ok; in_range = c.in-Ok.ensures.in_range }) c.as_slice.result.now c.as_slice.ensures.value c.in-Ok-new.turns c.in-Ok-new.ensures.turns c.in-Ok-new.ensures.sound
 
 pub returns-in-Err-clause-err : goal.returns-in-Err-clause-err
 returns-in-Err-clause-err c =
@@ -18,4 +18,4 @@ returns-in-Err-clause-err c =
 pub returns-clause-err : goal.returns-clause-err
 returns-clause-err c =
     subst (IsRefusal (IsRefused (composition c.args.plan.now) c.args.table.now) IsMemory) (sym c.report_of-in-Err-new.ensures)
-    (rows_refused (composition c.args.plan.now) c.args.table.now c.in-Ok.rows.items c.in-Ok.ensures.ok c.as_slice.result.now c.as_slice.ensures.value c.in-Err-new.refused c.in-Err-new.ensures.refused)
+    (rows_refused (composition c.args.plan.now) c.args.table.now c.in-Ok.rows.items (record { spelling = c.in-Ok.ensures.ok; in_range = c.in-Ok.ensures.in_range }) c.as_slice.result.now c.as_slice.ensures.value c.in-Err-new.refused c.in-Err-new.ensures.refused)
