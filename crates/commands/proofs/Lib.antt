@@ -9,7 +9,6 @@ mod Fronted
 pub mod HuntReports
 mod Pieces
 mod Reporting
-mod Rising
 mod SetupReports
 mod Streaming
 mod Tellings

@@ -22,4 +22,3 @@ pub mod Tables
 pub mod Unread
 pub mod Whole
 pub mod Written
-pub mod Said

@@ -21,7 +21,7 @@ use Rattle.task_seed.specs.Taken.{turn_of, turns_of}
 use Rattle.schedules.specs.Turns.{IsOwnTurn, IsTaken}
 use Rattle.trace.specs.OrderedFile.{AreInOrder, IsKeyOf, IsTurnOf}
 use Rattle.trace.specs.WrittenTurns.{IsOutcome}
-use Rattle.commands.specs.Said.{IsSaid, SaysAll}
+use Rattle.reading_back.specs.Said.{IsSaid, SaysAll}
 
 -- of falling turns the first ones fall, and those at the end are below each of them
 below_front : (k : ℕ) (xs ys : List (Turn Named)) → AllBelow k (xs ++ ys) → AllBelow k xs

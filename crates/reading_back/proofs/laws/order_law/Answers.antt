@@ -6,8 +6,8 @@ use Rattle.virtual_time.specs.Reference.{IsReference}
 use Rattle.task_seed.specs.Machines.{machine, end_rank}
 use Rattle.task_seed.specs.Setups.{system}
 use Rattle.task_seed.specs.Taken.{turns_of}
-use Rattle.commands.proofs.Rising.{all_said, are_turns, rising}
-use Rattle.commands.proofs.laws.order_law.Goals as goal
+use Rattle.reading_back.proofs.Rising.{all_said, are_turns, rising}
+use Rattle.reading_back.proofs.laws.order_law.Goals as goal
 
 pub returns-clause-order : goal.returns-clause-order
 returns-clause-order g c =

@@ -1,0 +1,12 @@
+mod ClosedTerms
+mod DistinctMembers
+mod FirstOnes
+mod FormalValues
+mod NamesFew
+mod NamesProper
+mod Rising
+mod SaidSources
+mod Sayable
+mod SlotArgs
+mod Speaking
+mod WrittenTurns
