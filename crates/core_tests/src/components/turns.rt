@@ -6,7 +6,7 @@ ghost use Rattle.task_seed.specs.Clocks.{HasReached};
 use super::given::{AT_1, AT_2, AT_3, AT_4, Given, key, plan_of, setup};
 use event_keys::{Key, Outcome};
 use fixtures::memory::{exhaust, room};
-use rand_core::RngCore;
+use rand_core::Rng;
 use rand_pcg::Lcg64Xsh32;
 use reference::Reference;
 use std::alloc::{AllocGlobal, Global};
@@ -150,7 +150,24 @@ const RING: [(Key, Option<i64>); 4] = [
 ];
 
 // The turns of the fan, and what its sender says.
-const FAN: [(Key, Option<i64>); 2] = [(key(1, 0, 0), Some(0)), (key(2, 0, 1), Some(1))];
+const FAN: [(Key, Option<i64>); 2] = [
+    (
+        Key {
+            tick: 1,
+            component: 0,
+            number: 0,
+        },
+        Some(0),
+    ),
+    (
+        Key {
+            tick: 2,
+            component: 0,
+            number: 1,
+        },
+        Some(1),
+    ),
+];
 
 // Whether a turn was idle, or took the action 0 with this argument.
 pub(crate) fn is_outcome(outcome: &Outcome, argument: Option<i64>) -> bool {
