@@ -7,3 +7,4 @@ mod Takers
 mod Reached
 pub mod Taken
 mod Owning
+mod Woken

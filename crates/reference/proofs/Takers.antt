@@ -64,7 +64,7 @@ fresh (t ∷ ts) (suc k) once h = ap (λ b. b || IsIn x (take k ts)) (ne_eqb x t
       let gone : IsIn x ts ≡ false = subst (λ y. IsIn y ts ≡ false) (sym e) once.0 in
       cc
 
-in_more : (j : ℕ) (ts : List ℕ) (k : ℕ) → k < length ts → IsIn j (take (suc k) ts) ≡ (IsIn j (take k ts) || (j == slice_index ts k))
+pub in_more : (j : ℕ) (ts : List ℕ) (k : ℕ) → k < length ts → IsIn j (take (suc k) ts) ≡ (IsIn j (take k ts) || (j == slice_index ts k))
 in_more j [] k h = absurd (omega (arith, h))
 in_more j (t ∷ ts) zero h = go (j == t) where
   go : (b : Bool) → (b || false) ≡ b

@@ -1,5 +1,6 @@
 pub mod Queues
 pub mod Clocks
+pub mod Resting
 pub mod Standing
 pub mod Taking
 pub mod Verdicts

@@ -9,11 +9,13 @@ ghost use Rattle.task_seed.specs.Taken.{turned_of};
 ghost use Rattle.reference.specs.Queues.{ArePlaced, HasItsNumber, IsSmall, least_key, place_of};
 ghost use Rattle.reference.specs.Clocks.{AreClocks};
 ghost use Rattle.reference.specs.Standing.{taken_at, IsBeforeLeast};
+ghost use Rattle.reference.specs.Resting.{AreResting};
 ghost use Rattle.reference.specs.Taking.{plain};
 ghost use Rattle.gvt.specs.Tournaments.{IsTournament, node};
 ghost use Rattle.reference.specs.Views.{IsNextTurn, IsComplete};
 
 use crate::clocks::Clocks;
+use crate::resting::Resting;
 use crate::taking::{put_none, take_turn};
 use event_keys::{Key, Outcome, Turned};
 use gvt::tournament::put;
@@ -35,6 +37,8 @@ pub(crate) struct Frontier {
     // One state for each component, but inside a call.
     states: Vec<Store>,
     clocks: Clocks,
+    // The tasks that have nothing enabled in their component's state, as far as was asked.
+    resting: Resting,
 }
 
 // The tick and the component of a key as one number. No two of the next keys have one, since they are of different components.
@@ -140,6 +144,8 @@ impl Frontier {
             (system T.turn_of setup.now) frontier.places.items frontier.numbers.items ≡ []) }
         ensures clocks { IfOk result
             (λ f. AreClocks T.turn_of setup.now f.numbers.items f.clocks.clocks.items) }
+        ensures resting { IfOk result (λ f. AreResting
+            (composition (plan_of setup.now)) f.states.items f.resting.tasks.items) }
     {
         machine_is_lawful(setup);
         reference_is_one::<State, Action>();
@@ -148,11 +154,13 @@ impl Frontier {
         let numbers = first_numbers(alloc, setup.plan().components())?;
         let states = start_states(alloc, setup.plan())?;
         let clocks = Clocks::new(alloc, setup)?;
+        let resting = Resting::new(alloc, setup.plan())?;
         Ok(Frontier {
             places,
             numbers,
             states,
             clocks,
+            resting,
         })
     }
 
@@ -168,11 +176,15 @@ impl Frontier {
             self.old.states.items }
         requires clocks { AreClocks T.turn_of setup.now self.old.numbers.items
             self.old.clocks.clocks.items }
+        requires resting { AreResting (composition (plan_of setup.now)) self.old.states.items
+            self.old.resting.tasks.items }
         ensures stands { IsBeforeLeast
             (system T.turn_of setup.now) self.new.places.items self.new.numbers.items
             self.new.states.items }
         ensures clocks { AreClocks T.turn_of setup.now self.new.numbers.items
             self.new.clocks.clocks.items }
+        ensures resting { AreResting (composition (plan_of setup.now)) self.new.states.items
+            self.new.resting.tasks.items }
         ensures ok { IfOk result (λ turn. IsNextTurn (machine (system T.turn_of setup.now))
             (taken_at (system T.turn_of setup.now) self.old.places.items self.old.numbers.items)
             turn (taken_at
@@ -200,11 +212,15 @@ impl Frontier {
             self.old.states.items }
         requires clocks { AreClocks T.turn_of setup.now self.old.numbers.items
             self.old.clocks.clocks.items }
+        requires resting { AreResting (composition (plan_of setup.now)) self.old.states.items
+            self.old.resting.tasks.items }
         ensures stands { IsBeforeLeast
             (system T.turn_of setup.now) self.new.places.items self.new.numbers.items
             self.new.states.items }
         ensures clocks { AreClocks T.turn_of setup.now self.new.numbers.items
             self.new.clocks.clocks.items }
+        ensures resting { AreResting (composition (plan_of setup.now)) self.new.states.items
+            self.new.resting.tasks.items }
         ensures ok { IfOk result (λ key. IsNextTurn (machine (system T.turn_of setup.now))
             (taken_at (system T.turn_of setup.now) self.old.places.items self.old.numbers.items)
             (option_map (turned_of found.new) key)
@@ -228,7 +244,15 @@ impl Frontier {
             put_none(found);
             return Err(NoMemory);
         };
-        take_turn(alloc, setup, key, turn, &mut self.states, found)?;
+        take_turn(
+            alloc,
+            setup,
+            key,
+            turn,
+            &mut self.states,
+            &mut self.resting,
+            found,
+        )?;
         move_on(&mut self.places, &mut self.numbers, key, next);
         Ok(Some(key))
     }

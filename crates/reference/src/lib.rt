@@ -4,6 +4,7 @@
 pub mod checking;
 mod clocks;
 mod frontier;
+mod resting;
 pub mod scheduling;
 pub mod simulator;
 mod taking;

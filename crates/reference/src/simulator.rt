@@ -37,9 +37,11 @@ impl<T: Turns> Model for Reference<T> {
     ghost coded = { Prim.hlevel
         (codes, shape.the_row.coded, term.the_row.coded, effect.the_row.coded, datum_code) };
 
-    ghost use Rattle.task_seed.specs.Setups.{system};
+    ghost use Rattle.task_seed.specs.Setups.{system, plan_of};
     ghost use Rattle.reference.specs.Clocks.{AreClocks};
     ghost use Rattle.reference.specs.Standing.{taken_at, IsBeforeLeast};
+    ghost use Rattle.reference.specs.Resting.{AreResting};
+    ghost use Rattle.plans.specs.Plans.{composition};
 
     ghost view = { λ r. record {
       setup = arc_value r.setup;
@@ -52,7 +54,9 @@ impl<T: Turns> Model for Reference<T> {
         (arc_value r.setup)) r.frontier.places.items r.frontier.numbers.items
         r.frontier.states.items
         × AreClocks T.turn_of
-        (arc_value r.setup) r.frontier.numbers.items r.frontier.clocks.clocks.items };
+        (arc_value r.setup) r.frontier.numbers.items r.frontier.clocks.clocks.items
+        × AreResting (composition (plan_of (arc_value r.setup))) r.frontier.states.items
+        r.frontier.resting.tasks.items };
 }
 
 impl<T: Turns> Reference<T> {
@@ -74,8 +78,9 @@ impl<T: Turns> Reference<T> {
     /// Takes the turn with the least key: by the joint step, its component and each receiver of its action take it. `None` after
     /// the last turn.
     ///
-    /// Its time grows with the logarithm of the number of components, with the number of receivers of its action, and with what
-    /// the action writes; no state is copied.
+    /// Its time grows with the logarithm of the number of components, with the number of receivers of its action and of their
+    /// tasks, and with what the action writes; no state is copied. A task that had nothing enabled isn't asked again until its
+    /// component's state changes.
     ///
     /// # Errors
     ///

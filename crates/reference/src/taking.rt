@@ -6,8 +6,10 @@ ghost use Rattle.plans.specs.Receivers.{IsIn};
 ghost use Rattle.task_seed.specs.Setups.{system, plan_of};
 ghost use Rattle.task_seed.specs.Turning.{turn_in};
 ghost use Rattle.task_seed.specs.Machines.{machine, turn_outcome};
+ghost use Rattle.reference.specs.Resting.{AreResting};
 ghost use Rattle.reference.specs.Taking.{Distinct, IsPassed, AreMarked, marking, other_than, reaching, reached, taking, joining};
 
+use crate::resting::Resting;
 use event_keys::Key;
 use plans::Plan;
 use smallvec::SmallVec;
@@ -167,7 +169,8 @@ fn take_action(
 }
 
 /// The turn of a key, which is this one, is taken: its component's action, if it has one enabled in its state, by it and by
-/// each receiver. The action stands in `found` then. A refusal leaves the states as they were, and nothing there.
+/// each receiver. The action stands in `found` then. A refusal leaves the states as they were, and nothing there. A task of
+/// which nothing is enabled is noted, and isn't asked again until its component's state changes.
 #[inline(always)]
 pub(crate) fn take_turn<T: Turns>(
     alloc: Global,
@@ -175,6 +178,7 @@ pub(crate) fn take_turn<T: Turns>(
     key: Key,
     turn: Turn,
     states: &mut [Store],
+    resting: &mut Resting,
     found: &mut Option<Action>,
 ) -> Result<(), NoMemory>
     requires turn { Some turn ≡ turn_in (system T.turn_of setup.now) key.component key.number }
@@ -182,6 +186,8 @@ pub(crate) fn take_turn<T: Turns>(
     requires many { length states.old ≡ length (composition (plan_of setup.now)) }
     requires plain { (j : ℕ) (state : States) → slice_get states.old j ≡ Some state
         → state.below ≡ [] }
+    requires resting { AreResting (composition (plan_of setup.now)) states.old
+        resting.old.tasks.items }
     ensures found { OnOk result (IfSome (slice_get states.old key.component)
         (λ state. found.new
         ≡ turn_outcome (system T.turn_of setup.now) key.component key.number state.current)) }
@@ -192,13 +198,33 @@ pub(crate) fn take_turn<T: Turns>(
     ensures many { length states.new ≡ length states.old }
     ensures err { OnErr result (states.new ≡ states.old) }
     ensures none { OnErr result (found.new ≡ None) }
+    ensures resting { AreResting (composition (plan_of setup.now)) states.new
+        resting.new.tasks.items }
 {
     let i = key.component;
+    if resting.is_resting(i, turn.task) {
+        clear(found);
+        return Ok(());
+    }
     let state = &states[usize::from(i)];
     setup
         .plan()
         .outcome_into(alloc, i, turn.task, turn.choice, state, found)?;
-    act(alloc, setup, i, states, found)
+    if found.is_none() {
+        resting.note(i, turn.task);
+        return Ok(());
+    }
+    act(alloc, setup, i, states, resting, found)
+}
+
+// Nothing stands there any more. Mostly nothing does before, so it is looked at first.
+#[inline(always)]
+fn clear(found: &mut Option<Action>)
+    ensures { found.new ≡ None }
+{
+    if found.is_some() {
+        put_none(found);
+    }
 }
 
 /// Nothing stands there any more.
@@ -217,22 +243,27 @@ fn act<T: Turns>(
     setup: &Setup<T>,
     i: u16,
     states: &mut [Store],
+    resting: &mut Resting,
     found: &mut Option<Action>,
 ) -> Result<(), NoMemory>
     requires within { i < length (composition (plan_of setup.now)) }
     requires many { length states.old ≡ length (composition (plan_of setup.now)) }
     requires plain { (j : ℕ) (state : States) → slice_get states.old j ≡ Some state
         → state.below ≡ [] }
+    requires resting { AreResting (composition (plan_of setup.now)) states.old
+        resting.old.tasks.items }
     ensures found { OnOk result (found.new ≡ found.old) }
     ensures states { OnOk result ((j : ℕ) → slice_get states.new j ≡ option_map
         (joining (machine (system T.turn_of setup.now)) i found.old j) (slice_get states.old j)) }
     ensures many { length states.new ≡ length states.old }
     ensures err { OnErr result (states.new ≡ states.old) }
     ensures none { OnErr result (found.new ≡ None) }
+    ensures resting { AreResting (composition (plan_of setup.now)) states.new
+        resting.new.tasks.items }
 {
     let taken = match found.as_ref() {
         None => return Ok(()),
-        Some(action) => take_by_all(alloc, setup, i, action, states),
+        Some(action) => take_by_all(alloc, setup, i, action, states, resting),
     };
     if taken.is_err() {
         put_none(found);
@@ -248,20 +279,27 @@ fn take_by_all<T: Turns>(
     i: u16,
     action: &Action,
     states: &mut [Store],
+    resting: &mut Resting,
 ) -> Result<(), NoMemory>
     requires within { i < length (composition (plan_of setup.now)) }
     requires many { length states.old ≡ length (composition (plan_of setup.now)) }
     requires plain { (j : ℕ) (state : States) → slice_get states.old j ≡ Some state
         → state.below ≡ [] }
+    requires resting { AreResting (composition (plan_of setup.now)) states.old
+        resting.old.tasks.items }
     ensures ok { OnOk result ((j : ℕ)
         → slice_get states.new j
         ≡ option_map (joining (machine (system T.turn_of setup.now)) i (Some action.now) j)
         (slice_get states.old j)) }
     ensures many { length states.new ≡ length states.old }
     ensures err { OnErr result (states.new ≡ states.old) }
+    ensures resting { AreResting (composition (plan_of setup.now)) states.new
+        resting.new.tasks.items }
 {
     let plan = setup.plan();
     let mut room = SmallVec::new(alloc);
     let among = plan.candidates(alloc, action, i, &mut room)?;
-    take_action(alloc, plan, i, action, among, states)
+    take_action(alloc, plan, i, action, among, states)?;
+    resting.wake_all(i, among);
+    Ok(())
 }

@@ -1,10 +1,8 @@
 use Rattle.std.proofs.Common.{ap}
-use Rattle.std.specs.Prelude.{◌≡◌, ℕ, Some, slice_get, option_map}
 use Rattle.plans.specs.Plans.{composition}
-use Rattle.task_seed.specs.Machines.{machine}
-use Rattle.task_seed.specs.Setups.{system}
-use Rattle.reference.specs.Taking.{taking, joining}
-use Rattle.reference.proofs.Joining.{distinct_rising, among_within, joined, then_ok}
+use Rattle.task_seed.specs.Setups.{system, plan_of}
+use Rattle.reference.proofs.Joining.{distinct_rising, among_within, joined}
+use Rattle.reference.proofs.Woken.{still_resting}
 use Rattle.reference.proofs.taking.take_by_all.Goals as goal
 
 pub take_action-requires-clause-once : goal.take_action-requires-clause-once
@@ -23,5 +21,9 @@ returns-clause-ok g c =
     let among = c.in_ok-among.among.now in
     let old = c.args.states.now in
     let new = c.take_action.new.states in
-    then_ok ((j : ℕ) → slice_get new j ≡ option_map (taking p i a among j) (slice_get old j)) ((j : ℕ) → slice_get new j ≡ option_map (joining (machine s) i (Some a) j) (slice_get old j)) c.take_action.result c.take_action.ensures.ok
-    (joined s p (ap composition c.plan-plan.ensures) i a among c.in_ok-among.ensures old new c.requires.plain)
+    joined s p (ap composition c.plan-plan.ensures) i a among c.in_ok-among.ensures old new c.requires.plain c.in_ok-take_action.ensures.ok
+
+pub returns-clause-resting : goal.returns-clause-resting
+returns-clause-resting g c =
+    still_resting (composition (plan_of c.args.setup.now)) (composition c.plan-plan.result.now) c.args.i c.args.action.now c.in_ok-among.among.now c.args.states.now c.take_action.new.states
+    c.args.resting.now.tasks.items c.wake_all.new.self.tasks.items c.requires.resting c.in_ok-take_action.ensures.ok c.wake_all.ensures
