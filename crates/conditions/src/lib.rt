@@ -1,0 +1,13 @@
+//! Preconditions solved: branches of which one has to hold, and for each the tests that are asked
+//! as soon as their parameters have values.
+#![tactic(auto)]
+
+mod bounds;
+mod branches;
+mod condition;
+mod copy;
+mod reach;
+mod stages;
+
+pub use condition::{Branch, Condition, Stage, Test};
+pub use reach::reach_of;
