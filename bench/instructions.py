@@ -9,8 +9,9 @@ add 256 numbers in each turn and send nothing; and the ring and PHOLD of 1,024. 
 
 Then a byte of a source, a component, a step and a roll-back: two commands that differ in their number alone, the longer less the shorter. So a
 step has its share in the reading of its line, and in the text of a turn that it commits."""
-import re, subprocess, sys, tempfile
+import subprocess, sys, tempfile
 from pathlib import Path
+from callgrind import count
 from generated import in_order, loads, phold, ring, source, stragglers, there_and_back
 
 LOADS = [("reference", "ring8", 20000, 1), ("reference", "phold64", 2000, 1), ("reference", "phold64w", 500, 1), ("reference", "compute64", 60, 256),
@@ -18,16 +19,6 @@ LOADS = [("reference", "ring8", 20000, 1), ("reference", "phold64", 2000, 1), ("
          ("reference", "ring1024", 160, 1), ("reference", "phold1024", 125, 1), ("run --workers 1", "ring1024", 160, 1), ("run --workers 1", "phold1024", 125, 1)]
 CHECKED = [("ring8", 20000), ("phold64", 2000), ("ring1024", 160), ("phold1024", 125)]
 TICKS = ["--ticks", "40000"]
-
-
-def count(folder, words):
-    """Returns the instructions of a command and how many lines it wrote."""
-    with tempfile.NamedTemporaryFile() as out:
-        tool = ["valgrind", "--tool=callgrind", f"--callgrind-out-file={out.name}", program, *words]
-        ran = subprocess.run(tool, cwd=folder, stdin=subprocess.DEVNULL, capture_output=True)
-    if ran.returncode or b"refused" in ran.stderr:
-        sys.exit(f"{' '.join(words)}: status {ran.returncode}, {ran.stderr.decode()}")
-    return int(re.search(rb"Collected : (\d+)", ran.stderr)[1]), ran.stdout.count(b"\n")
 
 
 def is_asked_for(name):
@@ -40,8 +31,8 @@ def print_turns(folder):
         if is_asked_for(name):
             first, *rest = command.split()
             words = [first, f"{load}.ioa", *rest, "--ticks"]
-            start, _ = count(folder, [*words, "0"])
-            all_of_it, turns = count(folder, [*words, str(ticks)])
+            start, _ = count(program, folder, [*words, "0"])
+            all_of_it, turns = count(program, folder, [*words, str(ticks)])
             each = "an addition" if parts > 1 else "a turn"
             print(f"{name}: {(all_of_it - start) / turns / parts:.0f} instructions {each} ({turns} turns)", flush=True)
 
@@ -63,7 +54,7 @@ def print_difference(folder, name, each, command, texts, more):
         costs = []
         for text in texts:
             (folder / "text").write_text(text)
-            costs.append(count(folder, command)[0])
+            costs.append(count(program, folder, command)[0])
         print(f"{name}: {(costs[1] - costs[0]) / more:.0f} instructions {each}", flush=True)
 
 

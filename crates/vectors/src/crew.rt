@@ -46,8 +46,8 @@ const GAPS: [&str; 2] = ["--gap=20", "--gap=3"];
 
 const LEAST_GAPS: [&str; 2] = ["--stream=0", "--from-zero"];
 
-// What the program writes to these words; nothing where it fails, or writes an error.
-fn written<R: Threads + Wait + Sync>(
+/// What the program writes to these words; nothing where it fails, or writes an error.
+pub fn written<R: Threads + Wait + Sync>(
     rt: &R,
     alloc: Global,
     words: &[&str],

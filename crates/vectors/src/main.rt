@@ -10,6 +10,8 @@
 //!
 //! A file whose name ends with `.ioa` is a source, which is run by 1 to 8 workers and has to come out as by one thread, 200 runs of all sources.
 //!
+//! A file whose name ends with `.grammar` gives 10,000 sources, which have to come out as by a simulator that makes each tuple of parameters.
+//!
 //! Two words name no file. `engines` calls the engines that take bytes. `lists` has `fixtures` drive worlds by twelve lists of steps whose replies
 //! are known; worlds of four small compositions by a thousand random lists of steps, whose committed turns are compared with those of the
 //! one-thread simulator; and their exchanges by 1,250 random lists of calls, a thousand of them with windows, whose turns are compared with those
@@ -21,10 +23,12 @@ mod engines;
 mod given;
 mod narrow;
 mod served;
+mod solved;
 
 use crate::crew::run_all;
 use crate::engines::try_engines;
 use crate::served::comes_out;
+use crate::solved::try_sources;
 use cases::Case;
 use fixtures::Count;
 use fixtures::lists::try_lists;
@@ -50,7 +54,7 @@ fn main(rt: HostRuntime) -> anyhow::Result<ExitCode> {
     Ok(ExitCode::from(if count.failed == 0 { 0 } else { 1 }))
 }
 
-// Tries the lists, the engines, or the cases of a file; a source is kept.
+// Tries the lists, the engines, the cases of a file or the sources of a grammar; a source is kept.
 fn try_word<R: AllocGlobal + Files + Threads + Wait + Sync + Eprint>(
     rt: &R,
     alloc: Global,
@@ -67,6 +71,9 @@ fn try_word<R: AllocGlobal + Files + Threads + Wait + Sync + Eprint>(
     let text = fs::read_to_string(rt, word)?;
     if word.ends_with(".ioa") {
         return Ok(sources.push(text)?);
+    }
+    if word.ends_with(".grammar") {
+        return try_sources(rt, alloc, text.as_str(), count);
     }
     try_all(rt, alloc, word, text.as_str(), count)
 }
