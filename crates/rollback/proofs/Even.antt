@@ -15,9 +15,9 @@ use Rattle.raw_events.specs.Around.{Around}
 use Rattle.antimessage.proofs.Counting.{signed_decides}
 use Rattle.antimessage.specs.Bags.{is_one}
 use Rattle.antimessage.specs.Counts.{minus}
-use Rattle.plans.specs.Automata.{Instance}
-use Rattle.plans.specs.Receivers.{Rising}
-use Rattle.plans.specs.Signatures.{receivers_of}
+use Rattle.io_automata.specs.Automata.{Instance}
+use Rattle.io_automata.specs.Receivers.{Rising}
+use Rattle.io_automata.specs.Signatures.{receivers_of}
 use Rattle.virtual_time.specs.Entries.{number}
 use Rattle.task_seed.specs.Turning.{System}
 use Rattle.message_balance.specs.declared.done.Done.{Done}

@@ -32,7 +32,7 @@ use Rattle.rollback.proofs.Unwinding.{inputs_more}
 use Rattle.rollback.proofs.Replays.{length_replays, oldest_replay}
 use Rattle.rollback.specs.Post.{opposite, opposed}
 use Rattle.undo_records.specs.States.{States, undone}
-use Rattle.plans.specs.Steps.{applied}
+use Rattle.io_automata.specs.Steps.{applied}
 use Rattle.virtual_time.specs.Entries.{Entry, Own, Input as Received, Item, by_own, latest, number, replay}
 use Rattle.virtual_time.specs.Records.{Record, own_next, least_of, next_of}
 use Rattle.task_seed.specs.Turning.{System, has_turns, ticks, key_at, key_of}

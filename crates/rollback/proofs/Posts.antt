@@ -11,8 +11,8 @@ use Rattle.event_keys.specs.Ranks.{rank}
 use Rattle.antimessage.specs.Bags.{insert}
 use Rattle.antimessage.specs.Counts.{Each}
 use Rattle.antimessage.specs.Order.{Fits, IsInOrder, KeyFits}
-use Rattle.plans.specs.Receivers.{IsIn, Rising}
-use Rattle.plans.specs.Signatures.{receives}
+use Rattle.io_automata.specs.Receivers.{IsIn, Rising}
+use Rattle.io_automata.specs.Signatures.{receives}
 use Rattle.virtual_time.specs.Bags as theory
 use Rattle.virtual_time.specs.Entries.{Item}
 use Rattle.virtual_time.specs.Records.{sent}

@@ -11,9 +11,9 @@ use Rattle.event_keys.specs.Entries.{action_of}
 use Rattle.event_keys.specs.Ranks.{rank}
 use Rattle.raw_events.specs.Around.{Around}
 use Rattle.antimessage.specs.Order.{IsInOrder, KeyFits}
-use Rattle.plans.specs.Automata.{Instance}
-use Rattle.plans.specs.Receivers.{IsIn, Rising}
-use Rattle.plans.specs.Signatures.{receives, receivers_of}
+use Rattle.io_automata.specs.Automata.{Instance}
+use Rattle.io_automata.specs.Receivers.{IsIn, Rising}
+use Rattle.io_automata.specs.Signatures.{receives, receivers_of}
 use Rattle.virtual_time.specs.Records.{sent}
 use Rattle.task_seed.specs.Turning.{System}
 use Rattle.task_seed.specs.Machines.{machine, end_rank}

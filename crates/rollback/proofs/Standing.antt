@@ -21,9 +21,9 @@ use Rattle.antimessage.specs.Bags.{is_one}
 use Rattle.antimessage.specs.Counts.{Each, is_same, plus, minus}
 use Rattle.antimessage.specs.Order.{Fits, IsInOrder, KeyFits}
 use Rattle.undo_records.specs.States.{States}
-use Rattle.plans.specs.Automata.{Instance}
-use Rattle.plans.specs.Receivers.{IsIn}
-use Rattle.plans.specs.Signatures.{receives, receivers_of}
+use Rattle.io_automata.specs.Automata.{Instance}
+use Rattle.io_automata.specs.Receivers.{IsIn}
+use Rattle.io_automata.specs.Signatures.{receives, receivers_of}
 use Rattle.virtual_time.specs.Bags.{hit, hit_own, owns, same_item, sends, times}
 use Rattle.virtual_time.specs.Entries.{number}
 use Rattle.task_seed.specs.Machines.{machine, same_action}

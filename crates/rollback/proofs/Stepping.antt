@@ -13,13 +13,13 @@ use Rattle.event_keys.specs.Ranks.{rank}
 use Rattle.raw_events.specs.Around.{Around, head, tail}
 use Rattle.antimessage.specs.Bags.{insert}
 use Rattle.antimessage.specs.Order.{IsInOrder, KeyFits}
-use Rattle.plans.specs.Automata.{Instance}
-use Rattle.plans.specs.Receivers.{IsIn, Rising}
-use Rattle.plans.specs.Signatures.{receives, receivers_of}
+use Rattle.io_automata.specs.Automata.{Instance}
+use Rattle.io_automata.specs.Receivers.{IsIn, Rising}
+use Rattle.io_automata.specs.Signatures.{receives, receivers_of}
 use Rattle.rollback.specs.Post.{IsPosted, post_all}
 use Rattle.rollback.proofs.Sending.{posted_outcome}
 use Rattle.undo_records.specs.States.{States, undone}
-use Rattle.plans.specs.Steps.{applied}
+use Rattle.io_automata.specs.Steps.{applied}
 use Rattle.virtual_time.specs.Entries.{Entry, Own, Input as Received, by_own, number, replay}
 use Rattle.virtual_time.specs.Records.{Record, next_of, roll_back_of, sent, unsent, without_first, undone as undone_by_theory}
 use Rattle.task_seed.specs.Turning.{System}

@@ -17,7 +17,7 @@ use Rattle.antimessage.specs.Counts.{Each, signed_cmp}
 use Rattle.antimessage.specs.Order.{Fits, IsInOrder}
 use Rattle.undo_records.specs.First.{first_state}
 use Rattle.undo_records.specs.States.{States}
-use Rattle.plans.specs.Signatures.{receivers_of}
+use Rattle.io_automata.specs.Signatures.{receivers_of}
 use Rattle.virtual_time.specs.Entries.{Entry, Own, Input as Received, entry_key, number, replay}
 use Rattle.virtual_time.specs.Records.{Record}
 use Rattle.task_seed.specs.Turning.{System, key_of}

@@ -9,7 +9,7 @@ use Rattle.event_keys.specs.Entries.{action_of}
 use Rattle.event_keys.specs.Ranks.{rank}
 use Rattle.raw_events.specs.Around.{Around}
 use Rattle.undo_records.specs.States.{States}
-use Rattle.plans.specs.Steps.{applied}
+use Rattle.io_automata.specs.Steps.{applied}
 use Rattle.plans.specs.Plans.{composition}
 use Rattle.plans.specs.declared.plan.Plan.{Plan}
 use Rattle.virtual_time.specs.Entries.{by_own}

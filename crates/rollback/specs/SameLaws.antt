@@ -17,8 +17,8 @@ use Rattle.event_keys.specs.contracts.key.BoundOrd.TheImpl as bound_ord
 use Rattle.event_keys.specs.contracts.key.BoundOrd.TheImpl.Laws.{matches_eq-law as bound_agrees, total-law as bound_total}
 use Rattle.event_keys.specs.Apart.{action_apart, bound_apart}
 use Rattle.event_keys.specs.Orders.{action_order, bound_order}
-use Rattle.plans.specs.SameCompositions.{same_plan}
-use Rattle.plans.specs.SameLaws.{same_plan_laws}
+use Rattle.plans.specs.SamePlans.{same_plan}
+use Rattle.plans.specs.SamePlanLaws.{same_plan_laws}
 use Rattle.undo_records.specs.First.{same_state}
 use Rattle.virtual_time.specs.Entries.{Entry, Own, Input as Received, Item}
 use Rattle.virtual_time.specs.Records.{Record}

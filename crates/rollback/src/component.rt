@@ -27,6 +27,7 @@ use crate::spares::Spares;
 use antimessage::Bag;
 use event_keys::{Bound, Key, Outcome, Signed, Turned};
 use message_balance::Done;
+use plans::Resting;
 use plans::laws::receivers_law;
 use raw_events::EventList;
 use std::alloc::Global;
@@ -57,6 +58,8 @@ pub struct Component<T: Turns> {
     pub(crate) coming: Option<Key>,
     // It has reached the next turn.
     pub(crate) clock: Clock,
+    // The tasks that have nothing enabled in the current state, as far as was asked.
+    pub(crate) resting: Resting,
     pub(crate) spares: Spares,
 }
 
@@ -65,6 +68,7 @@ impl<T: Turns> Model for Component<T> {
     ghost use Rattle.task_seed.specs.declared.setup.Setup.{Setup};
     ghost use Rattle.rollback.specs.ComponentView.{ComponentView};
     ghost use Rattle.std.specs.Coded.{codes};
+    ghost use Rattle.plans.specs.KnownLaws.{are_known_prop};
     ghost use Rattle.terms.specs.Datum.{datum_code};
     ghost use Rattle.terms.specs.contracts.scalar.Shape as shape;
     ghost use Rattle.terms.specs.contracts.term.Term as term;
@@ -72,12 +76,20 @@ impl<T: Turns> Model for Component<T> {
 
     ghost Value = { ComponentView (Setup T) };
 
-    ghost coded = { Prim.hlevel
-        (codes, shape.the_row.coded, term.the_row.coded, effect.the_row.coded, datum_code) };
+    ghost coded = { Prim.hlevel (
+      codes,
+      are_known_prop,
+      shape.the_row.coded,
+      term.the_row.coded,
+      effect.the_row.coded,
+      datum_code,
+    ) };
 
-    ghost use Rattle.task_seed.specs.Setups.{system};
+    ghost use Rattle.task_seed.specs.Setups.{system, plan_of};
     ghost use Rattle.rollback.specs.ComponentInvariant.{record_of, next_number, IsValidComponent};
     ghost use Rattle.task_seed.specs.Clocks.{HasReached};
+    ghost use Rattle.plans.specs.Plans.{composition};
+    ghost use Rattle.plans.specs.Resting.{IsResting};
 
     ghost view = { λ c.
         record {
@@ -90,7 +102,9 @@ impl<T: Turns> Model for Component<T> {
     ghost invariant = { λ c. IsValidComponent
         (system T.turn_of
         (arc_value c.setup)) c.number c.first c.store c.done c.pending c.owed c.coming
-        × HasReached T.turn_of (arc_value c.setup) c.number c.clock (next_number c.first c.done) };
+        × HasReached T.turn_of (arc_value c.setup) c.number c.clock (next_number c.first c.done)
+        × IsResting
+        (composition (plan_of (arc_value c.setup))) c.number c.store.current c.resting };
 }
 
 impl<T: Turns> Component<T> {
@@ -119,6 +133,7 @@ impl<T: Turns> Component<T> {
             owed: EventList::new(),
             coming,
             clock,
+            resting: Resting::new(),
             spares: Spares::new(),
         })
     }
@@ -248,7 +263,7 @@ impl<T: Turns> Component<T> {
         let Some(first) = self.pending.peek_next() else {
             unreachable!();
         };
-        let key = first.message.key;
+        let taken = first.message.key;
         take_input(
             alloc,
             self.setup.plan(),
@@ -258,7 +273,8 @@ impl<T: Turns> Component<T> {
             &mut self.pending,
             &mut self.spares,
         )?;
-        Ok(key)
+        self.resting.wake();
+        Ok(taken)
     }
 
     // Takes the own turn.
@@ -314,14 +330,15 @@ impl<T: Turns> Component<T> {
         Ok(key)
     }
 
-    // The key of the own turn that comes next, and what comes of it: its action, if it takes one, in place of what was in `found`.
+    // The key of the own turn that comes next, and what comes of it: its action, if it takes one, in `found`, where nothing stands.
     #[inline(always)]
     pub(crate) fn next_into(
         &mut self,
         alloc: Global,
         found: &mut Option<Action>,
     ) -> Result<Key, NoMemory>
-        requires { IsTrue (is_turning (next_entry T.turn_of self.old)) }
+        requires turning { IsTrue (is_turning (next_entry T.turn_of self.old)) }
+        requires empty { found.old ≡ None }
         ensures next { IfOk result (λ key. IsNextTurn T.turn_of self.old
             (turned_of found.new key)) }
         ensures kept { self.new ≡ self.old }
@@ -332,11 +349,11 @@ impl<T: Turns> Component<T> {
         let turn = self.clock.turn_again(&self.setup, key.number);
         outcome_into(
             alloc,
-            &self.setup,
+            self.setup.plan(),
             self.number,
-            key.number,
             turn,
             &self.store,
+            &mut self.resting,
             found,
         )?;
         Ok(key)
@@ -372,6 +389,7 @@ impl<T: Turns> Component<T> {
             &mut self.spares,
             out,
         )?;
+        self.resting.wake();
         self.coming = next;
         Ok(key)
     }
@@ -390,6 +408,7 @@ impl<T: Turns> Component<T> {
             return false;
         };
         self.store.undo();
+        self.resting.wake();
         match cell.into_value() {
             Done::Turn(turned, antimessages) => {
                 let key = turned.value().key;

@@ -1,5 +1,5 @@
 //! The growths of a step, over the parts of a component.
-ghost use Rattle.std.specs.Prelude.{◌≡◌, ◌∷◌, ◌<◌, [], Some, map, length, OnOk, OnErr, IfOk, IfSome, IsTrue};
+ghost use Rattle.std.specs.Prelude.{◌≡◌, ◌∷◌, ◌<◌, [], None, Some, map, length, OnOk, OnErr, IfOk, IfSome, IsTrue};
 ghost use Rattle.raw_events.specs.Around.{head, tail, is_nonempty};
 ghost use Rattle.event_keys.specs.declared.message.Sign.TheVariants.{Plus, Minus};
 ghost use Rattle.event_keys.specs.declared.outcome.Outcome.TheVariants.{Idle};
@@ -8,12 +8,12 @@ ghost use Rattle.event_keys.specs.Ranks.{rank};
 ghost use Rattle.antimessage.specs.Order.{IsInOrder};
 ghost use Rattle.virtual_time.specs.Entries.{by_own};
 ghost use Rattle.virtual_time.specs.Records.{sent};
+ghost use Rattle.io_automata.specs.Outcomes.{outcome_of};
 ghost use Rattle.plans.specs.Plans.{composition};
-ghost use Rattle.plans.specs.Steps.{applied};
+ghost use Rattle.plans.specs.Resting.{IsResting};
+ghost use Rattle.io_automata.specs.Steps.{applied};
 ghost use Rattle.task_seed.specs.Setups.{system, plan_of};
 ghost use Rattle.task_seed.specs.Taken.{turned_of};
-ghost use Rattle.task_seed.specs.Turning.{turn_in};
-ghost use Rattle.task_seed.specs.Machines.{turn_outcome};
 ghost use Rattle.rollback.specs.Grown.{IsTurnSent, after_action, after_input, after_turn, done_turn, marked_as, with_done};
 ghost use Rattle.rollback.specs.ComponentView.{machine_of};
 ghost use Rattle.rollback.specs.ComponentInvariant.{signed_by, signed_of, turn_receivers, IsGivenBack};
@@ -25,8 +25,8 @@ use antimessage::Bag;
 use antimessage::laws::order_law;
 use event_keys::{Key, Message, Outcome, Sign, Signed, Turned};
 use message_balance::Done;
-use plans::Plan;
 use plans::laws::receivers_law;
+use plans::{Plan, Resting};
 use raw_events::EventList;
 use smallvec::SmallVec;
 use std::alloc::Global;
@@ -72,25 +72,33 @@ pub(crate) fn advance_turn<T: Turns>(
     }
 }
 
-/// What comes of turn `n`, which is this one, in the current state: its action, if it takes one, in place of what was in `found`.
+/// What comes of a turn in the current state: its action, if it takes one, in `found`, where nothing stands. A task that rests
+/// isn't asked, and one that has nothing enabled rests from now on.
 #[inline(always)]
-pub(crate) fn outcome_into<T: Turns>(
+pub(crate) fn outcome_into(
     alloc: Global,
-    setup: &Setup<T>,
+    plan: &Plan,
     i: u16,
-    n: u64,
     turn: Turn,
     store: &Store,
+    resting: &mut Resting,
     found: &mut Option<Action>,
 ) -> Result<(), NoMemory>
-    requires { Some turn ≡ turn_in (system T.turn_of setup.now) i n }
-    ensures { OnOk result (found.new
-        ≡ turn_outcome (system T.turn_of setup.now) i n store.now.current) }
+    requires empty { found.old ≡ None }
+    requires resting { IsResting (composition plan.now) i store.now.current resting.old }
+    ensures found { OnOk result (found.new
+        ≡ outcome_of (composition plan.now) i turn.task turn.choice store.now.current) }
+    ensures resting { IsResting (composition plan.now) i store.now.current resting.new }
 {
-    let _ = n;
-    setup
-        .plan()
-        .outcome_into(alloc, i, turn.task, turn.choice, store, found)
+    if resting.is_resting(turn.task) {
+        return Ok(());
+    }
+    plan.outcome_into(alloc, i, turn.task, turn.choice, store, found)?;
+    if found.is_some() {
+        return Ok(());
+    }
+    resting.note(turn.task);
+    Ok(())
 }
 
 // A turn that took an action.

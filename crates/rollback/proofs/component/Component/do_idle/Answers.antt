@@ -67,12 +67,13 @@ invariant_of-self-2 g c =
           (kept_turn s f.number f.first f.store f.done f.pending f.owed f.coming c.in_ok-next.next turned c.self.invariant.0 own next c.in_ok-next.ensures.small
           (not_before s f.number f.first f.store f.done f.pending f.owed f.coming c.self.invariant.0 turned comes)),
       rw done (both_reached t (arc_value f.setup) f.number (next_number f.first f.done) turned.key.number f.clock c.reach_after.new.self number c.self.invariant.1 reaching).1,
+      rw state c.self.invariant.2,
     )
 
 pub invariant_of-self : goal.invariant_of-self
 invariant_of-self g c =
     let f = c.self.inside in
-    (c.self.invariant.0, reached_same g.T.Turns.turn_of (arc_value f.setup) f.number f.clock c.reach_after.new.self (next_number f.first f.done) c.in_err-next.ensures.err c.in_err-next.ensures.err_ticks c.self.invariant.1)
+    (c.self.invariant.0, reached_same g.T.Turns.turn_of (arc_value f.setup) f.number f.clock c.reach_after.new.self (next_number f.first f.done) c.in_err-next.ensures.err c.in_err-next.ensures.err_ticks c.self.invariant.1, c.self.invariant.2)
 
 pub invariant_of-self-in_err-take_idle : goal.invariant_of-self-in_err-take_idle
 invariant_of-self-in_err-take_idle g c =
@@ -85,4 +86,5 @@ invariant_of-self-in_err-take_idle g c =
     let reaching = subst (λ u. Reaching t u f.clock.component f.clock (turned.key.number + 1) c.reach_after.new.self) c.deref.ensures c.in_ok-next.ensures.ok in (
       rw (c.in_err-take_idle.ensures.store_kept, c.in_err-take_idle.ensures.done_kept) c.self.invariant.0,
       rw c.in_err-take_idle.ensures.done_kept (both_reached t (arc_value f.setup) f.number (next_number f.first f.done) turned.key.number f.clock c.reach_after.new.self number c.self.invariant.1 reaching).0,
+      rw c.in_err-take_idle.ensures.store_kept c.self.invariant.2,
     )

@@ -3,8 +3,10 @@ use Rattle.std.specs.Arc.{arc_value}
 use Rattle.event_keys.specs.declared.message.Sign.TheVariants.{Plus, Minus}
 use Rattle.event_keys.specs.Entries.{action_of}
 use Rattle.event_keys.specs.Ranks.{rank}
+use Rattle.plans.specs.Plans.{composition}
+use Rattle.plans.specs.RestingLaws.{woken_resting}
 use Rattle.task_seed.specs.Machines.{machine}
-use Rattle.task_seed.specs.Setups.{system}
+use Rattle.task_seed.specs.Setups.{system, plan_of}
 use Rattle.task_seed.specs.Turning.{key_of}
 use Rattle.virtual_time.specs.Entries.{by_own}
 use Rattle.virtual_time.specs.Records.{next_of, sent}
@@ -67,12 +69,13 @@ invariant_of-self-2 g c =
           (kept_turn s f.number f.first f.store f.done f.pending f.owed f.coming c.in_ok-next.next turned c.self.invariant.0 own next c.in_ok-next.ensures.small
           (not_before s f.number f.first f.store f.done f.pending f.owed f.coming c.self.invariant.0 turned comes)),
       rw done (both_reached t (arc_value f.setup) f.number (next_number f.first f.done) turned.key.number f.clock c.reach_after.new.self number c.self.invariant.1 reaching).1,
+      woken_resting (composition (plan_of (arc_value f.setup))) f.number c.take_turn.new.store.current c.wake.new.self c.wake.ensures,
     )
 
 pub invariant_of-self : goal.invariant_of-self
 invariant_of-self g c =
     let f = c.self.inside in
-    (c.self.invariant.0, reached_same g.T.Turns.turn_of (arc_value f.setup) f.number f.clock c.reach_after.new.self (next_number f.first f.done) c.in_err-next.ensures.err c.in_err-next.ensures.err_ticks c.self.invariant.1)
+    (c.self.invariant.0, reached_same g.T.Turns.turn_of (arc_value f.setup) f.number f.clock c.reach_after.new.self (next_number f.first f.done) c.in_err-next.ensures.err c.in_err-next.ensures.err_ticks c.self.invariant.1, c.self.invariant.2)
 
 pub invariant_of-self-in_err-take_turn : goal.invariant_of-self-in_err-take_turn
 invariant_of-self-in_err-take_turn g c =
@@ -85,4 +88,5 @@ invariant_of-self-in_err-take_turn g c =
     let reaching = subst (λ u. Reaching t u f.clock.component f.clock (turned.key.number + 1) c.reach_after.new.self) c.deref.ensures c.in_ok-next.ensures.ok in (
       rw (c.in_err-take_turn.ensures.store_kept, c.in_err-take_turn.ensures.done_kept) c.self.invariant.0,
       rw c.in_err-take_turn.ensures.done_kept (both_reached t (arc_value f.setup) f.number (next_number f.first f.done) turned.key.number f.clock c.reach_after.new.self number c.self.invariant.1 reaching).0,
+      rw c.in_err-take_turn.ensures.store_kept c.self.invariant.2,
     )

@@ -58,7 +58,7 @@ invariant_of-self g c =
     let first : c.number_after-self-inside.result ≡ number f.first (entries_of (dones_below b ds))
     = c.number_after-self-inside.ensures ∙ ap (λ k. number_after k f.first) c.take_below-dropped.ensures.newest ∙ newest_number s f.number f.first (dones_below b ds) (ready_below s f.number f.first b ds c.self.invariant.0.ready) in
     let left : c.take_below-dropped.new.done ≡ record { before = dones_from b ds; after = [] } = c.take_below-dropped.ensures.rest in
-    (rw (states, first, left) (kept_dropped s f.number f.first b f.store f.done f.pending f.owed f.coming c.self.invariant.0), rw (first, left) (subst (HasReached g.T.Turns.turn_of (arc_value f.setup) f.number f.clock) (sym (cut_number s f.number f.first b ds)) c.self.invariant.1))
+    (rw (states, first, left) (kept_dropped s f.number f.first b f.store f.done f.pending f.owed f.coming c.self.invariant.0), rw (first, left) (subst (HasReached g.T.Turns.turn_of (arc_value f.setup) f.number f.clock) (sym (cut_number s f.number f.first b ds)) c.self.invariant.1), rw states c.self.invariant.2)
 
 pub returns-clause-record : goal.returns-clause-record
 returns-clause-record g c =

@@ -15,7 +15,7 @@ invariant_of-self g c =
     let f = c.self.inside in
     let s = system g.T.Turns.turn_of (arc_value f.setup) in
     let goes_there : goes Minus f.number c.args.cell ≡ true = subst (λ (h : ComponentView _). goes Minus h.number c.args.cell ≡ true) (sym c.self.view_is) c.requires in
-    (rw c.put.ensures.queue (with_owing s f.number f.first f.store f.done f.pending f.owed (record f.owed { after = _ }) f.coming c.self.invariant.0 (queue_insert s f.number Minus f.owed c.args.cell c.self.invariant.0.owing c.put.ensures.fits goes_there c.put.ensures.timed)), c.self.invariant.1)
+    (rw c.put.ensures.queue (with_owing s f.number f.first f.store f.done f.pending f.owed (record f.owed { after = _ }) f.coming c.self.invariant.0 (queue_insert s f.number Minus f.owed c.args.cell c.self.invariant.0.owing c.put.ensures.fits goes_there c.put.ensures.timed)), c.self.invariant.1, c.self.invariant.2)
 
 pub returns : goal.returns
 returns g c =

@@ -4,7 +4,8 @@ use Rattle.std.specs.Arc.{arc_value}
 use Rattle.event_keys.specs.declared.message.Signed.{Signed}
 use Rattle.raw_events.specs.Around.{head, tail}
 use Rattle.plans.specs.Plans.{composition}
-use Rattle.plans.specs.Steps.{applied}
+use Rattle.plans.specs.RestingLaws.{woken_resting}
+use Rattle.io_automata.specs.Steps.{applied}
 use Rattle.task_seed.specs.Setups.{system, plan_of}
 use Rattle.task_seed.specs.Machines.{machine}
 use Rattle.virtual_time.specs.Records.{next_of}
@@ -33,4 +34,4 @@ invariant_of-self-2 g c =
     = subst (λ (l : List Signed). IfSome (head l) (λ (y : Signed). c.take_input.new.done ≡ record f.done { before = Input y ∷ f.done.before })) there c.in_ok-take_input.ensures.done in
     let pending : c.take_input.new.pending ≡ record f.pending { after = found.1 }
     = c.in_ok-take_input.ensures.pending ∙ ap (λ (l : List Signed). record f.pending { after = tail l }) there in
-    (rw (state, done, pending) (kept_input s f.number f.first f.store f.done f.pending f.owed f.coming x found.1 c.self.invariant.0 there before), rw done c.self.invariant.1)
+    (rw (state, done, pending) (kept_input s f.number f.first f.store f.done f.pending f.owed f.coming x found.1 c.self.invariant.0 there before), rw done c.self.invariant.1, woken_resting (composition (plan_of (arc_value f.setup))) f.number c.take_input.new.store.current c.wake.new.self c.wake.ensures)

@@ -4,9 +4,11 @@ use Rattle.std.specs.Arc.{arc_value}
 use Rattle.event_keys.specs.declared.message.Signed.{Signed}
 use Rattle.event_keys.specs.declared.message.Sign.TheVariants.{Minus}
 use Rattle.raw_events.specs.Around.{tail}
+use Rattle.plans.specs.Plans.{composition}
+use Rattle.plans.specs.RestingLaws.{woken_resting}
 use Rattle.task_seed.specs.ClockLaws.{reached_before}
 use Rattle.task_seed.specs.Clocks.{HasReached}
-use Rattle.task_seed.specs.Setups.{system}
+use Rattle.task_seed.specs.Setups.{system, plan_of}
 use Rattle.virtual_time.specs.Entries.{number}
 use Rattle.task_seed.specs.Machines.{machine}
 use Rattle.virtual_time.specs.Records.{roll_back_of, unsent}
@@ -28,6 +30,7 @@ invariant_of-self-in-Input g c =
       rw (c.undo.ensures.state, c.take_last.ensures.rest, c.insert_sorted.ensures)
           (kept_back_input s f.number f.first f.store f.done f.pending f.owed f.coming x (tail f.done.before) c.self.invariant.0 there),
       rw c.take_last.ensures.rest (subst (λ ds. HasReached g.T.Turns.turn_of (arc_value f.setup) f.number f.clock (number f.first (entries_of ds))) there c.self.invariant.1),
+      woken_resting (composition (plan_of (arc_value f.setup))) f.number c.undo.new.self.current c.wake.new.self c.wake.ensures,
     )
 
 pub returns-in-Input-clause-record : goal.returns-in-Input-clause-record
@@ -68,4 +71,5 @@ invariant_of-self-in-Turn g c =
           (kept_back_turn s f.number f.first f.store f.done f.pending f.owed f.coming turned minuses (tail f.done.before) c.self.invariant.0 there),
       rw c.take_last.ensures.rest (reached_before g.T.Turns.turn_of (arc_value f.setup) f.number f.clock (number f.first (entries_of (tail f.done.before))) _ (omega arith)
           (subst (λ ds. HasReached g.T.Turns.turn_of (arc_value f.setup) f.number f.clock (number f.first (entries_of ds))) there c.self.invariant.1)),
+      woken_resting (composition (plan_of (arc_value f.setup))) f.number c.undo.new.self.current c.wake.new.self c.wake.ensures,
     )

@@ -15,7 +15,7 @@ pub invariant_of-self : goal.invariant_of-self
 invariant_of-self g c =
     let f = c.self.inside in
     let s = system g.T.Turns.turn_of (arc_value f.setup) in
-    (rw c.take_other.ensures.rest (with_owing s f.number f.first f.store f.done f.pending f.owed (record f.owed { after = _ }) f.coming c.self.invariant.0 (queue_remove s f.number Minus f.owed (opposed c.args.cell.now) c.self.invariant.0.owing)), c.self.invariant.1)
+    (rw c.take_other.ensures.rest (with_owing s f.number f.first f.store f.done f.pending f.owed (record f.owed { after = _ }) f.coming c.self.invariant.0 (queue_remove s f.number Minus f.owed (opposed c.args.cell.now) c.self.invariant.0.owing)), c.self.invariant.1, c.self.invariant.2)
 
 pub returns-clause-record : goal.returns-clause-record
 returns-clause-record g c =

@@ -20,6 +20,7 @@ invariant_of-self g c =
           (queue_remove s f.number Plus f.pending (opposed c.args.cell.now) c.self.invariant.0.waiting)
           (waiting_remove s f.number f.first f.store f.done f.pending f.owed f.coming c.self.invariant.0 (opposed c.args.cell.now) c.take_other.ensures.fits (opposed_goes s f.number Minus c.args.cell.now goes_there))),
       c.self.invariant.1,
+      c.self.invariant.2,
     )
 
 pub returns-clause-record : goal.returns-clause-record

@@ -21,6 +21,7 @@ invariant_of-self g c =
           (queue_insert s f.number Plus f.pending c.args.cell c.self.invariant.0.waiting c.put.ensures.fits goes_there c.put.ensures.timed)
           (waiting_insert s f.number f.first f.store f.done f.pending f.owed f.coming c.self.invariant.0 c.args.cell c.put.ensures.fits goes_there late)),
       c.self.invariant.1,
+      c.self.invariant.2,
     )
 
 pub returns : goal.returns
