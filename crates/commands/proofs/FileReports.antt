@@ -2,7 +2,7 @@
 use Rattle.std.proofs.Common.{◌≡◌, inl, inr, ℕ, true, List}
 use Rattle.std.specs.Prelude.{Option, None, Some}
 use Rattle.plans.specs.declared.plan.Plan.{Plan}
-use Rattle.plans.specs.Automata.{Instance}
+use Rattle.io_automata.specs.Automata.{Instance}
 use Rattle.task_seed.specs.Turning.{System}
 use Rattle.command_line.specs.declared.Options.{Options}
 use Rattle.commands.specs.declared.report.Report.{Report}

@@ -3,7 +3,7 @@ use Rattle.std.proofs.Common.{◌≡◌, ◌≢◌, ◌≤◌, ◌<◌, ◌⊎�
 use Rattle.std.specs.Prelude.{Option, None, Some, Result, Ok, Err, IfErr, IfOk, slice_get}
 use Rattle.std.proofs.lemmas.Bool.{cases_lt}
 use Rattle.plans.specs.declared.plan.Plan.{Plan}
-use Rattle.plans.specs.Automata.{Instance}
+use Rattle.io_automata.specs.Automata.{Instance}
 use Rattle.plans.specs.Plans.{composition}
 use Rattle.task_seed.specs.Any.{any_turn}
 use Rattle.task_seed.specs.Drawn.{drawn_turn, seed_turn}

@@ -1,7 +1,7 @@
 -- The reports on files: those on their bytes, each read after those before it were judged.
 use Rattle.std.specs.Prelude.{◌⊎◌, ℕ, Bool, true, false, Option, None, Some, List, option_map}
 use Rattle.plans.specs.declared.plan.Plan.{Plan}
-use Rattle.plans.specs.Automata.{Instance}
+use Rattle.io_automata.specs.Automata.{Instance}
 use Rattle.plans.specs.Plans.{composition}
 use Rattle.task_seed.specs.Turning.{System}
 use Rattle.trace.specs.declared.lines.Lines.{Lines}

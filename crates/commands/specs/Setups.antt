@@ -1,7 +1,7 @@
 -- The system of a plan with the turns that are given, and the report where there is none.
 use Rattle.std.specs.Prelude.{◌≡◌, ◌⊎◌, ◌<◌, ◌≤◌, ℕ, Bool, true, false, Option, None, List, slice_get}
 use Rattle.plans.specs.declared.plan.Plan.{Plan}
-use Rattle.plans.specs.Automata.{Instance}
+use Rattle.io_automata.specs.Automata.{Instance}
 use Rattle.plans.specs.Plans.{composition}
 use Rattle.task_seed.specs.Any.{any_turn}
 use Rattle.task_seed.specs.declared.any_turns.AnyTurns.{AnyTurns}

@@ -1,6 +1,6 @@
 -- When a table is accepted for a composition, and when it is refused.
 use Rattle.std.specs.Prelude.{◌≡◌, ◌⊎◌, ℕ, Option, Some, List, map, All}
-use Rattle.plans.specs.Automata.{Instance}
+use Rattle.io_automata.specs.Automata.{Instance}
 use Rattle.task_seed.specs.declared.table.Row.{Row}
 use Rattle.task_seed.specs.Table.{lines_of, spelled, IsInRange, IsFirstBadLine}
 use Rattle.task_seed.specs.Faults.{HasFault, IsFirstFault}

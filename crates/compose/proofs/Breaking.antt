@@ -2,10 +2,10 @@
 use Rattle.std.proofs.Common.{arith, ◌≡◌, ◌≢◌, ◌≤◌, ◌⊎◌, inl, inr, ℕ, Bool as Truth, true, false, not, ◌&&◌, ◌||◌, nat_eq, List, refl, sym, ◌∙◌, ap, subst}
 use Rattle.std.proofs.lemmas.Bool.Decides.{nat_tests}
 use Rattle.terms.specs.Named.{Named}
-use Rattle.plans.specs.declared.automaton.Kind.{Kind}
-use Rattle.plans.specs.declared.automaton.Kind.TheVariants.{Input, Output, Internal}
-use Rattle.plans.specs.Automata.{Instance, component_at}
-use Rattle.plans.specs.Signatures.{any_as, same_kind, inputs, outputs, internals, acts}
+use Rattle.io_automata.specs.declared.automaton.Kind.{Kind}
+use Rattle.io_automata.specs.declared.automaton.Kind.TheVariants.{Input, Output, Internal}
+use Rattle.io_automata.specs.Automata.{Instance, component_at}
+use Rattle.io_automata.specs.Signatures.{any_as, same_kind, inputs, outputs, internals, acts}
 use Rattle.compose.specs.declared.compatibility.rule.Rule.{Rule}
 use Rattle.compose.specs.declared.compatibility.rule.Rule.TheVariants as rule
 use Rattle.compose.specs.Rules.{IsTwice, OwnOverlap, InternalShared, OutputShared, Breaks, is_barred}

@@ -9,11 +9,11 @@ use Rattle.ioa_check.specs.Refusals.{IsMeant}
 use Rattle.ioa_check.specs.Resolutions.{meaning}
 use Rattle.ioa_check.specs.declared.resolved.Resolved.{Resolved}
 use Rattle.compose.specs.Sound.{IsSoundAutomaton, entries_in}
-use Rattle.plans.specs.Automata.{Instance, composed, instance_of}
-use Rattle.plans.specs.Compatible.{IsCompatible}
-use Rattle.plans.specs.WellFormed.{IsWellFormed}
-use Rattle.plans.specs.declared.automaton.Automaton.{Automaton}
-use Rattle.plans.specs.declared.automaton.Component.{Component}
+use Rattle.io_automata.specs.Automata.{Instance, composed, instance_of}
+use Rattle.io_automata.specs.Compatible.{IsCompatible}
+use Rattle.io_automata.specs.WellFormed.{IsWellFormed}
+use Rattle.io_automata.specs.declared.automaton.Automaton.{Automaton}
+use Rattle.io_automata.specs.declared.automaton.Component.{Component}
 use Rattle.compose.specs.Rules.{Breaks, IsFirst}
 use Rattle.compose.specs.declared.compatibility.rule.Rule.{Rule}
 use Rattle.compose.specs.declared.compatibility.rule.Rule.TheVariants as rule

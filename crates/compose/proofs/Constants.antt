@@ -4,8 +4,8 @@ use Rattle.terms.specs.Meaning.{slot}
 use Rattle.terms.specs.Same.{scalar_is, scalar_refl}
 use Rattle.terms.specs.contracts.scalar.ScalarPartialEq.TheImpl as scalar_eq
 use Rattle.terms.specs.declared.scalar.Scalar.{Scalar}
-use Rattle.plans.specs.Signatures.{fits_one}
-use Rattle.plans.specs.declared.automaton.Param.TheVariants.{Const}
+use Rattle.io_automata.specs.Signatures.{fits_one}
+use Rattle.io_automata.specs.declared.automaton.Param.TheVariants.{Const}
 
 pub constants_share : (formals others : List Scalar) (m n : ℕ) → scalar_eq.ghosts.eq (slot formals m) (slot others n) ≡ true
     → (value : Scalar) × ((fits_one formals (Const m) value ≡ true) × (fits_one others (Const n) value ≡ true))

@@ -2,8 +2,8 @@
 use Rattle.std.proofs.Common.{◌≡◌, ◌+◌, Bool, if◌then◌else◌, Some, List, [], ◌∷◌, ◌++◌, map, length, length-append, ap, subst, ◌∙◌, arith}
 use Rattle.std.proofs.lemmas.List.Elements.{All-head, All-tail}
 use Rattle.std.specs.List.{All}
-use Rattle.plans.specs.Automata.{Instance, absent, with_formals}
-use Rattle.plans.specs.declared.automaton.Automaton.{Automaton}
+use Rattle.io_automata.specs.Automata.{Instance, absent, with_formals}
+use Rattle.io_automata.specs.declared.automaton.Automaton.{Automaton}
 use Rattle.ioa_trees.specs.AutomatonRules.{MeantAutomaton}
 use Rattle.ioa_trees.specs.Trees.{Bytes}
 use Rattle.compose.specs.Instances.{built}

@@ -2,8 +2,8 @@
 use Rattle.std.proofs.Common.{arith, ◌≡◌, ◌≤◌, ◌+◌, ◌⊎◌, inl, inr, ℕ, suc, Bool as Truth, true, false, nat_le, List, [], ◌∷◌, ◌++◌, map, Option, None, Some, refl, sym, subst}
 use Rattle.std.proofs.lemmas.Bool.Decides.{nat_tests}
 use Rattle.terms.specs.declared.scalar.Scalar.{Scalar}
-use Rattle.plans.specs.Automata.{Transition, Instance}
-use Rattle.plans.specs.Compatible.{IsCompatible}
+use Rattle.io_automata.specs.Automata.{Transition, Instance}
+use Rattle.io_automata.specs.Compatible.{IsCompatible}
 use Rattle.compose.specs.declared.compatibility.rule.Rule.{Rule}
 use Rattle.compose.specs.declared.compatibility.rule.Rule.TheVariants as rule
 use Rattle.compose.specs.Rules.{IsTwice, Breaks, IsFirst}

@@ -18,14 +18,14 @@ use Rattle.ioa_trees.specs.EntryRules.{Meant, Slot, Fixed, Free, is_input, is_co
 use Rattle.ioa_trees.specs.AutomatonRules.{MeantAutomaton}
 use Rattle.ioa_trees.specs.SourceRules.{MeantComponent, MeantSource}
 use Rattle.compose.specs.Sound.{IsSoundAutomaton, share, is_within, is_slot, is_listed}
-use Rattle.plans.specs.declared.automaton.Kind.{Kind as ActionKind}
-use Rattle.plans.specs.declared.automaton.Kind.TheVariants as action
-use Rattle.plans.specs.declared.automaton.Param.{Param}
-use Rattle.plans.specs.declared.automaton.Param.TheVariants as param
-use Rattle.plans.specs.Automata.{Transition, Instance, component_at, absent}
-use Rattle.plans.specs.Signatures.{has, fits, has_as, any_as, same_kind}
-use Rattle.plans.specs.WellFormed as formed
-use Rattle.plans.specs.WellFormed.{IsWellFormed, is_complete, times, all_places}
+use Rattle.io_automata.specs.declared.automaton.Kind.{Kind as ActionKind}
+use Rattle.io_automata.specs.declared.automaton.Kind.TheVariants as action
+use Rattle.io_automata.specs.declared.automaton.Param.{Param}
+use Rattle.io_automata.specs.declared.automaton.Param.TheVariants as param
+use Rattle.io_automata.specs.Automata.{Transition, Instance, component_at, absent}
+use Rattle.io_automata.specs.Signatures.{has, fits, has_as, any_as, same_kind}
+use Rattle.io_automata.specs.WellFormed as formed
+use Rattle.io_automata.specs.WellFormed.{IsWellFormed, is_complete, times, all_places}
 use Rattle.compose.specs.Rules.{Breaks, IsTwice}
 use Rattle.compose.specs.declared.compatibility.rule.Rule.TheVariants as rule
 use Rattle.compose.specs.Instances.{kind_as, is_short, param_in, param_of, place_in, transition, argument, built, instances}

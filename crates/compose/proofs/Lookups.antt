@@ -5,13 +5,13 @@ use Rattle.std.proofs.lemmas.Bool.Decides.{nat_tests}
 use Rattle.std.proofs.lemmas.List.{append-nil}
 use Rattle.std.proofs.lemmas.List.Elements.{filter-append}
 use Rattle.std.specs.declared.vec.Vec.{Vec}
-use Rattle.plans.specs.Signatures.{fits, same_kind}
-use Rattle.plans.specs.declared.automaton.Kind.TheVariants.{Input, Output, Internal}
+use Rattle.io_automata.specs.Signatures.{fits, same_kind}
+use Rattle.io_automata.specs.declared.automaton.Kind.TheVariants.{Input, Output, Internal}
 use Rattle.compose.specs.Rules.{is_barred, suits_all, suits_inputs}
 use Rattle.compose.specs.declared.compatibility.rule.Rule.{Rule}
 use Rattle.compose.specs.declared.compatibility.rule.Rule.TheVariants.{Own}
 use Rattle.compose.specs.declared.compatibility.rule.Rule.TheVariants as rule
-use Rattle.plans.specs.declared.automaton.Kind.{Kind}
+use Rattle.io_automata.specs.declared.automaton.Kind.{Kind}
 use Rattle.compose.specs.declared.compatibility.standing.Standing.{Standing}
 use Rattle.compose.specs.Standings.{Stood, stood, seen_at, is_of, is_input_of, is_control_of, Has, Pair, Clash, ClashesAsInput, IsFirstPair}
 use Rattle.compose.proofs.ListPairs.{has_either, has_filtered, has_of_filtered, has_weaker, pair_last}

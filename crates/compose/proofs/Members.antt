@@ -3,10 +3,10 @@ use Rattle.std.proofs.Common.{arith, ◌≡◌, ◌+◌, ◌⊎◌, inl, inr, �
 use Rattle.std.specs.List.{list_any}
 use Rattle.terms.specs.Named.{Named}
 use Rattle.terms.specs.declared.scalar.Scalar.{Scalar}
-use Rattle.plans.specs.declared.automaton.Kind.{Kind}
-use Rattle.plans.specs.declared.automaton.Kind.TheVariants.{Input, Output, Internal}
-use Rattle.plans.specs.Automata.{Transition, Instance, component_at}
-use Rattle.plans.specs.Signatures.{has, has_as, any_as, same_kind}
+use Rattle.io_automata.specs.declared.automaton.Kind.{Kind}
+use Rattle.io_automata.specs.declared.automaton.Kind.TheVariants.{Input, Output, Internal}
+use Rattle.io_automata.specs.Automata.{Transition, Instance, component_at}
+use Rattle.io_automata.specs.Signatures.{has, has_as, any_as, same_kind}
 use Rattle.compose.specs.Standings.{Stood, stood_in, stands, Has}
 use Rattle.compose.proofs.ListPairs.{has_left, has_right, has_split}
 

@@ -9,7 +9,7 @@ use Rattle.ioa_trees.specs.Trees.{Bytes}
 use Rattle.ioa_trees.specs.EntryRules.{Meant}
 use Rattle.ioa_trees.specs.AutomatonRules.{MeantAutomaton}
 use Rattle.ioa_trees.specs.SourceRules.{MeantComponent, MeantSource}
-use Rattle.plans.specs.Automata.{Instance, absent, component_at}
+use Rattle.io_automata.specs.Automata.{Instance, absent, component_at}
 use Rattle.compose.specs.Instances.{place_in, instance}
 use Rattle.compose.specs.Names.{Signature, signature_of, signatures_in, signatures_of, automaton_at, AreNames}
 

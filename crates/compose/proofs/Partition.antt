@@ -8,7 +8,7 @@ use Rattle.std.proofs.lemmas.List.{map-append}
 use Rattle.std.proofs.lemmas.List.Elements.{All-head, All-tail, All-weaker}
 use Rattle.std.proofs.lemmas.Option.{same_Some, none-some, slice_get-map}
 use Rattle.std.proofs.lemmas.Slice.Eq.{bytes_eq-Decides}
-use Rattle.plans.specs.WellFormed.{times, all_places}
+use Rattle.io_automata.specs.WellFormed.{times, all_places}
 use Rattle.ioa_trees.specs.Trees.{Bytes, PlainEntry, PlainTransition}
 use Rattle.ioa_trees.specs.Scopes.{Scope}
 use Rattle.ioa_trees.specs.EntryRules.{is_controlled, agrees, meant_by}

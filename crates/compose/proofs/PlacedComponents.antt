@@ -3,9 +3,9 @@ use Rattle.std.proofs.Common.{◌≡◌, ◌<◌, ◌+◌, ℕ, zero, suc, Bool,
 use Rattle.std.proofs.lemmas.Bool.Decides.{nat_tests}
 use Rattle.std.proofs.lemmas.Option.{slice_get-map}
 use Rattle.terms.specs.declared.scalar.Scalar.{Scalar}
-use Rattle.plans.specs.Automata.{Instance, absent, composed, instance_of, placed, with_formals}
-use Rattle.plans.specs.declared.automaton.Automaton.{Automaton}
-use Rattle.plans.specs.declared.automaton.Component.{Component}
+use Rattle.io_automata.specs.Automata.{Instance, absent, composed, instance_of, placed, with_formals}
+use Rattle.io_automata.specs.declared.automaton.Automaton.{Automaton}
+use Rattle.io_automata.specs.declared.automaton.Component.{Component}
 use Rattle.ioa_trees.specs.AutomatonRules.{MeantAutomaton}
 use Rattle.ioa_trees.specs.SourceRules.{MeantComponent}
 use Rattle.ioa_trees.specs.Trees.{Bytes}

@@ -17,7 +17,7 @@ use Rattle.std.specs.declared.string.String.{String}
 use Rattle.std.specs.declared.vec.Vec.{Vec}
 use Rattle.terms.specs.declared.scalar.Shape.{Shape}
 use Rattle.plans.specs.Plans.{text_of, types_of}
-use Rattle.plans.specs.declared.automaton.ActionName.{ActionName}
+use Rattle.io_automata.specs.declared.automaton.ActionName.{ActionName}
 use Rattle.ioa_trees.specs.Trees.{Bytes}
 use Rattle.compose.specs.Instances.{place_in}
 use Rattle.compose.specs.Names.{IsRising, Signature, first_in, none_if_missing}

@@ -4,7 +4,7 @@ use Rattle.std.proofs.lemmas.List.{length-map}
 use Rattle.std.proofs.lemmas.List.Sums.{sum_by-cons}
 use Rattle.std.specs.List.{list_any}
 use Rattle.plans.specs.Plans.{text_of, types_of}
-use Rattle.plans.specs.declared.automaton.ActionName.{ActionName}
+use Rattle.io_automata.specs.declared.automaton.ActionName.{ActionName}
 use Rattle.ioa_trees.specs.AutomatonRules.{MeantAutomaton}
 use Rattle.ioa_trees.specs.SourceRules.{MeantSource}
 use Rattle.compose.specs.Names.{AreNames, IsRising, Signature, entries_in, first_in, first_types, none_if_missing, signatures_of}

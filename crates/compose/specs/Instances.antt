@@ -9,12 +9,12 @@ use Rattle.terms.specs.Meaning.{value}
 use Rattle.terms.specs.declared.scalar.Scalar.{Scalar}
 use Rattle.terms.specs.declared.scalar.Scalar.TheVariants as scalar
 use Rattle.terms.specs.declared.scalar.Listed.TheVariants as listed
-use Rattle.plans.specs.declared.automaton.Kind.{Kind as ActionKind}
-use Rattle.plans.specs.declared.automaton.Kind.TheVariants as action
-use Rattle.plans.specs.declared.automaton.Param.{Param}
-use Rattle.plans.specs.declared.automaton.Param.TheVariants as param
-use Rattle.plans.specs.Automata.{Transition, Instance, absent}
-use Rattle.plans.specs.Steps.{scope_in}
+use Rattle.io_automata.specs.declared.automaton.Kind.{Kind as ActionKind}
+use Rattle.io_automata.specs.declared.automaton.Kind.TheVariants as action
+use Rattle.io_automata.specs.declared.automaton.Param.{Param}
+use Rattle.io_automata.specs.declared.automaton.Param.TheVariants as param
+use Rattle.io_automata.specs.Automata.{Transition, Instance, absent}
+use Rattle.io_automata.specs.Steps.{scope_in}
 use Rattle.ioa_trees.specs.Trees.{Bytes}
 use Rattle.ioa_trees.specs.declared.tree.EntryKind.{EntryKind}
 use Rattle.ioa_trees.specs.declared.tree.EntryKind.TheVariants as kind

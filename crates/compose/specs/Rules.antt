@@ -1,10 +1,10 @@
 -- When components aren't compatible (Lynch, Distributed Algorithms, sections 8.1 and 8.2.1), and with which of them this begins.
 use Rattle.std.specs.Prelude.{◌≡◌, ◌≢◌, ◌≤◌, ◌⊎◌, ℕ, Bool, true, false, not, ◌&&◌, ◌||◌, List, Option, None, Some}
 use Rattle.terms.specs.Named.{Named}
-use Rattle.plans.specs.declared.automaton.Kind.{Kind}
-use Rattle.plans.specs.declared.automaton.Kind.TheVariants.{Input, Output, Internal}
-use Rattle.plans.specs.Automata.{Instance}
-use Rattle.plans.specs.Signatures.{inputs, outputs, internals, acts, same_kind}
+use Rattle.io_automata.specs.declared.automaton.Kind.{Kind}
+use Rattle.io_automata.specs.declared.automaton.Kind.TheVariants.{Input, Output, Internal}
+use Rattle.io_automata.specs.Automata.{Instance}
+use Rattle.io_automata.specs.Signatures.{inputs, outputs, internals, acts, same_kind}
 use Rattle.compose.specs.declared.compatibility.rule.Rule.{Rule}
 use Rattle.compose.specs.declared.compatibility.rule.Rule.TheVariants as rule
 

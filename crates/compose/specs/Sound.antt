@@ -1,6 +1,6 @@
 -- What holds of the automata that a source without faults means.
 use Rattle.std.specs.Prelude.{◌≡◌, ℕ, ◌+◌, ◌^◌, pos, neg_ℤ, int_le, int_lt, Bool, true, false, ◌&&◌, ◌||◌, Option, Some, None, nat_le, bytes_eq, if◌then◌else◌, List, length, sum_by, slice_get}
-use Rattle.plans.specs.WellFormed.{times, all_places}
+use Rattle.io_automata.specs.WellFormed.{times, all_places}
 use Rattle.ioa_trees.specs.Kinds.{Kind, Truth, Whole, Range, Enum, SeqOf, ArrayOf, count, can_be_listed, is_scalar}
 use Rattle.ioa_trees.specs.EntryRules.{Meant, Slot, Fixed, Free, is_input, is_controlled}
 use Rattle.ioa_trees.specs.AutomatonRules.{MeantAutomaton}

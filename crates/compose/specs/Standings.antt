@@ -3,9 +3,9 @@ use Rattle.std.specs.Prelude.{◌≡◌, ◌⊎◌, ℕ, suc, Bool, true, not, �
 use Rattle.std.specs.declared.vec.Vec.{Vec}
 use Rattle.terms.specs.Named.{Named}
 use Rattle.terms.specs.declared.scalar.Scalar.{Scalar}
-use Rattle.plans.specs.Automata.{Transition, Instance, transition_of}
-use Rattle.plans.specs.Signatures.{has, same_kind}
-use Rattle.plans.specs.declared.automaton.Kind.TheVariants.{Input}
+use Rattle.io_automata.specs.Automata.{Transition, Instance, transition_of}
+use Rattle.io_automata.specs.Signatures.{has, same_kind}
+use Rattle.io_automata.specs.declared.automaton.Kind.TheVariants.{Input}
 use Rattle.compose.specs.declared.compatibility.rule.Rule.{Rule}
 use Rattle.compose.specs.declared.compatibility.standing.Standing.{Standing}
 use Rattle.compose.specs.Rules.{is_barred}

@@ -7,10 +7,10 @@ use Rattle.std.specs.declared.string.String.{String}
 use Rattle.std.specs.declared.vec.Vec.{Vec}
 use Rattle.terms.specs.ShapeTree.{ShapeTree, shape_tree}
 use Rattle.terms.specs.declared.scalar.Shape.{Shape}
-use Rattle.plans.specs.Automata.{Instance, absent}
+use Rattle.io_automata.specs.Automata.{Instance, absent}
 use Rattle.plans.specs.Plans.{text_of, types_of}
-use Rattle.plans.specs.declared.automaton.ActionName.{ActionName}
-use Rattle.plans.specs.declared.automaton.Component.{Component}
+use Rattle.io_automata.specs.declared.automaton.ActionName.{ActionName}
+use Rattle.io_automata.specs.declared.automaton.Component.{Component}
 use Rattle.terms.specs.declared.scalar.Scalar.{Scalar}
 use Rattle.ioa_trees.specs.AutomatonRules.{MeantAutomaton}
 use Rattle.ioa_trees.specs.SourceRules.{MeantComponent}

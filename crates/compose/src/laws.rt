@@ -4,7 +4,7 @@ ghost use Rattle.std.specs.List.{All};
 ghost use Rattle.ioa_trees.specs.Trees.{Bytes};
 ghost use Rattle.ioa_trees.specs.SourceRules.{MeantSource};
 ghost use Rattle.compose.specs.Sound.{IsSoundAutomaton};
-ghost use Rattle.plans.specs.WellFormed.{IsWellFormed};
+ghost use Rattle.io_automata.specs.WellFormed.{IsWellFormed};
 ghost use Rattle.compose.specs.Rules.{Breaks};
 ghost use Rattle.compose.specs.declared.compatibility.rule.Rule.TheVariants as rule;
 ghost use Rattle.compose.specs.Instances.{instances};

@@ -6,7 +6,7 @@ use Rattle.event_keys.specs.declared.outcome.Outcome.TheVariants.{Idle, Did}
 use Rattle.event_keys.specs.declared.outcome.Turned.{Turned}
 use Rattle.plans.specs.declared.plan.Plan.{Plan}
 use Rattle.plans.specs.Plans.{composition}
-use Rattle.plans.specs.Signatures.{receivers_of}
+use Rattle.io_automata.specs.Signatures.{receivers_of}
 use Rattle.trace.specs.Lines.{action_text}
 use Rattle.drawing.specs.declared.window.Window.{Window}
 use Rattle.drawing.specs.Elements.{arrow_text, component_text, full_dot, head_text, hollow_dot, label_text, margin_text}

@@ -1,7 +1,7 @@
 //! The marks of turns, and the lines of components.
 ghost use Rattle.std.specs.Prelude.{◌≡◌, ◌≤◌, ◌<◌, ◌^◌, ◌+◌, ◌-◌, ◌*◌, ◌++◌, OnOk, IfOk, codes, drop, flat_map, length, map, string_bytes, take};
 ghost use Rattle.plans.specs.Plans.{composition};
-ghost use Rattle.plans.specs.Signatures.{receivers_of};
+ghost use Rattle.io_automata.specs.Signatures.{receivers_of};
 ghost use Rattle.trace.specs.Lines.{action_text};
 ghost use Rattle.drawing.specs.Elements.{label_text};
 ghost use Rattle.drawing.specs.Turns.{AreWithin, arrow_to, arrows_text, bottom_of, components_text, diagram_of, last_tick, mark_text, remark_text, row_of, turn_text, x_of, y_of};

@@ -6,7 +6,7 @@ use Rattle.terms.specs.Datum.{Datum}
 use Rattle.terms.specs.Named.{Named}
 use Rattle.virtual_time.specs.Machine.{Machine}
 use Rattle.virtual_time.specs.Exchange.Leases.{Matches}
-use Rattle.plans.specs.SameCompositions.{same_plan}
+use Rattle.plans.specs.SamePlans.{same_plan}
 use Rattle.task_seed.specs.declared.setup.Setup.{Setup}
 use Rattle.task_seed.specs.Turning.{System}
 use Rattle.task_seed.specs.Machines.{machine}

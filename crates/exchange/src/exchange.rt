@@ -62,6 +62,7 @@ impl<T: Turns> Model for Exchange<T> {
     ghost use Rattle.exchange.specs.Windows.{HasWindow};
     ghost use Rattle.task_seed.specs.Machines.{machine};
     ghost use Rattle.std.specs.Coded.{codes};
+    ghost use Rattle.plans.specs.KnownLaws.{are_known_prop};
     ghost use Rattle.terms.specs.Datum.{datum_code};
     ghost use Rattle.terms.specs.contracts.scalar.Shape as shape;
     ghost use Rattle.terms.specs.contracts.term.Term as term;
@@ -69,8 +70,14 @@ impl<T: Turns> Model for Exchange<T> {
 
     ghost Value = { ExchangeView (Setup T) };
 
-    ghost coded = { Prim.hlevel
-        (codes, shape.the_row.coded, term.the_row.coded, effect.the_row.coded, datum_code) };
+    ghost coded = { Prim.hlevel (
+      codes,
+      are_known_prop,
+      shape.the_row.coded,
+      term.the_row.coded,
+      effect.the_row.coded,
+      datum_code,
+    ) };
 
     ghost view = { λ e.
         record {

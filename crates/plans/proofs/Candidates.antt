@@ -12,14 +12,14 @@ use Rattle.terms.specs.Meaning.{slot}
 use Rattle.terms.specs.Same.{scalar_is}
 use Rattle.terms.specs.SameTreeLaws.{both_true}
 use Rattle.terms.specs.declared.scalar.Scalar.{Scalar}
-use Rattle.plans.specs.declared.automaton.Kind.{Kind}
-use Rattle.plans.specs.declared.automaton.Kind.TheVariants.{Input, Output, Internal}
-use Rattle.plans.specs.declared.automaton.Param.{Param}
-use Rattle.plans.specs.declared.automaton.Param.TheVariants.{Const, Member, Between, Whole}
-use Rattle.plans.specs.Automata.{Transition, Instance, component_at}
-use Rattle.plans.specs.Signatures.{fits_one, fits, has, has_as, same_kind, any_as, inputs, outputs, internals, acts, kind_of, receives, receivers_of, takers_of}
-use Rattle.plans.specs.Receivers.{Rising, IsIn, receivers_rise, receivers_all, takers_rise, takers_all}
-use Rattle.plans.specs.Patterns.{Kept, fixed_as, fixes, mask_of, asked, values_of, shown, masked, masks_in, IsListed, IsNoted, is_for, IsIndexed}
+use Rattle.io_automata.specs.declared.automaton.Kind.{Kind}
+use Rattle.io_automata.specs.declared.automaton.Kind.TheVariants.{Input, Output, Internal}
+use Rattle.io_automata.specs.declared.automaton.Param.{Param}
+use Rattle.io_automata.specs.declared.automaton.Param.TheVariants.{Const, Member, Between, Whole}
+use Rattle.io_automata.specs.Automata.{Transition, Instance, component_at}
+use Rattle.io_automata.specs.Signatures.{fits_one, fits, has, has_as, same_kind, any_as, inputs, outputs, internals, acts, kind_of, receives, receivers_of, takers_of}
+use Rattle.io_automata.specs.Receivers.{Rising, IsIn, receivers_rise, receivers_all, takers_rise, takers_all}
+use Rattle.patterns.specs.Patterns.{Kept, fixed_as, fixes, mask_of, asked, values_of, shown, masked, masks_in, IsListed, IsNoted, is_for, IsIndexed}
 
 pub same_from : (m n : ℕ) → (m == n) ≡ true → m ≡ n
 same_from m n h = grind (arith, nat_tests)

@@ -2,8 +2,8 @@
 use Rattle.std.specs.Prelude.{◌≡◌, suc, Bool, true, false, ◌&&◌, List, [], ◌∷◌, length, refl}
 use Rattle.std.proofs.Common.{ap, ◌∙◌}
 use Rattle.terms.specs.declared.scalar.Scalar.{Scalar}
-use Rattle.plans.specs.declared.automaton.Param.{Param}
-use Rattle.plans.specs.Signatures.{fits, fits_one}
+use Rattle.io_automata.specs.declared.automaton.Param.{Param}
+use Rattle.io_automata.specs.Signatures.{fits, fits_one}
 
 false_last : (b : Bool) → false ≡ (b && false)
 false_last true = refl

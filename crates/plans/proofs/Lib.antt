@@ -1,14 +1,7 @@
-mod AllOrNone
-mod Among
+mod AllKnown
 mod Candidates
-mod Chosen
-mod Counted
 mod Fitting
 mod Listing
-mod Noted
-mod OneEntry
 mod Pairs
-mod Picked
-mod Placed
 mod Passing
-mod Firsts
+mod Tasks

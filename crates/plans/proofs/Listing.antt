@@ -15,17 +15,17 @@ use Rattle.terms.specs.declared.scalar.Scalar.{Scalar}
 use Rattle.terms.specs.declared.scalar.Scalar.TheVariants as scalar
 use Rattle.terms.specs.declared.scalar.Listed.{Listed}
 use Rattle.terms.specs.declared.scalar.Listed.TheVariants as listed
-use Rattle.plans.specs.declared.automaton.Kind.TheVariants.{Input}
-use Rattle.plans.specs.declared.automaton.Param.{Param}
-use Rattle.plans.specs.declared.automaton.Param.TheVariants.{Const, Member, Between, Whole}
-use Rattle.plans.specs.Automata.{Transition, Instance, component_at}
-use Rattle.plans.specs.Each.{Each, each_append, each_filter, each_from, each_weaker, each_map, each_flat_map, each_stands, times_in_task}
-use Rattle.plans.specs.Enabling.{IsEnabled, IsOnce}
-use Rattle.plans.specs.Outcomes.{named, tuples, enabled_by, enabled_at, enabled_of, task_of}
-use Rattle.plans.specs.Signatures.{is_member, fits_one, fits, has, same_kind}
-use Rattle.plans.specs.Steps.{holds}
-use Rattle.plans.specs.TurnSteps.{IsMade, entry_makes, wraps_not, local_from, complete_at}
-use Rattle.plans.specs.WellFormed.{IsWellFormed, is_complete, is_listed, times, share}
+use Rattle.io_automata.specs.declared.automaton.Kind.TheVariants.{Input}
+use Rattle.io_automata.specs.declared.automaton.Param.{Param}
+use Rattle.io_automata.specs.declared.automaton.Param.TheVariants.{Const, Member, Between, Whole}
+use Rattle.io_automata.specs.Automata.{Transition, Instance, component_at}
+use Rattle.io_automata.specs.Each.{Each, each_append, each_filter, each_from, each_weaker, each_map, each_flat_map, each_stands, times_in_task}
+use Rattle.io_automata.specs.Enabling.{IsEnabled, IsOnce}
+use Rattle.io_automata.specs.Outcomes.{named, tuples, enabled_by, enabled_at, enabled_of, task_of}
+use Rattle.io_automata.specs.Signatures.{is_member, fits_one, fits, has, same_kind}
+use Rattle.io_automata.specs.Steps.{holds}
+use Rattle.io_automata.specs.TurnSteps.{IsMade, entry_makes, wraps_not, local_from, complete_at}
+use Rattle.io_automata.specs.WellFormed.{IsWellFormed, is_complete, is_listed, times, share}
 
 -- ---- lists in which something stands once
 

@@ -4,13 +4,13 @@ use Rattle.std.specs.List.Sorted.{IsStrictlyIncreasing}
 use Rattle.std.proofs.Common.{arith, ap, sym, ◌∙◌}
 use Rattle.std.proofs.lemmas.Bool.{ltb-true, ltb-false, true≢false}
 use Rattle.terms.specs.Named.{Named}
-use Rattle.plans.specs.declared.automaton.Kind.TheVariants.{Input, Output, Internal}
-use Rattle.plans.specs.Automata.{Transition, Instance, component_at}
-use Rattle.plans.specs.Compatible.{IsCompatible}
-use Rattle.plans.specs.Found.{kind_found, kind-entry_in, disjoint_at}
-use Rattle.plans.specs.Receivers.{Rising, IsIn, AreCandidates, receivers_rise, receivers_all, none_past}
-use Rattle.plans.specs.Signatures.{any_as, inputs, kind_in, takes_input, receives, receivers_of}
-use Rattle.plans.specs.Steps.{entry_in}
+use Rattle.io_automata.specs.declared.automaton.Kind.TheVariants.{Input, Output, Internal}
+use Rattle.io_automata.specs.Automata.{Transition, Instance, component_at}
+use Rattle.io_automata.specs.Compatible.{IsCompatible}
+use Rattle.io_automata.specs.Found.{kind_found, kind-entry_in, disjoint_at}
+use Rattle.io_automata.specs.Receivers.{Rising, IsIn, AreCandidates, receivers_rise, receivers_all, none_past}
+use Rattle.io_automata.specs.Signatures.{any_as, inputs, kind_in, takes_input, receives, receivers_of}
+use Rattle.io_automata.specs.Steps.{entry_in}
 use Rattle.plans.proofs.Candidates.{in_filter, rising_from, same_from}
 
 least : (a n : ℕ) (xs : List ℕ) → Rising a (xs ++ n ∷ []) → a ≤ n

@@ -1,11 +1,11 @@
 -- The composition that a plan stands for, and its texts.
 use Rattle.std.specs.Prelude.{◌≡◌, ℕ, Bool, false, List, [], ◌∷◌, map, slice_get, Option, None, Some, zero, suc, string_bytes, refl}
 use Rattle.terms.specs.ShapeTree.{ShapeTree, shape_tree}
-use Rattle.plans.specs.declared.automaton.Automaton.{Automaton}
-use Rattle.plans.specs.declared.automaton.Component.{Component}
-use Rattle.plans.specs.declared.automaton.ActionName.{ActionName}
+use Rattle.io_automata.specs.declared.automaton.Automaton.{Automaton}
+use Rattle.io_automata.specs.declared.automaton.Component.{Component}
+use Rattle.io_automata.specs.declared.automaton.ActionName.{ActionName}
 use Rattle.plans.specs.declared.plan.Plan.{Plan}
-use Rattle.plans.specs.Automata.{Instance, absent, component_at, composed, instance_of}
+use Rattle.io_automata.specs.Automata.{Instance, absent, component_at, composed, instance_of}
 
 -- the composition that a plan stands for
 abbrev pub composition : Plan → List Instance

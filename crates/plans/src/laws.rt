@@ -1,15 +1,15 @@
 //! Laws of compositions that the crates above cite.
 ghost use Rattle.std.specs.Prelude.{◌≡◌, ℕ, List, true, false, Some, Contains};
 ghost use Rattle.terms.specs.Named.{Named};
-ghost use Rattle.plans.specs.Automata.{Instance};
-ghost use Rattle.plans.specs.Compatible.{IsCompatible};
+ghost use Rattle.io_automata.specs.Automata.{Instance};
+ghost use Rattle.io_automata.specs.Compatible.{IsCompatible};
 ghost use Rattle.plans.specs.Plans.{composition};
-ghost use Rattle.plans.specs.Signatures.{inputs, receives, receivers_of};
-ghost use Rattle.plans.specs.Receivers.{Rising, IsIn};
-ghost use Rattle.plans.specs.Steps.{Joint, applied};
-ghost use Rattle.plans.specs.Enabling.{IsEnabled, IsOnce};
-ghost use Rattle.plans.specs.Outcomes.{outcome_of, enabled_of};
-ghost use Rattle.plans.specs.WellFormed.{IsWellFormed};
+ghost use Rattle.io_automata.specs.Signatures.{inputs, receives, receivers_of};
+ghost use Rattle.io_automata.specs.Receivers.{Rising, IsIn};
+ghost use Rattle.io_automata.specs.Steps.{Joint, applied};
+ghost use Rattle.io_automata.specs.Enabling.{IsEnabled, IsOnce};
+ghost use Rattle.io_automata.specs.Outcomes.{outcome_of, enabled_of};
+ghost use Rattle.io_automata.specs.WellFormed.{IsWellFormed};
 ghost use Rattle.terms.specs.Datum.{Datum};
 ghost use Rattle.plans.specs.Plans.{action_texts, hidden_marks, member_texts};
 

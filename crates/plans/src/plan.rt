@@ -1,12 +1,12 @@
 //! A compatible composition.
-ghost use Rattle.std.specs.Prelude.{◌≡◌, ◌<◌, ◌^◌, true, false, map, vec_len};
-ghost use Rattle.plans.specs.Alike.{alike_in, AreAllFirsts};
-ghost use Rattle.plans.specs.Automata.{composed, items_in};
-ghost use Rattle.plans.specs.Compatible.{IsCompatible};
-ghost use Rattle.plans.specs.Patterns.{IsIndexed};
-ghost use Rattle.plans.specs.WellFormed.{IsWellFormed};
+ghost use Rattle.std.specs.Prelude.{◌<◌, ◌^◌, true, false, vec_len};
+ghost use Rattle.io_automata.specs.Automata.{composed};
+ghost use Rattle.plans.specs.Known.{AreKnown};
+ghost use Rattle.plans.specs.KnownLaws.{are_known_prop};
+ghost use Rattle.io_automata.specs.Compatible.{IsCompatible};
+ghost use Rattle.patterns.specs.Patterns.{IsIndexed};
+ghost use Rattle.io_automata.specs.WellFormed.{IsWellFormed};
 
-mod alike;
 mod choose;
 mod equal;
 mod find;
@@ -14,10 +14,10 @@ mod names;
 mod parts;
 mod signature;
 mod step;
-mod tuples;
 
-use crate::automaton::{ActionName, Automaton, Component};
-use crate::index::Index;
+use io_automata::{ActionName, Automaton, Component};
+use outcomes::Known;
+use patterns::Index;
 
 /// A composition of compatible automata. Components are numbered from 0; actions carry the numbers of their names, which
 /// are given in the order of the names' bytes; the members of all enumerations are numbered in the order of declaration.
@@ -29,13 +29,11 @@ pub struct Plan {
     members: Vec<String>,
     index: Box<Index>,
     entries: Box<Index>,
-    alike: Vec<Vec<usize>>,
-    firsts: Vec<Vec<usize>>,
+    known: Vec<Known>,
     ghost few: { vec_len components < 2 ^ 16 },
     ghost compatible: { IsCompatible (composed automata.items components.items) },
     ghost formed: { IsWellFormed (composed automata.items components.items) },
     ghost indexed: { ∥ IsIndexed false index.value (composed automata.items components.items) ∥₁ },
-    ghost repeated: { AreAllFirsts automata.items firsts.items },
-    ghost told: { map items_in alike.items ≡ map alike_in automata.items },
+    ghost known_all: { AreKnown automata.items known.items } by { are_known_prop automata.items known.items },
     ghost entered: { ∥ IsIndexed true entries.value (composed automata.items components.items) ∥₁ },
 }

@@ -11,7 +11,7 @@ use Rattle.terms.specs.Shapes.{rest}
 use Rattle.terms.specs.declared.scalar.Scalar.{Scalar}
 use Rattle.terms.specs.declared.scalar.Scalar.TheVariants as scalar
 use Rattle.terms.specs.declared.term.Operator.TheVariants as operator
-use Rattle.plans.specs.Steps.{scope_in}
+use Rattle.io_automata.specs.Steps.{scope_in}
 use Rattle.ioa_trees.specs.declared.tree.Call.{Call}
 use Rattle.ioa_trees.specs.declared.tree.Relation.{Relation}
 use Rattle.ioa_trees.specs.declared.tree.Relation.TheVariants as relation

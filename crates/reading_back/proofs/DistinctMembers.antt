@@ -9,7 +9,7 @@ use Rattle.ioa_trees.specs.Scopes.{Scope, Meaning, OfType, OfMember, named, decl
 use Rattle.ioa_trees.specs.Sizes.{definition_size}
 use Rattle.ioa_trees.specs.TypeRules.{kind_of}
 use Rattle.ioa_trees.specs.SourceRules.{all_members, automata_faults, composed_faults, definition_faults, definitions_faults, definitions_size, members_faults, members_in, source_faults, with_definition, with_members, all_locals, composed_at, table_of, types_scope, whole_scope}
-use Rattle.plans.specs.Each.{Each, each_append, each_get}
+use Rattle.io_automata.specs.Each.{Each, each_append, each_get}
 use Rattle.compose.proofs.NoFaults.{nil_left, nil_right, not_wrong}
 
 same_bytes : (q r : Bytes) → bytes_eq q r ≡ true → q ≡ r

@@ -9,7 +9,7 @@ use Rattle.ioa_trees.specs.Kinds.{Kind, shape_of}
 use Rattle.ioa_trees.specs.EntryRules.{Meant, Slot, Fixed, Free}
 use Rattle.ioa_trees.specs.AutomatonRules.{MeantAutomaton}
 use Rattle.ioa_trees.specs.SourceRules.{MeantComponent, MeantSource}
-use Rattle.plans.specs.Each.{Each, each_append, each_map, each_from}
+use Rattle.io_automata.specs.Each.{Each, each_append, each_map, each_from}
 use Rattle.compose.specs.Instances.{place_in}
 use Rattle.compose.specs.Names.{Signature, signature_of, signatures_in, signatures_of, automaton_at, first_in, none_if_missing, type_in, formal_type}
 use Rattle.compose.specs.Types.{TypesDiffer, entry_kinds, slot_kind, formal_kind, same_kinds, automaton_of}

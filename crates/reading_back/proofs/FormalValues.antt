@@ -15,7 +15,7 @@ use Rattle.terms.specs.declared.scalar.Listed.TheVariants as listed
 use Rattle.terms.specs.declared.scalar.Scalar.{Scalar}
 use Rattle.terms.specs.declared.scalar.Scalar.TheVariants as scalar
 use Rattle.plans.specs.declared.plan.Plan.{Plan}
-use Rattle.plans.specs.Each.{Each, each_get}
+use Rattle.io_automata.specs.Each.{Each, each_get}
 use Rattle.ioa_trees.specs.Trees as tree
 use Rattle.ioa_trees.specs.Trees.{Bytes, PlainAutomaton, PlainComponent, PlainDeclared, PlainSource, PlainTerm, PlainTypeBody, PlainTypeDefinition}
 use Rattle.ioa_trees.specs.Faults.{where_wrong}

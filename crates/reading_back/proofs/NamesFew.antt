@@ -18,7 +18,7 @@ use Rattle.ioa_trees.specs.AutomatonRules.{MeantAutomaton}
 use Rattle.ioa_trees.specs.SourceRules.{MeantSource, source_meaning}
 use Rattle.ioa_phrases.proofs.Once.{some_automaton}
 use Rattle.ioa_front.proofs.Counts.{few_tokens}
-use Rattle.plans.specs.Each.{Each}
+use Rattle.io_automata.specs.Each.{Each}
 use Rattle.compose.specs.Composed.{IsRead}
 use Rattle.compose.specs.Names.{AreNames, Signature, automaton_at, signatures_of, used_names}
 use Rattle.compose.specs.Sound.{entries_in}

@@ -12,7 +12,7 @@ use Rattle.ioa_trees.specs.Scopes.{Scope}
 use Rattle.ioa_trees.specs.EntryRules.{Meant, meant_by}
 use Rattle.ioa_trees.specs.AutomatonRules.{MeantAutomaton, around}
 use Rattle.ioa_trees.specs.SourceRules.{all_members, members_in, meanings_of, with_automaton}
-use Rattle.plans.specs.Each.{Each, each_append, each_map}
+use Rattle.io_automata.specs.Each.{Each, each_append, each_map}
 
 -- ---- parts of proper tokens
 

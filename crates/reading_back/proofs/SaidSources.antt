@@ -9,9 +9,9 @@ use Rattle.ioa_trees.specs.Meant.{IsWholeSource}
 use Rattle.ioa_trees.specs.AutomatonRules.{MeantAutomaton}
 use Rattle.ioa_trees.specs.SourceRules.{MeantSource, source_faults, source_meaning, types_scope}
 use Rattle.plans.specs.declared.plan.Plan.{Plan}
-use Rattle.plans.specs.Each.{Each, each_get}
+use Rattle.io_automata.specs.Each.{Each, each_get}
 use Rattle.plans.specs.Plans.{composition, action_texts, member_texts}
-use Rattle.plans.specs.WellFormed.{IsWellFormed}
+use Rattle.io_automata.specs.WellFormed.{IsWellFormed}
 use Rattle.compose.specs.Composed.{IsComposed}
 use Rattle.compose.specs.Faults as fault
 use Rattle.compose.specs.Instances.{instances}

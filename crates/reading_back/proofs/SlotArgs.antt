@@ -13,10 +13,10 @@ use Rattle.terms.specs.declared.scalar.Listed.TheVariants as listed
 use Rattle.terms.specs.declared.scalar.Scalar.{Scalar}
 use Rattle.terms.specs.declared.scalar.Scalar.TheVariants as scalar
 use Rattle.plans.specs.declared.plan.Plan.{Plan}
-use Rattle.plans.specs.declared.automaton.Param.{Param}
-use Rattle.plans.specs.declared.automaton.Param.TheVariants as param
-use Rattle.plans.specs.Each.{Each}
-use Rattle.plans.specs.Signatures.{fits, fits_one, is_member}
+use Rattle.io_automata.specs.declared.automaton.Param.{Param}
+use Rattle.io_automata.specs.declared.automaton.Param.TheVariants as param
+use Rattle.io_automata.specs.Each.{Each}
+use Rattle.io_automata.specs.Signatures.{fits, fits_one, is_member}
 use Rattle.ioa_trees.specs.Kinds.{Kind, Truth, Whole, Range, Enum, SeqOf, ArrayOf, count, small, listed_of, can_be_listed, is_scalar, shape_of}
 use Rattle.ioa_trees.specs.EntryRules.{Slot, Fixed, Free}
 use Rattle.compose.specs.Instances.{is_short, param_in, param_of}

@@ -17,13 +17,13 @@ use Rattle.ioa_trees.specs.EntryRules.{Meant, is_controlled}
 use Rattle.ioa_trees.specs.AutomatonRules.{MeantAutomaton}
 use Rattle.ioa_trees.specs.SourceRules.{MeantComponent, MeantSource}
 use Rattle.plans.specs.declared.plan.Plan.{Plan}
-use Rattle.plans.specs.declared.automaton.Kind.TheVariants as sort
-use Rattle.plans.specs.Automata.{Instance, Transition, component_at}
-use Rattle.plans.specs.Each.{Each, each_from}
+use Rattle.io_automata.specs.declared.automaton.Kind.TheVariants as sort
+use Rattle.io_automata.specs.Automata.{Instance, Transition, component_at}
+use Rattle.io_automata.specs.Each.{Each, each_from}
 use Rattle.plans.specs.Plans.{composition, action_texts, action_types}
-use Rattle.plans.specs.Signatures.{fits, has, same_kind}
-use Rattle.plans.specs.TurnSteps.{IsOffered, outcome_offered}
-use Rattle.plans.specs.WellFormed.{IsWellFormed}
+use Rattle.io_automata.specs.Signatures.{fits, has, same_kind}
+use Rattle.io_automata.specs.TurnSteps.{IsOffered, outcome_offered}
+use Rattle.io_automata.specs.WellFormed.{IsWellFormed}
 use Rattle.compose.specs.Faults.{IsPlan}
 use Rattle.compose.specs.Instances.{argument, built, instances, kind_as, param_of, place_in, transition}
 use Rattle.compose.specs.Names.{automaton_at, first_types, formal_type, type_in, used_names}

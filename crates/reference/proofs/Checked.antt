@@ -7,9 +7,9 @@ use Rattle.std.proofs.lemmas.Option.{slice_get-get_or}
 use Rattle.std.specs.List.{range_with_len}
 use Rattle.terms.specs.Datum.{Datum}
 use Rattle.terms.specs.Named.{Named}
-use Rattle.plans.specs.Automata.{Instance, component_at, absent}
-use Rattle.plans.specs.Signatures.{acts}
-use Rattle.plans.specs.Steps.{Joint, Leads, IsSchedule, start_of, applied}
+use Rattle.io_automata.specs.Automata.{Instance, component_at, absent}
+use Rattle.io_automata.specs.Signatures.{acts}
+use Rattle.io_automata.specs.Steps.{Joint, Leads, IsSchedule, start_of, applied}
 use Rattle.reference.specs.Verdicts.{IsForeignAt, IsDisabledAt, IsPermitted, state_at}
 use Rattle.reference.proofs.Taken.{beyond}
 use Rattle.reference.proofs.Runs.{stays, leads_more}

@@ -5,10 +5,10 @@ use Rattle.std.proofs.lemmas.Bool.{ne_eqb}
 use Rattle.terms.specs.Datum.{Datum}
 use Rattle.terms.specs.Named.{Named}
 use Rattle.undo_records.specs.States.{States}
-use Rattle.plans.specs.Automata.{Instance}
-use Rattle.plans.specs.Receivers.{AreCandidates, IsIn, Rising}
-use Rattle.plans.specs.Signatures.{inputs, receives}
-use Rattle.plans.specs.Steps.{applied}
+use Rattle.io_automata.specs.Automata.{Instance}
+use Rattle.io_automata.specs.Receivers.{AreCandidates, IsIn, Rising}
+use Rattle.io_automata.specs.Signatures.{inputs, receives}
+use Rattle.io_automata.specs.Steps.{applied}
 use Rattle.task_seed.specs.Turning.{System}
 use Rattle.task_seed.specs.Machines.{machine}
 use Rattle.reference.specs.Taking.{Distinct, plain, taking, joining}

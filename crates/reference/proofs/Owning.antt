@@ -5,9 +5,9 @@ use Rattle.std.proofs.lemmas.Bool.{cases_eq, eq-eqb, ne_eqb}
 use Rattle.std.proofs.lemmas.Option.{slice_get-get_or}
 use Rattle.terms.specs.Named.{Named}
 use Rattle.undo_records.specs.States.{States, undone, without_first}
-use Rattle.plans.specs.Automata.{Instance}
-use Rattle.plans.specs.Receivers.{IsIn}
-use Rattle.plans.specs.Steps.{applied}
+use Rattle.io_automata.specs.Automata.{Instance}
+use Rattle.io_automata.specs.Receivers.{IsIn}
+use Rattle.io_automata.specs.Steps.{applied}
 use Rattle.reference.specs.Taking.{marking, plain, reached, received, taking}
 use Rattle.reference.proofs.Takers.{get_same, get_other, same_lists, slice_set-length}
 

@@ -3,12 +3,12 @@ use Rattle.std.proofs.Common.{◌≡◌, ℕ, zero, suc, ◌<◌, ◌⊎◌, inl
 use Rattle.std.proofs.lemmas.Bool.{cases_order}
 use Rattle.terms.specs.Datum.{Datum}
 use Rattle.terms.specs.Named.{Named}
-use Rattle.plans.specs.declared.automaton.Kind.{Kind}
-use Rattle.plans.specs.declared.automaton.Kind.TheVariants.{Input, Output, Internal}
-use Rattle.plans.specs.Automata.{Transition, Instance, component_at}
-use Rattle.plans.specs.Found.{found_as}
-use Rattle.plans.specs.Signatures.{any_as, inputs, outputs, internals, acts, controls}
-use Rattle.plans.specs.Steps.{Joint, Leads, IsSchedule, start_of, is_enabled, applied, entry_in}
+use Rattle.io_automata.specs.declared.automaton.Kind.{Kind}
+use Rattle.io_automata.specs.declared.automaton.Kind.TheVariants.{Input, Output, Internal}
+use Rattle.io_automata.specs.Automata.{Transition, Instance, component_at}
+use Rattle.io_automata.specs.Found.{found_as}
+use Rattle.io_automata.specs.Signatures.{any_as, inputs, outputs, internals, acts, controls}
+use Rattle.io_automata.specs.Steps.{Joint, Leads, IsSchedule, start_of, is_enabled, applied, entry_in}
 use Rattle.reference.specs.declared.checking.Verdict.{Verdict}
 use Rattle.reference.specs.declared.checking.Verdict.TheVariants.{Schedule, NotEnabled, NotAnAction}
 use Rattle.reference.specs.Verdicts.{IsVerdict, IsForeignAt, IsDisabledAt}

@@ -13,7 +13,7 @@ use Rattle.event_keys.specs.Ranks.{rank, owner_of}
 use Rattle.undo_records.specs.States.{States}
 use Rattle.virtual_time.specs.Machine.{Lawful, HasCount}
 use Rattle.virtual_time.specs.Reference.{Turn, Point, AllBelow, IsNext, IsReference, joint, advance, after, point, reference_below}
-use Rattle.plans.specs.Steps.{start_of}
+use Rattle.io_automata.specs.Steps.{start_of}
 use Rattle.task_seed.specs.Ticks.{reaches_key}
 use Rattle.task_seed.specs.Turning.{System, key_of}
 use Rattle.task_seed.specs.Taken.{turn_of, turned_of}

@@ -5,10 +5,10 @@ use Rattle.std.proofs.lemmas.Bool.{cases_lt, cases_eq, eq-eqb, ne_eqb}
 use Rattle.std.proofs.lemmas.List.{get_or-set_same, get_or-set_other, take_more, take_all}
 use Rattle.terms.specs.Datum.{Datum}
 use Rattle.terms.specs.Named.{Named}
-use Rattle.plans.specs.Automata.{Instance}
-use Rattle.plans.specs.Receivers.{Rising, IsIn, takers_rise, takers_all, past_absent}
-use Rattle.plans.specs.Signatures.{acts, takers_of}
-use Rattle.plans.specs.Steps.{applied}
+use Rattle.io_automata.specs.Automata.{Instance}
+use Rattle.io_automata.specs.Receivers.{Rising, IsIn, takers_rise, takers_all, past_absent}
+use Rattle.io_automata.specs.Signatures.{acts, takers_of}
+use Rattle.io_automata.specs.Steps.{applied}
 use Rattle.reference.specs.Verdicts.{state_at}
 use Rattle.reference.proofs.Runs.{stays, no_two}
 

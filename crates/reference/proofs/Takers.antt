@@ -5,8 +5,8 @@ use Rattle.std.proofs.lemmas.Bool.{cases_eq, eq-eqb, ne_eqb}
 use Rattle.std.proofs.lemmas.Option.{slice_get-get_or}
 use Rattle.terms.specs.Named.{Named}
 use Rattle.undo_records.specs.States.{States, undone}
-use Rattle.plans.specs.Automata.{Instance}
-use Rattle.plans.specs.Receivers.{IsIn}
+use Rattle.io_automata.specs.Automata.{Instance}
+use Rattle.io_automata.specs.Receivers.{IsIn}
 use Rattle.reference.specs.Taking.{Distinct, IsPassed, AreMarked, changed, other_than, reaching, received}
 
 pub get_same : {X : Type 0} (xs : List X) (n : ℕ) (x : X) → n < length xs → slice_get (slice_set xs n x) n ≡ Some x

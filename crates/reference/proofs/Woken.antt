@@ -1,21 +1,20 @@
 -- What rests stays so until its component's state changes.
-use Rattle.std.proofs.Common.{◌≡◌, ℕ, suc, ◌+◌, ◌<◌, ◌%◌, ◌⊎◌, inl, inr, Bool as Truth, true, false, Option, None, Some, List, [], ◌∷◌, length, take, refl, ap, sym, subst, ◌∙◌, arith}
+use Rattle.std.proofs.Common.{◌≡◌, ℕ, suc, ◌+◌, ◌<◌, ◌⊎◌, inl, inr, true, false, Option, None, Some, List, [], length, take, refl, ap, sym, subst, ◌∙◌, arith}
 use Rattle.std.specs.Prelude.{cond, ◌||◌, ◌==◌, slice_get, slice_index, slice_index_or, option_map, IfSome}
-use Rattle.std.specs.declared.vec.Vec.{Vec}
-use Rattle.std.specs.Global.{Global}
 use Rattle.std.proofs.lemmas.Bool.{ne_eqb}
-use Rattle.std.proofs.lemmas.Nat.{mod_below}
 use Rattle.std.proofs.lemmas.Option.{slice_get-get_or, slice_get_within}
 use Rattle.terms.specs.Named.{Named}
 use Rattle.undo_records.specs.States.{States}
-use Rattle.plans.specs.Automata.{Instance}
-use Rattle.plans.specs.Outcomes.{enabled_of, outcome_of}
-use Rattle.plans.specs.Receivers.{IsIn}
-use Rattle.plans.specs.Steps.{applied}
+use Rattle.io_automata.specs.Automata.{Instance}
+use Rattle.plans.specs.declared.resting.Resting.{Resting}
+use Rattle.io_automata.specs.Outcomes.{enabled_of, outcome_of}
+use Rattle.io_automata.specs.Receivers.{IsIn}
+use Rattle.plans.specs.RestingLaws.{none_enabled}
+use Rattle.io_automata.specs.Steps.{applied}
 use Rattle.task_seed.specs.declared.turns.Turn.{Turn}
 use Rattle.task_seed.specs.Turning.{System, turn_in}
 use Rattle.task_seed.specs.Machines.{outcome_by, turn_outcome}
-use Rattle.reference.specs.Resting.{AreResting, rests}
+use Rattle.reference.specs.Resting.{AreResting, rests_at}
 use Rattle.reference.specs.Taking.{other_than, plain, reached, received, taking}
 use Rattle.reference.proofs.Takers.{in_more}
 
@@ -24,19 +23,6 @@ pub out_more : (j : ℕ) (among : List ℕ) (k : ℕ) → k < length among → I
 out_more j among k within out apart =
     let more : k + 1 ≡ suc k = omega arith in
     ap (λ m. IsIn j (take m among)) more ∙ in_more j among k within ∙ ap (λ b. b || (j == slice_index among k)) out ∙ ne_eqb j (slice_index among k) apart
-
--- what a turn finds in a list
-none_found : {X : Type 0} (xs : List X) (choice : ℕ) → None ≡ slice_get xs (choice % length xs) → xs ≡ []
-none_found [] choice none = refl
-none_found (x ∷ xs) choice none =
-    let below : choice % suc (length xs) < suc (length xs) = mod_below choice (suc (length xs)) (omega arith) in
-    let there : slice_get (x ∷ xs) (choice % suc (length xs)) ≡ Some (slice_index_or (x ∷ xs) (choice % suc (length xs)) x) = slice_get-get_or (x ∷ xs) (choice % suc (length xs)) x below in
-    let both : None ≡ Some (slice_index_or (x ∷ xs) (choice % suc (length xs)) x) = none ∙ there in
-    cc
-
--- a turn that found nothing had nothing enabled
-pub none_enabled : (c : List Instance) (i task choice : ℕ) (state : States) → None ≡ outcome_of c i task choice state.current → enabled_of c i task state.current ≡ []
-none_enabled c i task choice state none = none_found (enabled_of c i task state.current) choice none
 
 some_same : {X : Type 0} (a b : X) → Some a ≡ Some b → a ≡ b
 some_same a b e = cc
@@ -55,19 +41,19 @@ is_outcome s i n turn there found None is = tt
 is_outcome s i n turn there found (Some state) is = is state refl ∙ ap (λ o. outcome_by s i o state.current) there
 
 -- a task that was asked and has nothing enabled may be noted
-pub noted_here : (c : List Instance) (i task choice : ℕ) (states : List States) (olds news : List (Vec Truth Global)) → AreResting c states olds → ((state : States) → slice_get states i ≡ Some state → None ≡ outcome_of c i task choice state.current)
-    → ((j t : ℕ) → rests news j t ≡ true → (rests olds j t ≡ true) ⊎ ((j ≡ i) × (t ≡ task))) → AreResting c states news
+pub noted_here : (c : List Instance) (i task choice : ℕ) (states : List States) (olds news : List Resting) → AreResting c states olds → ((state : States) → slice_get states i ≡ Some state → None ≡ outcome_of c i task choice state.current)
+    → ((j t : ℕ) → rests_at news j t ≡ true → (rests_at olds j t ≡ true) ⊎ ((j ≡ i) × (t ≡ task))) → AreResting c states news
 noted_here c i task choice states olds news are none more j t is state at = go (more j t is) where
-  go : (rests olds j t ≡ true) ⊎ ((j ≡ i) × (t ≡ task)) → enabled_of c j t state.current ≡ []
+  go : (rests_at olds j t ≡ true) ⊎ ((j ≡ i) × (t ≡ task)) → enabled_of c j t state.current ≡ []
   go (inl was) = are j t was state at
   go (inr it) =
-      let here = none_enabled c i task choice state (none state (subst (λ k. slice_get states k ≡ Some state) it.0 at)) in
+      let here = none_enabled c i state.current task choice (none state (subst (λ k. slice_get states k ≡ Some state) it.0 at)) in
       subst (λ k. enabled_of c k t state.current ≡ []) (sym it.0) (subst (λ u. enabled_of c i u state.current ≡ []) (sym it.1) here)
 
 -- what rests after an action rested before, and its component took no part
-pub still_resting : (c d : List Instance) (i : ℕ) (a : Named) (among : List ℕ) (olds news : List States) (was is : List (Vec Truth Global)) → AreResting c olds was
+pub still_resting : (c d : List Instance) (i : ℕ) (a : Named) (among : List ℕ) (olds news : List States) (was is : List Resting) → AreResting c olds was
     → ((j : ℕ) → slice_get news j ≡ option_map (taking d i a among j) (slice_get olds j))
-    → ((j t : ℕ) → rests is j t ≡ true → (rests was j t ≡ true) × (j ≡ i → ⊥) × (IsIn j among ≡ false)) → AreResting c news is
+    → ((j t : ℕ) → rests_at is j t ≡ true → (rests_at was j t ≡ true) × (j ≡ i → ⊥) × (IsIn j among ≡ false)) → AreResting c news is
 still_resting c d i a among olds news was is are taken less j t rest state at =
     let parts = less j t rest in
     are j t parts.0 state (sym (taken j ∙ stays (ne_eqb j i parts.1) parts.2 (slice_get olds j)) ∙ at) where

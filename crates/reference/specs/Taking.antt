@@ -3,10 +3,10 @@ use Rattle.std.specs.Prelude.{◌≡◌, ℕ, ◌<◌, ◌==◌, cond, true, fal
 use Rattle.terms.specs.Datum.{Datum}
 use Rattle.terms.specs.Named.{Named}
 use Rattle.undo_records.specs.States.{States}
-use Rattle.plans.specs.Automata.{Instance}
-use Rattle.plans.specs.Receivers.{IsIn}
-use Rattle.plans.specs.Signatures.{inputs}
-use Rattle.plans.specs.Steps.{applied}
+use Rattle.io_automata.specs.Automata.{Instance}
+use Rattle.io_automata.specs.Receivers.{IsIn}
+use Rattle.io_automata.specs.Signatures.{inputs}
+use Rattle.io_automata.specs.Steps.{applied}
 use Rattle.virtual_time.specs.Machine.{Machine}
 use Rattle.virtual_time.specs.Reference.{joint}
 

@@ -2,11 +2,11 @@
 use Rattle.std.specs.Prelude.{◌≡◌, ℕ, Bool as Truth, true, false, List, [], take, get_or, slice_get, Option, None, Some}
 use Rattle.terms.specs.Datum.{Datum}
 use Rattle.terms.specs.Named.{Named}
-use Rattle.plans.specs.declared.automaton.Kind.{Kind}
-use Rattle.plans.specs.declared.automaton.Kind.TheVariants.{Input, Output, Internal}
-use Rattle.plans.specs.Automata.{Instance}
-use Rattle.plans.specs.Signatures.{acts, controls}
-use Rattle.plans.specs.Steps.{Joint, Leads, IsSchedule, start_of, is_enabled}
+use Rattle.io_automata.specs.declared.automaton.Kind.{Kind}
+use Rattle.io_automata.specs.declared.automaton.Kind.TheVariants.{Input, Output, Internal}
+use Rattle.io_automata.specs.Automata.{Instance}
+use Rattle.io_automata.specs.Signatures.{acts, controls}
+use Rattle.io_automata.specs.Steps.{Joint, Leads, IsSchedule, start_of, is_enabled}
 use Rattle.reference.specs.declared.checking.Fault.{Fault}
 use Rattle.reference.specs.declared.checking.Fault.TheVariants.{Barred, Foreign}
 use Rattle.reference.specs.declared.checking.Verdict.{Verdict}

@@ -2,13 +2,14 @@
 ghost use Rattle.std.specs.Prelude.{◌≡◌, ℕ, List, IfOk, OnOk, map, length};
 ghost use Rattle.std.specs.List.{range_with_len};
 ghost use Rattle.terms.specs.Named.{Named};
-ghost use Rattle.plans.specs.Automata.{Instance};
+ghost use Rattle.io_automata.specs.Automata.{Instance};
 ghost use Rattle.plans.specs.Plans.{composition};
-ghost use Rattle.plans.specs.Signatures.{takers_of};
-ghost use Rattle.plans.specs.Steps.{start_of, applied};
+ghost use Rattle.io_automata.specs.Signatures.{takers_of};
+ghost use Rattle.io_automata.specs.Steps.{start_of, applied};
 ghost use Rattle.reference.specs.Verdicts.{IsVerdict, IsPermitted, IsPermittedBy, IsStepped, is_control, state_at};
 
-use plans::{Kind, Plan};
+use io_automata::Kind;
+use plans::Plan;
 use std::alloc::Global;
 use terms::{Action, NoMemory, State};
 

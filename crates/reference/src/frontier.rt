@@ -2,7 +2,7 @@
 ghost use Rattle.std.specs.Prelude.{◌≡◌, ◌+◌, ◌*◌, ◌%◌, ◌<◌, ℕ, [], None, IfOk, IfSome, IfNone, OnErr, length, map, option_map, replicate, slice_set};
 ghost use Rattle.std.specs.List.{range_with_len};
 ghost use Rattle.plans.specs.Plans.{composition};
-ghost use Rattle.plans.specs.Steps.{start_of};
+ghost use Rattle.io_automata.specs.Steps.{start_of};
 ghost use Rattle.task_seed.specs.Setups.{system, plan_of};
 ghost use Rattle.task_seed.specs.Machines.{machine};
 ghost use Rattle.task_seed.specs.Taken.{turned_of};
@@ -15,7 +15,7 @@ ghost use Rattle.gvt.specs.Tournaments.{IsTournament, node};
 ghost use Rattle.reference.specs.Views.{IsNextTurn, IsComplete};
 
 use crate::clocks::Clocks;
-use crate::resting::Resting;
+use crate::resting::AllResting;
 use crate::taking::{put_none, take_turn};
 use event_keys::{Key, Outcome, Turned};
 use gvt::tournament::put;
@@ -38,7 +38,7 @@ pub(crate) struct Frontier {
     states: Vec<Store>,
     clocks: Clocks,
     // The tasks that have nothing enabled in their component's state, as far as was asked.
-    resting: Resting,
+    resting: AllResting,
 }
 
 // The tick and the component of a key as one number. No two of the next keys have one, since they are of different components.
@@ -145,7 +145,7 @@ impl Frontier {
         ensures clocks { IfOk result
             (λ f. AreClocks T.turn_of setup.now f.numbers.items f.clocks.clocks.items) }
         ensures resting { IfOk result (λ f. AreResting
-            (composition (plan_of setup.now)) f.states.items f.resting.tasks.items) }
+            (composition (plan_of setup.now)) f.states.items f.resting.components.items) }
     {
         machine_is_lawful(setup);
         reference_is_one::<State, Action>();
@@ -154,7 +154,7 @@ impl Frontier {
         let numbers = first_numbers(alloc, setup.plan().components())?;
         let states = start_states(alloc, setup.plan())?;
         let clocks = Clocks::new(alloc, setup)?;
-        let resting = Resting::new(alloc, setup.plan())?;
+        let resting = AllResting::new(alloc, setup.plan())?;
         Ok(Frontier {
             places,
             numbers,
@@ -177,14 +177,14 @@ impl Frontier {
         requires clocks { AreClocks T.turn_of setup.now self.old.numbers.items
             self.old.clocks.clocks.items }
         requires resting { AreResting (composition (plan_of setup.now)) self.old.states.items
-            self.old.resting.tasks.items }
+            self.old.resting.components.items }
         ensures stands { IsBeforeLeast
             (system T.turn_of setup.now) self.new.places.items self.new.numbers.items
             self.new.states.items }
         ensures clocks { AreClocks T.turn_of setup.now self.new.numbers.items
             self.new.clocks.clocks.items }
         ensures resting { AreResting (composition (plan_of setup.now)) self.new.states.items
-            self.new.resting.tasks.items }
+            self.new.resting.components.items }
         ensures ok { IfOk result (λ turn. IsNextTurn (machine (system T.turn_of setup.now))
             (taken_at (system T.turn_of setup.now) self.old.places.items self.old.numbers.items)
             turn (taken_at
@@ -213,14 +213,14 @@ impl Frontier {
         requires clocks { AreClocks T.turn_of setup.now self.old.numbers.items
             self.old.clocks.clocks.items }
         requires resting { AreResting (composition (plan_of setup.now)) self.old.states.items
-            self.old.resting.tasks.items }
+            self.old.resting.components.items }
         ensures stands { IsBeforeLeast
             (system T.turn_of setup.now) self.new.places.items self.new.numbers.items
             self.new.states.items }
         ensures clocks { AreClocks T.turn_of setup.now self.new.numbers.items
             self.new.clocks.clocks.items }
         ensures resting { AreResting (composition (plan_of setup.now)) self.new.states.items
-            self.new.resting.tasks.items }
+            self.new.resting.components.items }
         ensures ok { IfOk result (λ key. IsNextTurn (machine (system T.turn_of setup.now))
             (taken_at (system T.turn_of setup.now) self.old.places.items self.old.numbers.items)
             (option_map (turned_of found.new) key)

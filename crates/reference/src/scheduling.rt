@@ -32,7 +32,7 @@ fn take_all<T: Turns>(
     requires clocks { AreClocks T.turn_of setup.now frontier.old.numbers.items
         frontier.old.clocks.clocks.items }
     requires resting { AreResting (composition (plan_of setup.now)) frontier.old.states.items
-        frontier.old.resting.tasks.items }
+        frontier.old.resting.components.items }
     requires none { taken_at
         (system T.turn_of setup.now) frontier.old.places.items frontier.old.numbers.items ≡ [] }
     ensures reference { IfOk result (λ turns. IsReference

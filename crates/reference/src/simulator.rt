@@ -25,6 +25,7 @@ pub struct Reference<T: Turns> {
 impl<T: Turns> Model for Reference<T> {
     ghost use Rattle.std.specs.Arc.{arc_value};
     ghost use Rattle.std.specs.Coded.{codes};
+    ghost use Rattle.plans.specs.KnownLaws.{are_known_prop};
     ghost use Rattle.terms.specs.Datum.{datum_code};
     ghost use Rattle.terms.specs.contracts.scalar.Shape as shape;
     ghost use Rattle.terms.specs.contracts.term.Term as term;
@@ -34,8 +35,14 @@ impl<T: Turns> Model for Reference<T> {
 
     ghost Value = { Ran (Setup T) };
 
-    ghost coded = { Prim.hlevel
-        (codes, shape.the_row.coded, term.the_row.coded, effect.the_row.coded, datum_code) };
+    ghost coded = { Prim.hlevel (
+      codes,
+      are_known_prop,
+      shape.the_row.coded,
+      term.the_row.coded,
+      effect.the_row.coded,
+      datum_code,
+    ) };
 
     ghost use Rattle.task_seed.specs.Setups.{system, plan_of};
     ghost use Rattle.reference.specs.Clocks.{AreClocks};
@@ -56,7 +63,7 @@ impl<T: Turns> Model for Reference<T> {
         × AreClocks T.turn_of
         (arc_value r.setup) r.frontier.numbers.items r.frontier.clocks.clocks.items
         × AreResting (composition (plan_of (arc_value r.setup))) r.frontier.states.items
-        r.frontier.resting.tasks.items };
+        r.frontier.resting.components.items };
 }
 
 impl<T: Turns> Reference<T> {

@@ -2,14 +2,14 @@
 ghost use Rattle.std.specs.Prelude.{◌≡◌, ◌<◌, [], ℕ, true, None, Some, IfSome, OnOk, OnErr, length, option_map, slice_get};
 ghost use Rattle.undo_records.specs.States.{States, undone, without_first};
 ghost use Rattle.plans.specs.Plans.{composition};
-ghost use Rattle.plans.specs.Receivers.{IsIn};
+ghost use Rattle.io_automata.specs.Receivers.{IsIn};
 ghost use Rattle.task_seed.specs.Setups.{system, plan_of};
 ghost use Rattle.task_seed.specs.Turning.{turn_in};
 ghost use Rattle.task_seed.specs.Machines.{machine, turn_outcome};
 ghost use Rattle.reference.specs.Resting.{AreResting};
 ghost use Rattle.reference.specs.Taking.{Distinct, IsPassed, AreMarked, marking, other_than, reaching, reached, taking, joining};
 
-use crate::resting::Resting;
+use crate::resting::AllResting;
 use event_keys::Key;
 use plans::Plan;
 use smallvec::SmallVec;
@@ -178,7 +178,7 @@ pub(crate) fn take_turn<T: Turns>(
     key: Key,
     turn: Turn,
     states: &mut [Store],
-    resting: &mut Resting,
+    resting: &mut AllResting,
     found: &mut Option<Action>,
 ) -> Result<(), NoMemory>
     requires turn { Some turn ≡ turn_in (system T.turn_of setup.now) key.component key.number }
@@ -187,7 +187,7 @@ pub(crate) fn take_turn<T: Turns>(
     requires plain { (j : ℕ) (state : States) → slice_get states.old j ≡ Some state
         → state.below ≡ [] }
     requires resting { AreResting (composition (plan_of setup.now)) states.old
-        resting.old.tasks.items }
+        resting.old.components.items }
     ensures found { OnOk result (IfSome (slice_get states.old key.component)
         (λ state. found.new
         ≡ turn_outcome (system T.turn_of setup.now) key.component key.number state.current)) }
@@ -199,7 +199,7 @@ pub(crate) fn take_turn<T: Turns>(
     ensures err { OnErr result (states.new ≡ states.old) }
     ensures none { OnErr result (found.new ≡ None) }
     ensures resting { AreResting (composition (plan_of setup.now)) states.new
-        resting.new.tasks.items }
+        resting.new.components.items }
 {
     let i = key.component;
     if resting.is_resting(i, turn.task) {
@@ -243,7 +243,7 @@ fn act<T: Turns>(
     setup: &Setup<T>,
     i: u16,
     states: &mut [Store],
-    resting: &mut Resting,
+    resting: &mut AllResting,
     found: &mut Option<Action>,
 ) -> Result<(), NoMemory>
     requires within { i < length (composition (plan_of setup.now)) }
@@ -251,7 +251,7 @@ fn act<T: Turns>(
     requires plain { (j : ℕ) (state : States) → slice_get states.old j ≡ Some state
         → state.below ≡ [] }
     requires resting { AreResting (composition (plan_of setup.now)) states.old
-        resting.old.tasks.items }
+        resting.old.components.items }
     ensures found { OnOk result (found.new ≡ found.old) }
     ensures states { OnOk result ((j : ℕ) → slice_get states.new j ≡ option_map
         (joining (machine (system T.turn_of setup.now)) i found.old j) (slice_get states.old j)) }
@@ -259,7 +259,7 @@ fn act<T: Turns>(
     ensures err { OnErr result (states.new ≡ states.old) }
     ensures none { OnErr result (found.new ≡ None) }
     ensures resting { AreResting (composition (plan_of setup.now)) states.new
-        resting.new.tasks.items }
+        resting.new.components.items }
 {
     let taken = match found.as_ref() {
         None => return Ok(()),
@@ -279,14 +279,14 @@ fn take_by_all<T: Turns>(
     i: u16,
     action: &Action,
     states: &mut [Store],
-    resting: &mut Resting,
+    resting: &mut AllResting,
 ) -> Result<(), NoMemory>
     requires within { i < length (composition (plan_of setup.now)) }
     requires many { length states.old ≡ length (composition (plan_of setup.now)) }
     requires plain { (j : ℕ) (state : States) → slice_get states.old j ≡ Some state
         → state.below ≡ [] }
     requires resting { AreResting (composition (plan_of setup.now)) states.old
-        resting.old.tasks.items }
+        resting.old.components.items }
     ensures ok { OnOk result ((j : ℕ)
         → slice_get states.new j
         ≡ option_map (joining (machine (system T.turn_of setup.now)) i (Some action.now) j)
@@ -294,7 +294,7 @@ fn take_by_all<T: Turns>(
     ensures many { length states.new ≡ length states.old }
     ensures err { OnErr result (states.new ≡ states.old) }
     ensures resting { AreResting (composition (plan_of setup.now)) states.new
-        resting.new.tasks.items }
+        resting.new.components.items }
 {
     let plan = setup.plan();
     let mut room = SmallVec::new(alloc);

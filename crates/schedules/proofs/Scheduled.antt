@@ -8,15 +8,15 @@ use Rattle.terms.specs.Datum.{Datum}
 use Rattle.terms.specs.Named.{Named}
 use Rattle.event_keys.specs.declared.outcome.Turned.{Turned}
 use Rattle.event_keys.specs.Entries.{action_of}
-use Rattle.plans.specs.declared.automaton.Kind.{Kind}
-use Rattle.plans.specs.declared.automaton.Kind.TheVariants.{Input, Output, Internal}
-use Rattle.plans.specs.Automata.{component_at}
-use Rattle.plans.specs.Compatible.{IsCompatible}
-use Rattle.plans.specs.WellFormed.{IsWellFormed}
-use Rattle.plans.specs.Outcomes.{outcome_of}
-use Rattle.plans.specs.Signatures.{has, has_as, same_kind, any_as, inputs, outputs, internals, acts, controls, receives}
-use Rattle.plans.specs.Steps.{Joint, Leads, IsSchedule, applied, is_enabled, start_of}
-use Rattle.plans.specs.TurnSteps.{IsOffered, outcome_offered}
+use Rattle.io_automata.specs.declared.automaton.Kind.{Kind}
+use Rattle.io_automata.specs.declared.automaton.Kind.TheVariants.{Input, Output, Internal}
+use Rattle.io_automata.specs.Automata.{component_at}
+use Rattle.io_automata.specs.Compatible.{IsCompatible}
+use Rattle.io_automata.specs.WellFormed.{IsWellFormed}
+use Rattle.io_automata.specs.Outcomes.{outcome_of}
+use Rattle.io_automata.specs.Signatures.{has, has_as, same_kind, any_as, inputs, outputs, internals, acts, controls, receives}
+use Rattle.io_automata.specs.Steps.{Joint, Leads, IsSchedule, applied, is_enabled, start_of}
+use Rattle.io_automata.specs.TurnSteps.{IsOffered, outcome_offered}
 use Rattle.virtual_time.specs.Executions.{IsJoint, IsExecution, add_action, schedule}
 use Rattle.virtual_time.specs.Reference.{Turn}
 use Rattle.task_seed.specs.declared.turns.Turn.{Turn as Row}

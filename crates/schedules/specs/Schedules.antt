@@ -9,7 +9,7 @@ use Rattle.virtual_time.specs.Executions.{add_action}
 use Rattle.virtual_time.specs.Reference.{IsReference, reference_below}
 use Rattle.plans.specs.declared.plan.Plan.{Plan}
 use Rattle.plans.specs.Plans.{composition}
-use Rattle.plans.specs.Steps.{IsSchedule}
+use Rattle.io_automata.specs.Steps.{IsSchedule}
 use Rattle.task_seed.specs.Machines.{machine, end_rank}
 use Rattle.task_seed.specs.Turning.{System}
 use Rattle.task_seed.specs.Taken.{turns_of}

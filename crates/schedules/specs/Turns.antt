@@ -4,8 +4,8 @@ use Rattle.terms.specs.Datum.{Datum}
 use Rattle.terms.specs.Named.{Named}
 use Rattle.event_keys.specs.declared.outcome.Turned.{Turned}
 use Rattle.event_keys.specs.Entries.{action_of}
-use Rattle.plans.specs.Automata.{Instance}
-use Rattle.plans.specs.Outcomes.{outcome_of}
+use Rattle.io_automata.specs.Automata.{Instance}
+use Rattle.io_automata.specs.Outcomes.{outcome_of}
 use Rattle.schedules.specs.Schedules.{KeyFits}
 
 -- some turn of component i takes the action in some state

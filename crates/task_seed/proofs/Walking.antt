@@ -2,7 +2,7 @@
 use Rattle.std.proofs.Common.{◌≡◌, ℕ, ◌+◌, ◌∙◌, Bool, true, false, Option, None, Some, IfSome, IsSome, is_some, ap, refl, sym}
 use Rattle.std.specs.List.{list_all}
 use Rattle.std.specs.Prelude.{◌&&◌, option_map, if◌then◌else◌}
-use Rattle.plans.specs.Outcomes.{task_count}
+use Rattle.io_automata.specs.Outcomes.{task_count}
 use Rattle.event_keys.specs.declared.key.Key.{Key}
 use Rattle.task_seed.specs.declared.turns.Turn.{Turn}
 use Rattle.task_seed.specs.Ticks.{exist-more, has_parts}

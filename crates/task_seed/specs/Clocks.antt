@@ -2,7 +2,7 @@
 use Rattle.std.specs.Prelude.{◌≡◌, ℕ, ◌+◌, ◌*◌, ◌/◌, ◌%◌, ◌<◌, ◌≤◌, ◌==◌, ◌&&◌, ◌⊎◌, max, nat_le, Bool, true, if◌then◌else◌, Option, None, Some, IsSome, option_map, List, [], length, slice_get, vec_capacity, vec_len}
 use Rattle.event_keys.specs.declared.key.Key.{Key}
 use Rattle.event_keys.specs.Ranks.{rank}
-use Rattle.plans.specs.Outcomes.{task_count}
+use Rattle.io_automata.specs.Outcomes.{task_count}
 use Rattle.plans.specs.Plans.{composition}
 use Rattle.task_seed.specs.declared.clock.Clock.{Clock}
 use Rattle.task_seed.specs.declared.clock.NumberedTurn.{NumberedTurn}

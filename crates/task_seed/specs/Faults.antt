@@ -1,7 +1,7 @@
 -- The faults of rows.
 use Rattle.std.specs.Prelude.{◌≡◌, ℕ, ◌+◌, ◌<◌, ◌≤◌, ◌⊎◌, max, Option, Some, List, ◌∷◌, ◌++◌, length, All}
-use Rattle.plans.specs.Automata.{Instance}
-use Rattle.plans.specs.Outcomes.{task_count}
+use Rattle.io_automata.specs.Automata.{Instance}
+use Rattle.io_automata.specs.Outcomes.{task_count}
 use Rattle.task_seed.specs.declared.table.Row.{Row}
 
 -- the gap isn't 0 to 65,535

@@ -11,9 +11,9 @@ use Rattle.event_keys.specs.Apart.{action_apart}
 use Rattle.event_keys.specs.Orders.{action_order}
 use Rattle.event_keys.specs.Ranks.{rank, owner_of}
 use Rattle.virtual_time.specs.Machine.{Lawful, HasCount}
-use Rattle.plans.specs.Automata.{Instance, component_at, absent}
-use Rattle.plans.specs.Signatures.{receives}
-use Rattle.plans.specs.Receivers.{no_own}
+use Rattle.io_automata.specs.Automata.{Instance, component_at, absent}
+use Rattle.io_automata.specs.Signatures.{receives}
+use Rattle.io_automata.specs.Receivers.{no_own}
 use Rattle.task_seed.specs.Turning.{System, ticks, has_turns, key_at}
 use Rattle.task_seed.specs.Ticks.{none_stays, has_parts, later_next}
 use Rattle.task_seed.specs.Machines.{machine, turn_rank, end_rank, same_action, action_before}

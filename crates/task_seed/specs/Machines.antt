@@ -6,9 +6,9 @@ use Rattle.terms.specs.Named.{Named}
 use Rattle.event_keys.specs.Orders.{action_order}
 use Rattle.event_keys.specs.Ranks.{rank, owner_of}
 use Rattle.virtual_time.specs.Machine.{Machine}
-use Rattle.plans.specs.Outcomes.{outcome_of}
-use Rattle.plans.specs.Signatures.{receives}
-use Rattle.plans.specs.Steps.{start_of, applied}
+use Rattle.io_automata.specs.Outcomes.{outcome_of}
+use Rattle.io_automata.specs.Signatures.{receives}
+use Rattle.io_automata.specs.Steps.{start_of, applied}
 use Rattle.task_seed.specs.declared.turns.Turn.{Turn}
 use Rattle.task_seed.specs.Turning.{System, ticks, has_turns, key_at, turn_in}
 

@@ -1,8 +1,8 @@
 -- The turns of a simulation and their keys.
 use Rattle.std.specs.Prelude.{◌≡◌, ◌≤◌, true, ℕ, ◌+◌, ◌%◌, ◌==◌, ◌&&◌, nat_le, Bool, Option, None, Some, is_some, List, map, sum_by, option_map, if◌then◌else◌}
 use Rattle.std.specs.List.{range_with_len, list_all}
-use Rattle.plans.specs.Automata.{Instance}
-use Rattle.plans.specs.Outcomes.{task_count}
+use Rattle.io_automata.specs.Automata.{Instance}
+use Rattle.io_automata.specs.Outcomes.{task_count}
 use Rattle.event_keys.specs.declared.key.Key.{Key}
 use Rattle.task_seed.specs.declared.turns.Turn.{Turn}
 

@@ -54,7 +54,7 @@ impl Refusal for SetupError {
 
 impl<T: Turns> Setup<T> {
     ghost use Rattle.std.specs.Prelude.{◌≡◌, ℕ, ◌≤◌, ◌<◌, ◌+◌, ◌↔◌, Option, None, Some, IfSome, IfOk, IsErrOf, IsSome, option_map};
-    ghost use Rattle.plans.specs.Outcomes.{task_count};
+    ghost use Rattle.io_automata.specs.Outcomes.{task_count};
     ghost use Rattle.plans.specs.Plans.{composition};
     ghost use Rattle.task_seed.specs.Turning.{key_at, key_of, turn_in, Reaches};
     ghost use Rattle.task_seed.specs.Steps.{tick_after, tick_with};

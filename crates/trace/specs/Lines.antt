@@ -11,7 +11,7 @@ use Rattle.event_keys.specs.declared.outcome.Outcome.TheVariants.{Idle, Did}
 use Rattle.event_keys.specs.declared.outcome.Turned.{Turned}
 use Rattle.plans.specs.declared.plan.Plan.{Plan}
 use Rattle.plans.specs.Plans.{composition, action_texts, hides, member_texts}
-use Rattle.plans.specs.Signatures.{is_external}
+use Rattle.io_automata.specs.Signatures.{is_external}
 use Rattle.trace.specs.declared.lines.Lines.{Lines}
 use Rattle.trace.specs.declared.lines.Lines.TheVariants.{All, Trace}
 

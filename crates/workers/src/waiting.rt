@@ -72,6 +72,7 @@ impl<T: Turns> Model for Waiting<T> {
     ghost use Rattle.task_seed.specs.declared.setup.Setup.{Setup};
     ghost use Rattle.workers.specs.Leases.{AreWaiting};
     ghost use Rattle.std.specs.Coded.{codes};
+    ghost use Rattle.plans.specs.KnownLaws.{are_known_prop};
     ghost use Rattle.terms.specs.Datum.{datum_code};
     ghost use Rattle.terms.specs.contracts.scalar.Shape as shape;
     ghost use Rattle.terms.specs.contracts.term.Term as term;
@@ -79,8 +80,14 @@ impl<T: Turns> Model for Waiting<T> {
 
     ghost Value = { Setup T };
 
-    ghost coded = { Prim.hlevel
-        (codes, shape.the_row.coded, term.the_row.coded, effect.the_row.coded, datum_code) };
+    ghost coded = { Prim.hlevel (
+      codes,
+      are_known_prop,
+      shape.the_row.coded,
+      term.the_row.coded,
+      effect.the_row.coded,
+      datum_code,
+    ) };
 
     ghost view = { λ w. w.exchange.setup };
 

@@ -63,6 +63,7 @@ impl<T: Turns> Model for World<T> {
     ghost use Rattle.task_seed.specs.Setups.{system};
     ghost use Rattle.world.specs.Simulation.{Simulation, IsSimulation};
     ghost use Rattle.std.specs.Coded.{codes};
+    ghost use Rattle.plans.specs.KnownLaws.{are_known_prop};
     ghost use Rattle.terms.specs.Datum.{datum_code};
     ghost use Rattle.terms.specs.contracts.scalar.Shape as shape;
     ghost use Rattle.terms.specs.contracts.term.Term as term;
@@ -70,8 +71,14 @@ impl<T: Turns> Model for World<T> {
 
     ghost Value = { Simulation (Setup T) };
 
-    ghost coded = { Prim.hlevel
-        (codes, shape.the_row.coded, term.the_row.coded, effect.the_row.coded, datum_code) };
+    ghost coded = { Prim.hlevel (
+      codes,
+      are_known_prop,
+      shape.the_row.coded,
+      term.the_row.coded,
+      effect.the_row.coded,
+      datum_code,
+    ) };
 
     ghost view = { λ w.
         record {

@@ -1,10 +1,10 @@
 //! Whether two lists of parameters have arguments in common.
 ghost use Rattle.std.specs.Prelude.{◌≡◌, true, false, List};
 ghost use Rattle.terms.specs.declared.scalar.Scalar.{Scalar};
-ghost use Rattle.plans.specs.Signatures.{fits, fits_one};
+ghost use Rattle.io_automata.specs.Signatures.{fits, fits_one};
 
 use crate::compatibility::span::{meet, span_of};
-use plans::Param;
+use io_automata::Param;
 use terms::Scalar;
 use terms::cells::slot_of;
 

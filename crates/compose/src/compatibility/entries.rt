@@ -1,11 +1,11 @@
 //! Whether two entries have an action in common.
 ghost use Rattle.std.specs.Prelude.{◌≡◌, true, false};
 ghost use Rattle.terms.specs.Named.{Named};
-ghost use Rattle.plans.specs.Automata.{transition_of};
-ghost use Rattle.plans.specs.Signatures.{has};
+ghost use Rattle.io_automata.specs.Automata.{transition_of};
+ghost use Rattle.io_automata.specs.Signatures.{has};
 
 use crate::compatibility::arguments::overlap;
-use plans::Entry;
+use io_automata::Entry;
 use terms::Scalar;
 
 /// Whether two entries stand for an action together, each with the values of its own formals.

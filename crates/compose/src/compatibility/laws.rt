@@ -1,7 +1,7 @@
 //! What holds of the rules.
 ghost use Rattle.std.specs.Prelude.{◌≡◌, ℕ, Option, List};
-ghost use Rattle.plans.specs.Automata.{Instance};
-ghost use Rattle.plans.specs.Compatible.{IsCompatible};
+ghost use Rattle.io_automata.specs.Automata.{Instance};
+ghost use Rattle.io_automata.specs.Compatible.{IsCompatible};
 ghost use Rattle.compose.specs.declared.compatibility.rule.Rule.{Rule as AnyRule};
 ghost use Rattle.compose.specs.Rules.{Breaks, IsFirst};
 ghost use Rattle.compose.specs.Standings.{stands, IsFirstClash};

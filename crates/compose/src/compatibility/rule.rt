@@ -2,7 +2,7 @@
 ghost use Rattle.std.specs.Prelude.{◌≡◌};
 ghost use Rattle.compose.specs.Rules.{is_barred, suits_all, suits_inputs};
 
-use plans::Kind;
+use io_automata::Kind;
 
 /// A rule of compatible signatures (Lynch, Distributed Algorithms, sections 8.1 and 8.2.1).
 #[derive(Clone, Copy, PartialEq, Eq)]

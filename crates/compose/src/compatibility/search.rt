@@ -1,6 +1,6 @@
 //! The search for the first component with which components aren't compatible.
 ghost use Rattle.std.specs.Prelude.{◌≡◌, map, IfOk};
-ghost use Rattle.plans.specs.Automata.{composed};
+ghost use Rattle.io_automata.specs.Automata.{composed};
 ghost use Rattle.compose.specs.Rules.{Breaks, IsFirst};
 ghost use Rattle.compose.specs.Standings.{stood, IsFirstClash};
 
@@ -8,7 +8,7 @@ use crate::compatibility::laws::first_law;
 use crate::compatibility::rule::Rule;
 use crate::compatibility::seen::{is_clash, is_clash_with_input, push_by_kind};
 use crate::compatibility::standing::{Standing, standings};
-use plans::{Automaton, Component};
+use io_automata::{Automaton, Component};
 use std::alloc::Global;
 use terms::NoMemory;
 

@@ -1,12 +1,12 @@
 //! The entries so far, by their names.
 ghost use Rattle.std.specs.Prelude.{◌≡◌, ◌<◌, ◌++◌, ◌∷◌, [], ℕ, true, false, cond, length, map, nat_eq, OnOk};
 ghost use Rattle.compose.specs.Standings.{stood, seen_at, is_input_of, is_control_of, Has, Clash, ClashesAsInput};
-ghost use Rattle.plans.specs.Signatures.{same_kind};
-ghost use Rattle.plans.specs.declared.automaton.Kind.TheVariants.{Input};
+ghost use Rattle.io_automata.specs.Signatures.{same_kind};
+ghost use Rattle.io_automata.specs.declared.automaton.Kind.TheVariants.{Input};
 
 use crate::compatibility::rule::{Rule, suits_all, suits_inputs};
 use crate::compatibility::standing::{Standing, clash};
-use plans::Kind;
+use io_automata::Kind;
 use std::alloc::Global;
 use terms::NoMemory;
 

@@ -2,10 +2,10 @@
 ghost use Rattle.std.specs.Prelude.{◌≡◌, ◌&&◌, true, false};
 ghost use Rattle.terms.specs.contracts.scalar.ScalarPartialEq.TheImpl as scalar_eq;
 ghost use Rattle.terms.specs.declared.scalar.Scalar.{Scalar};
-ghost use Rattle.plans.specs.Signatures.{fits_one, is_member};
+ghost use Rattle.io_automata.specs.Signatures.{fits_one, is_member};
 ghost use Rattle.compose.specs.Spans.{is_in};
 
-use plans::Param;
+use io_automata::Param;
 use terms::cells::slot_of;
 use terms::{Listed, Scalar};
 

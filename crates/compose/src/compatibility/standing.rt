@@ -1,11 +1,11 @@
 //! The entries of components, one component after the other.
 ghost use Rattle.std.specs.Prelude.{◌≡◌, ◌++◌, true, false, map, IfOk, OnOk};
-ghost use Rattle.plans.specs.Automata.{composed, instance_of, transition_of};
+ghost use Rattle.io_automata.specs.Automata.{composed, instance_of, transition_of};
 ghost use Rattle.compose.specs.Standings.{stood, stood_in, stands, Clash};
 
 use crate::compatibility::entries::is_shared;
 use crate::compatibility::rule::{Rule, is_barred};
-use plans::{Automaton, Component, Entry};
+use io_automata::{Automaton, Component, Entry};
 use std::alloc::Global;
 use terms::{NoMemory, Scalar};
 

@@ -7,8 +7,8 @@ ghost use Rattle.compose.specs.Instances.{place_in};
 ghost use Rattle.compose.specs.Names.{IsRising, is_among};
 ghost use Rattle.compose.specs.Tables.{action_signature, entry_signature, table};
 
+use io_automata::ActionName;
 use ioa_check::Used;
-use plans::ActionName;
 use std::alloc::{AllocError, Global};
 use std::collections::BTreeMap;
 use terms::Shape;

@@ -2,7 +2,7 @@
 ghost use Rattle.std.specs.Prelude.{◌≡◌, ◌<◌, ◌^◌, [], Some, if◌then◌else◌, map, length, IfOk};
 ghost use Rattle.std.specs.List.{All};
 ghost use Rattle.terms.specs.TermTree.{term_tree};
-ghost use Rattle.plans.specs.Automata.{absent, with_formals};
+ghost use Rattle.io_automata.specs.Automata.{absent, with_formals};
 ghost use Rattle.plans.specs.Plans.{text_of};
 ghost use Rattle.ioa_check.specs.Resolutions.{automaton_meaning};
 ghost use Rattle.ioa_typing.specs.TermViews.{core_tree};
@@ -12,8 +12,8 @@ ghost use Rattle.compose.specs.Tables.{converted};
 
 use crate::instances::entries::entries;
 use crate::instances::table::is_marked;
+use io_automata::ActionName;
 use ioa_check::{Automaton, Variable};
-use plans::ActionName;
 use std::alloc::{AllocError, Global};
 use terms::Term;
 
@@ -32,7 +32,7 @@ fn automaton(
     alloc: Global,
     actions: &[ActionName],
     one: Automaton,
-) -> Result<plans::Automaton, AllocError>
+) -> Result<io_automata::Automaton, AllocError>
     requires few { length actions.now < 2 ^ 16 }
     requires rising { IsRising (map text_of actions.now) }
     requires few_tasks { length (automaton_meaning one).tasks < 2 ^ 32 }
@@ -41,7 +41,7 @@ fn automaton(
 {
     let entries = entries(alloc, actions, one.transitions)?;
     let start = starts(alloc, one.variables)?;
-    Ok(plans::Automaton {
+    Ok(io_automata::Automaton {
         entries,
         start,
         tasks: one.tasks,
@@ -49,10 +49,10 @@ fn automaton(
 }
 
 // An automaton that no component has.
-fn unused(alloc: Global) -> plans::Automaton
+fn unused(alloc: Global) -> io_automata::Automaton
     ensures { with_formals [] result ≡ absent }
 {
-    plans::Automaton {
+    io_automata::Automaton {
         entries: Vec::new(alloc),
         start: Vec::new(alloc),
         tasks: Vec::new(alloc),
@@ -64,7 +64,7 @@ fn made(
     actions: &[ActionName],
     is_used: bool,
     one: Automaton,
-) -> Result<plans::Automaton, AllocError>
+) -> Result<io_automata::Automaton, AllocError>
     requires few { length actions.now < 2 ^ 16 }
     requires rising { IsRising (map text_of actions.now) }
     requires few_tasks { length (automaton_meaning one).tasks < 2 ^ 32 }
@@ -85,7 +85,7 @@ pub fn automata(
     actions: &[ActionName],
     used: &[bool],
     all: Vec<Automaton>,
-) -> Result<Vec<plans::Automaton>, AllocError>
+) -> Result<Vec<io_automata::Automaton>, AllocError>
     requires few { length actions.now < 2 ^ 16 }
     requires rising { IsRising (map text_of actions.now) }
     requires few_tasks { All (λ a. length a.tasks < 2 ^ 32) (map automaton_meaning all.items) }

@@ -34,7 +34,11 @@ fn values_of(alloc: Global, terms: &[Term]) -> Result<Vec<Scalar>, NoMemory>
     Ok(values)
 }
 
-fn component(alloc: Global, beyond: usize, one: &Component) -> Result<plans::Component, NoMemory>
+fn component(
+    alloc: Global,
+    beyond: usize,
+    one: &Component,
+) -> Result<io_automata::Component, NoMemory>
     ensures { IfOk result (λ c. parts_in c ≡ meant_parts beyond (component_meaning one.now)) }
 {
     let formals = values_of(alloc, one.arguments.as_slice())?;
@@ -42,7 +46,7 @@ fn component(alloc: Global, beyond: usize, one: &Component) -> Result<plans::Com
         Some(number) => number,
         None => beyond,
     };
-    Ok(plans::Component { automaton, formals })
+    Ok(io_automata::Component { automaton, formals })
 }
 
 /// The components, in their order; one without an automaton has the number beyond the last.
@@ -50,7 +54,7 @@ pub fn components(
     alloc: Global,
     beyond: usize,
     all: &[Component],
-) -> Result<Vec<plans::Component>, NoMemory>
+) -> Result<Vec<io_automata::Component>, NoMemory>
     ensures { IfOk result (λ cs. map parts_in cs.items
         ≡ map (meant_parts beyond) (map component_meaning all.now)) }
 {

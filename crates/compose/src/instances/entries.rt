@@ -1,6 +1,6 @@
 //! Entries with the numbers of their names.
 ghost use Rattle.std.specs.Prelude.{◌≡◌, ◌<◌, ◌^◌, Some, map, length, IfOk};
-ghost use Rattle.plans.specs.Automata.{transition_of};
+ghost use Rattle.io_automata.specs.Automata.{transition_of};
 ghost use Rattle.plans.specs.Plans.{text_of};
 ghost use Rattle.ioa_check.specs.Resolutions.{transition_meaning};
 ghost use Rattle.ioa_entries.specs.EntryViews.{slot_tree};
@@ -9,22 +9,22 @@ ghost use Rattle.compose.specs.Instances.{is_short, kind_as, param_in, param_of,
 ghost use Rattle.compose.specs.Names.{IsRising};
 
 use crate::instances::actions::number_of;
+use io_automata::{ActionName, Entry, Param};
 use ioa_check::Transition;
 use ioa_entries::Slot;
 use ioa_trees::tree::EntryKind;
 use ioa_typing::Kind;
 use ioa_typing::listing::listed_of;
-use plans::{ActionName, Entry, Param};
 use std::alloc::{AllocError, Global};
 use terms::Listed;
 
-fn action_kind(kind: EntryKind) -> plans::Kind
+fn action_kind(kind: EntryKind) -> io_automata::Kind
     ensures { result ≡ kind_as kind }
 {
     match kind {
-        EntryKind::Input => plans::Kind::Input,
-        EntryKind::Output => plans::Kind::Output,
-        EntryKind::Internal => plans::Kind::Internal,
+        EntryKind::Input => io_automata::Kind::Input,
+        EntryKind::Output => io_automata::Kind::Output,
+        EntryKind::Internal => io_automata::Kind::Internal,
     }
 }
 

@@ -1,7 +1,7 @@
 //! The parts of a plan.
 ghost use Rattle.std.specs.Prelude.{◌≡◌, ◌<◌, ◌^◌, map, length, string_bytes, IfOk};
 ghost use Rattle.std.specs.List.{All};
-ghost use Rattle.plans.specs.Automata.{composed};
+ghost use Rattle.io_automata.specs.Automata.{composed};
 ghost use Rattle.plans.specs.Plans.{mark_of, text_of, types_of};
 ghost use Rattle.ioa_check.specs.Resolutions.{meaning};
 ghost use Rattle.compose.specs.Instances.{instances};
@@ -12,8 +12,8 @@ use crate::instances::actions::{actions_of, names_in};
 use crate::instances::automata::automata;
 use crate::instances::components::components;
 use crate::instances::table::{Table, table_of};
+use io_automata::{ActionName, Automaton, Component};
 use ioa_check::Resolved;
-use plans::{ActionName, Automaton, Component};
 use std::alloc::Global;
 use std::collections::BTreeMap;
 use terms::{NoMemory, Shape};

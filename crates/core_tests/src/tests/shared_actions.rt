@@ -3,7 +3,7 @@
 use Listed::{Enumeration, Range};
 use Param::{Between, Const, Member, Whole};
 use compose::compatibility::{Span, meet, overlap, span_of};
-use plans::Param;
+use io_automata::Param;
 use terms::{Listed, Scalar};
 
 const FORMALS: [Scalar; 3] = [Scalar::Int(3), Scalar::Bool(true), Scalar::Member(3)];

@@ -3,14 +3,15 @@ ghost use Rattle.std.specs.Prelude.{◌≡◌, map, length};
 ghost use Rattle.std.specs.List.{list_all, range_with_len, zip};
 ghost use Rattle.std.specs.Cmp.{partial_equiv_from_equiv};
 ghost use Rattle.terms.specs.SameTrees.{same_term};
-ghost use Rattle.plans.specs.Automata.{component_at};
+ghost use Rattle.io_automata.specs.Automata.{component_at};
 ghost use Rattle.plans.specs.Plans.{composition, action_texts, hidden_marks, member_texts, text_of};
-ghost use Rattle.plans.specs.SameCompositions.{same_transition, same_instance, same_composition, same_text_of, same_texts, same_formals, same_mark_of, same_marks, same_plan};
-ghost use Rattle.plans.specs.SameLaws.{same_plan_laws};
+ghost use Rattle.io_automata.specs.SameCompositions.{same_transition, same_instance, same_composition, same_texts, same_formals};
+ghost use Rattle.plans.specs.SamePlans.{same_text_of, same_mark_of, same_marks, same_plan};
+ghost use Rattle.plans.specs.SamePlanLaws.{same_plan_laws};
 ghost use lib.Pointwise.{pointwise};
 
-use crate::automaton::ActionName;
 use crate::plan::Plan;
+use io_automata::ActionName;
 
 impl PartialEq for Plan {
     ghost eq = { same_plan };

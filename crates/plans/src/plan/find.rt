@@ -1,11 +1,9 @@
 //! The parts of a component.
 ghost use Rattle.std.specs.Prelude.{◌≡◌, map, length};
-ghost use Rattle.plans.specs.Alike.{alike, AreFirsts};
-ghost use Rattle.plans.specs.Automata.{component_at, transition_of, items_in};
+ghost use Rattle.io_automata.specs.Automata.{component_at, transition_of, items_in};
 
-use crate::automaton::{Automaton, Entry};
 use crate::plan::Plan;
-use crate::plan::alike::numbers_at;
+use io_automata::{Automaton, Entry};
 use terms::{Scalar, Term};
 
 #[tactic(auto, using(crate::specs::Plans::component_found))]
@@ -13,7 +11,7 @@ impl Plan {
     ghost use Rattle.std.specs.Prelude.{slice_get, option_copied};
     ghost use Rattle.std.specs.Option.{option_map};
     ghost use Rattle.plans.specs.Plans.{composition, automaton_in};
-    ghost use Rattle.plans.specs.Outcomes.{task_count};
+    ghost use Rattle.io_automata.specs.Outcomes.{task_count};
     ghost use Rattle.terms.specs.TermTree.{term_tree};
 
     fn automaton(&self, i: u16) -> Option<&Automaton>
@@ -40,28 +38,6 @@ impl Plan {
     {
         match self.components.get(i as usize) {
             Some(component) => component.formals.as_slice(),
-            None => &[],
-        }
-    }
-
-    /// Of each entry how many tuples it has, where its condition mentions no parameter of the action.
-    pub(super) fn alike(&self, i: u16) -> &[usize]
-        ensures { result.now ≡ map alike (component_at (composition self.now) i).entries }
-    {
-        let numbers = self.alike.as_slice();
-        match self.components.get(i as usize) {
-            Some(component) => numbers_at(numbers, component.automaton),
-            None => &[],
-        }
-    }
-
-    /// Of each entry the place of the first one with the same condition.
-    pub(super) fn firsts(&self, i: u16) -> &[usize]
-        ensures { AreFirsts (component_at (composition self.now) i).entries result.now }
-    {
-        let firsts = self.firsts.as_slice();
-        match self.components.get(i as usize) {
-            Some(component) => numbers_at(firsts, component.automaton),
             None => &[],
         }
     }

@@ -1,8 +1,8 @@
 //! The texts of actions and members.
 ghost use Rattle.std.specs.Prelude.{◌≡◌, slice_get, option_copied};
 
-use crate::automaton::ActionName;
 use crate::plan::Plan;
+use io_automata::ActionName;
 
 impl Plan {
     ghost use Rattle.std.specs.Option.{option_map};

@@ -1,15 +1,16 @@
 //! A plan of its parts.
 ghost use Rattle.std.specs.Prelude.{◌≡◌, ◌<◌, ◌^◌, IfOk, map, length, vec_len, string_bytes};
-ghost use Rattle.plans.specs.Automata.{composed};
-ghost use Rattle.plans.specs.Compatible.{IsCompatible};
-ghost use Rattle.plans.specs.Patterns.{IsIndexed};
+ghost use Rattle.io_automata.specs.Automata.{composed};
+ghost use Rattle.plans.specs.Known.{AreKnown};
+ghost use Rattle.io_automata.specs.Compatible.{IsCompatible};
+ghost use Rattle.patterns.specs.Patterns.{IsIndexed};
 ghost use Rattle.plans.specs.Plans.{composition, action_texts, action_types, hidden_marks, mark_of, member_texts, text_of, types_of};
-ghost use Rattle.plans.specs.WellFormed.{IsWellFormed};
+ghost use Rattle.io_automata.specs.WellFormed.{IsWellFormed};
 
-use crate::automaton::{ActionName, Automaton, Component};
-use crate::index::Index;
 use crate::plan::Plan;
-use crate::plan::alike::{alike_of, firsts_of};
+use io_automata::{ActionName, Automaton, Component};
+use outcomes::Known;
+use patterns::Index;
 use std::alloc::Global;
 use terms::NoMemory;
 
@@ -35,8 +36,7 @@ impl Plan {
     {
         let index = index_of(alloc, automata.as_slice(), components.as_slice(), false)?;
         let entries = index_of(alloc, automata.as_slice(), components.as_slice(), true)?;
-        let alike = alike_of(alloc, automata.as_slice())?;
-        let firsts = firsts_of(alloc, automata.as_slice())?;
+        let known = known_of(alloc, automata.as_slice())?;
         Ok(Plan {
             automata,
             components,
@@ -44,8 +44,7 @@ impl Plan {
             members,
             index,
             entries,
-            alike,
-            firsts,
+            known,
         })
     }
 }
@@ -62,4 +61,14 @@ fn index_of(
 {
     let found = Index::of(alloc, automata, components, every)?;
     Ok(Box::new(alloc, found)?)
+}
+
+fn known_of(alloc: Global, automata: &[Automaton]) -> Result<Vec<Known>, NoMemory>
+    ensures { IfOk result (λ known. AreKnown automata.now known.items) }
+{
+    let mut known = Vec::with_capacity(alloc, automata.len())?;
+    for automaton in automata {
+        known.push(Known::of(alloc, automaton.entries.as_slice())?)?;
+    }
+    Ok(known)
 }

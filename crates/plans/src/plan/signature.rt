@@ -1,22 +1,22 @@
 //! The signatures of the components and of their composition.
 ghost use Rattle.std.specs.Prelude.{◌≡◌, ◌++◌, ◌∷◌, [], IfOk, IfSome, OnOk, cond, length, int_le, int_lt, pos, ◌+ℤ◌, ◌&&◌, not, option_copied, find, filter, is_some, ℕ};
-ghost use Rattle.plans.specs.Automata.{transition_of};
+ghost use Rattle.io_automata.specs.Automata.{transition_of};
 ghost use Rattle.terms.specs.Meaning.{slot};
 ghost use Rattle.std.specs.List.Sorted.{IsStrictlyIncreasing};
-ghost use Rattle.plans.specs.Receivers.{AreCandidates};
-ghost use Rattle.plans.specs.Signatures.{is_member, fits_one, fits, has, kind_of, receives, receivers_of, given_out, is_external, is_open, is_output, takes_input, some_component, takers_of};
+ghost use Rattle.io_automata.specs.Receivers.{AreCandidates};
+ghost use Rattle.io_automata.specs.Signatures.{is_member, fits_one, fits, has, kind_of, receives, receivers_of, given_out, is_external, is_open, is_output, takes_input, some_component, takers_of};
 
-use crate::automaton::{Entry, Kind, Param};
-use crate::index::notes::is_above;
 use crate::plan::Plan;
+use io_automata::{Entry, Kind, Param};
+use patterns::index::notes::is_above;
 use smallvec::SmallVec;
 use std::alloc::Global;
 use terms::{Action, Listed, NoMemory, Scalar};
 
 impl Plan {
     ghost use Rattle.std.specs.Option.{option_map};
-    ghost use Rattle.plans.specs.Automata.{component_at};
-    ghost use Rattle.plans.specs.Steps.{entry_in};
+    ghost use Rattle.io_automata.specs.Automata.{component_at};
+    ghost use Rattle.io_automata.specs.Steps.{entry_in};
     ghost use Rattle.plans.specs.Plans.{composition, hides};
 
     #[inline(always)]

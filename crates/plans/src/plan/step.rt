@@ -1,21 +1,22 @@
 //! Start states and the effects of actions.
 ghost use Rattle.std.specs.Prelude.{◌≡◌, IfOk, OnOk, OnErr, cond, map, take};
-ghost use Rattle.plans.specs.Automata.{transition_of};
-ghost use Rattle.plans.specs.Signatures.{inputs};
-ghost use Rattle.plans.specs.Steps.{scope_in, start_value, start_of, is_enabled, applied, IsPartApplied, holds};
+ghost use Rattle.io_automata.specs.Automata.{transition_of};
+ghost use Rattle.io_automata.specs.Signatures.{inputs};
+ghost use Rattle.io_automata.specs.Steps.{scope_in, start_value, start_of, is_enabled, applied, IsPartApplied, holds};
 ghost use Rattle.terms.specs.Scopes.{scope};
 ghost use Rattle.terms.specs.TermTree.{term_tree};
 
-use crate::automaton::Entry;
 use crate::plan::Plan;
 use crate::plan::signature::takes_input;
 use evaluation::evaluate::is_true;
 use evaluation::{eval, run};
+use io_automata::Entry;
+use outcomes::asking::{env_of, holds};
 use std::alloc::Global;
 use terms::{Action, Cells, Env, NoMemory, Scalar, State, Term, Value};
 
 impl Plan {
-    ghost use Rattle.plans.specs.Automata.{component_at};
+    ghost use Rattle.io_automata.specs.Automata.{component_at};
     ghost use Rattle.plans.specs.Plans.{composition};
 
     /// The start state of component `i`.
@@ -112,30 +113,4 @@ fn start_values(alloc: Global, terms: &[Term], formals: &[Scalar]) -> Result<Vec
         values.push(eval(alloc, term, &env, &nothing)?)?;
     }
     Ok(values)
-}
-
-pub(super) fn env_of<'a>(formals: &'a [Scalar], parameters: &'a [Scalar]) -> Env<'a>
-    ensures { scope result ≡ scope_in formals.now parameters.now }
-{
-    Env {
-        formals,
-        parameters,
-        loops: [Scalar::Int(0); 3],
-    }
-}
-
-/// Whether the precondition of an entry holds for these arguments.
-#[inline(always)]
-pub(super) fn holds<C: Cells>(
-    alloc: Global,
-    entry: &Entry,
-    formals: &[Scalar],
-    args: &[Scalar],
-    cells: &C,
-) -> Result<bool, NoMemory>
-    ensures { IfOk result (λ holding. holding
-        ≡ holds (transition_of entry.now) formals.now (C.values cells.now) args.now) }
-{
-    let env = env_of(formals, args);
-    is_true(alloc, &entry.pre, &env, cells)
 }

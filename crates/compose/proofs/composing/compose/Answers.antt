@@ -1,10 +1,10 @@
 use Rattle.std.proofs.Common.{rules, ◌≡◌, length, map, sym, subst}
 use Rattle.ioa_check.specs.Refusals.{IsMeant}
 use Rattle.ioa_check.specs.Resolutions.{meaning}
-use Rattle.plans.specs.Automata.{composed}
-use Rattle.plans.specs.Compatible.{IsCompatible}
+use Rattle.io_automata.specs.Automata.{composed}
+use Rattle.io_automata.specs.Compatible.{IsCompatible}
 use Rattle.plans.specs.Plans.{text_of}
-use Rattle.plans.specs.WellFormed.{IsWellFormed}
+use Rattle.io_automata.specs.WellFormed.{IsWellFormed}
 use Rattle.compose.specs.Faults.{IsRefused}
 use Rattle.compose.proofs.Composed.{sound_of, members_of, refused, faultless, compatible, formed}
 use Rattle.compose.proofs.composing.compose.Goals as goal

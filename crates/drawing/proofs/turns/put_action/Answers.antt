@@ -1,6 +1,6 @@
 use Rattle.std.proofs.Common.{ℕ, List, ◌++◌, ◌-◌}
 use Rattle.plans.specs.Plans.{composition}
-use Rattle.plans.specs.Signatures.{receivers_of}
+use Rattle.io_automata.specs.Signatures.{receivers_of}
 use Rattle.trace.specs.Lines.{action_text}
 use Rattle.drawing.specs.Elements.{full_dot, label_text}
 use Rattle.drawing.specs.Turns.{arrows_text}

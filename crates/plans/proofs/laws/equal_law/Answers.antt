@@ -1,4 +1,4 @@
-use Rattle.plans.specs.SameLaws.{plan_is, plan_from}
+use Rattle.plans.specs.SamePlanLaws.{plan_is, plan_from}
 use Rattle.plans.proofs.laws.equal_law.Goals as goal
 
 pub returns-clause-same : goal.returns-clause-same

@@ -1,4 +1,4 @@
-use Rattle.plans.specs.Receivers.{receivers_rise, receivers_all, receiver_input}
+use Rattle.io_automata.specs.Receivers.{receivers_rise, receivers_all, receiver_input}
 use Rattle.plans.proofs.laws.receivers_law.Goals as goal
 
 pub returns-clause-once : goal.returns-clause-once

@@ -1,5 +1,5 @@
 use Rattle.plans.specs.Plans.{composition}
-use Rattle.plans.specs.TurnSteps.{turn_is_step as step_of_turn}
+use Rattle.io_automata.specs.TurnSteps.{turn_is_step as step_of_turn}
 use Rattle.plans.proofs.laws.turn_is_step.Goals as goal
 
 pub returns : goal.returns

@@ -1,6 +1,6 @@
 use Rattle.std.proofs.Common.{◌^◌, ◌<◌, length, sym, subst, arith}
 use Rattle.std.proofs.lemmas.List.{length-map}
-use Rattle.plans.specs.Automata.{instance_of}
+use Rattle.io_automata.specs.Automata.{instance_of}
 use Rattle.plans.specs.Plans.{composition}
 use Rattle.virtual_time.specs.Reference.{IsReference}
 use Rattle.task_seed.specs.Machines.{machine, end_rank}

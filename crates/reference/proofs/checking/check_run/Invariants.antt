@@ -1,6 +1,6 @@
 use Rattle.std.proofs.Common.{◌≡◌, length, take}
 use Rattle.plans.specs.Plans.{composition}
-use Rattle.plans.specs.Steps.{Leads, start_of}
+use Rattle.io_automata.specs.Steps.{Leads, start_of}
 use Rattle.reference.specs.Verdicts.{state_at}
 use Rattle.reference.proofs.checking.check_run.Given as goal
 

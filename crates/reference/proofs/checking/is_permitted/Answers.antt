@@ -3,8 +3,8 @@ use Rattle.std.proofs.lemmas.List.{get_or_read}
 use borrow.Author.Count.{below_more}
 use Rattle.terms.specs.Datum.{Datum}
 use Rattle.plans.specs.Plans.{composition}
-use Rattle.plans.specs.Signatures.{inputs, outputs, internals, controls}
-use Rattle.plans.specs.Steps.{is_enabled}
+use Rattle.io_automata.specs.Signatures.{inputs, outputs, internals, controls}
+use Rattle.io_automata.specs.Steps.{is_enabled}
 use Rattle.reference.specs.Verdicts.{IsPermittedBy, state_at}
 use Rattle.reference.proofs.Runs.{wider}
 use Rattle.reference.proofs.Taken.{taker_below, each_taker}

@@ -1,7 +1,7 @@
 use Rattle.std.proofs.Common.{rules, arith}
 use Rattle.std.proofs.lemmas.List.FromFn.{map-range_with_len_more}
 use Rattle.plans.specs.Plans.{composition}
-use Rattle.plans.specs.Steps.{start_of}
+use Rattle.io_automata.specs.Steps.{start_of}
 use Rattle.reference.proofs.checking.start_states.Goals as goal
 
 pub loop-i-preserved : goal.loop-i-preserved

@@ -1,7 +1,7 @@
 use Rattle.std.proofs.Common.{arith, ◌≡◌, ◌<◌, ◌∙◌, [], sym, length, get_or, length-set}
 use Rattle.std.proofs.lemmas.List.{get_or_default}
 use Rattle.plans.specs.Plans.{composition}
-use Rattle.plans.specs.Steps.{applied}
+use Rattle.io_automata.specs.Steps.{applied}
 use Rattle.reference.proofs.Taken.{taker_below, one_more, all_taken}
 use Rattle.reference.proofs.checking.take_action.Goals as goal
 

@@ -3,7 +3,7 @@ use Rattle.std.specs.List.{range_with_len}
 use Rattle.std.proofs.lemmas.List.FromFn.{map-range_with_len_more}
 use Rattle.undo_records.specs.States.{States}
 use Rattle.plans.specs.Plans.{composition}
-use Rattle.plans.specs.Steps.{start_of}
+use Rattle.io_automata.specs.Steps.{start_of}
 use Rattle.reference.specs.Taking.{plain}
 use Rattle.reference.proofs.frontier.start_states.Goals as goal
 

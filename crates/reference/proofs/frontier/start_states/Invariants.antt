@@ -1,7 +1,7 @@
 use Rattle.std.proofs.Common.{◌≡◌, map}
 use Rattle.std.specs.List.{range_with_len}
 use Rattle.plans.specs.Plans.{composition}
-use Rattle.plans.specs.Steps.{start_of}
+use Rattle.io_automata.specs.Steps.{start_of}
 use Rattle.reference.specs.Taking.{plain}
 use Rattle.reference.proofs.frontier.start_states.Given as goal
 

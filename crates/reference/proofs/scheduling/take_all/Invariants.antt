@@ -14,7 +14,7 @@ abbrev pub invariant-loop-turns : goal.invariant-loop-turns
 invariant-loop-turns g l = record {
   stands : IsBeforeLeast (system g.T.Turns.turn_of l.setup) l.frontier.places.items l.frontier.numbers.items l.frontier.states.items;
   clocks : AreClocks g.T.Turns.turn_of l.setup l.frontier.numbers.items l.frontier.clocks.clocks.items;
-  resting : AreResting (composition (plan_of l.setup)) l.frontier.states.items l.frontier.resting.tasks.items;
+  resting : AreResting (composition (plan_of l.setup)) l.frontier.states.items l.frontier.resting.components.items;
   taken : turns_of l.turns.items ≡ taken_at (system g.T.Turns.turn_of l.setup) l.frontier.places.items l.frontier.numbers.items;
   keys : KeysFit l.turns.items;
 }

@@ -26,4 +26,4 @@ returns-clause-ok g c =
 pub returns-clause-resting : goal.returns-clause-resting
 returns-clause-resting g c =
     still_resting (composition (plan_of c.args.setup.now)) (composition c.plan-plan.result.now) c.args.i c.args.action.now c.in_ok-among.among.now c.args.states.now c.take_action.new.states
-    c.args.resting.now.tasks.items c.wake_all.new.self.tasks.items c.requires.resting c.in_ok-take_action.ensures.ok c.wake_all.ensures
+    c.args.resting.now.components.items c.wake_all.new.self.components.items c.requires.resting c.in_ok-take_action.ensures.ok c.wake_all.ensures

@@ -13,7 +13,7 @@ returns-then-is_none-clause-resting g c =
     let found = c.outcome_into.new.found in
     let none : found ≡ None = search rules in
     let is = found_there p (composition c.plan.result.now) (ap composition c.plan.ensures) i turn.task turn.choice c.args.states.now c.from.result c.from.ensures c.index-states-from.result found c.in_ok-outcome_into.ensures.ok in
-    noted_here p i turn.task turn.choice c.args.states.now c.args.resting.now.tasks.items c.note.new.self.tasks.items c.requires.resting (λ state at. sym none ∙ is state at) c.note.ensures
+    noted_here p i turn.task turn.choice c.args.states.now c.args.resting.now.components.items c.note.new.self.components.items c.requires.resting (λ state at. sym none ∙ is state at) c.note.ensures
 
 pub returns-clause-found : goal.returns-clause-found
 returns-clause-found g c =

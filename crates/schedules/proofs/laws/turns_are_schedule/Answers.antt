@@ -1,11 +1,11 @@
 use Rattle.std.proofs.Common.{◌≡◌, ℕ, List, Some, subst, sym}
 use Rattle.terms.specs.Datum.{Datum}
 use Rattle.terms.specs.Named.{Named}
-use Rattle.plans.specs.Compatible.{IsCompatible}
-use Rattle.plans.specs.WellFormed.{IsWellFormed}
+use Rattle.io_automata.specs.Compatible.{IsCompatible}
+use Rattle.io_automata.specs.WellFormed.{IsWellFormed}
 use Rattle.plans.specs.Plans.{composition}
-use Rattle.plans.specs.Outcomes.{outcome_of}
-use Rattle.plans.specs.Steps.{Joint, applied}
+use Rattle.io_automata.specs.Outcomes.{outcome_of}
+use Rattle.io_automata.specs.Steps.{Joint, applied}
 use Rattle.virtual_time.specs.Reference.{IsReference, after}
 use Rattle.task_seed.specs.Setups.{system}
 use Rattle.task_seed.specs.Machines.{machine}

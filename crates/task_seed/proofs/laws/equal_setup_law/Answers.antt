@@ -1,7 +1,7 @@
 use Rattle.std.proofs.Common.{◌&&◌, nat_eq}
 use Rattle.terms.specs.SameTreeLaws.{both_true}
-use Rattle.plans.specs.SameCompositions.{same_plan}
-use Rattle.plans.specs.SameLaws.{plan_is}
+use Rattle.plans.specs.SamePlans.{same_plan}
+use Rattle.plans.specs.SamePlanLaws.{plan_is}
 use Rattle.task_seed.proofs.laws.equal_setup_law.Goals as goal
 
 pub returns-clause-composition : goal.returns-clause-composition

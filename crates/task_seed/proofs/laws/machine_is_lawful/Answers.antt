@@ -1,6 +1,6 @@
 use Rattle.std.proofs.Common.{arith}
 use Rattle.terms.specs.contracts.action.ActionOrd.TheImpl.Laws.{total-law}
-use Rattle.plans.specs.Automata.{instance_of}
+use Rattle.io_automata.specs.Automata.{instance_of}
 use Rattle.std.proofs.lemmas.List.{length-map}
 use Rattle.task_seed.specs.Setups.{system}
 use Rattle.task_seed.specs.MachineLaws.{machine_lawful, machine_counted}

@@ -1,5 +1,5 @@
 use Rattle.std.proofs.Common.{◌≡◌, ◌++◌, drop, map}
-use Rattle.plans.specs.Automata.{transition_of}
+use Rattle.io_automata.specs.Automata.{transition_of}
 use Rattle.compose.specs.Standings.{stood, stood_in}
 use Rattle.compose.proofs.compatibility.standing.add_standings.Given as goal
 

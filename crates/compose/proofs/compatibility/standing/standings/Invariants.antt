@@ -1,5 +1,5 @@
 use Rattle.std.proofs.Common.{◌≡◌, ◌++◌, drop, map}
-use Rattle.plans.specs.Automata.{composed}
+use Rattle.io_automata.specs.Automata.{composed}
 use Rattle.compose.specs.Standings.{stood, stands}
 use Rattle.compose.proofs.compatibility.standing.standings.Given as goal
 

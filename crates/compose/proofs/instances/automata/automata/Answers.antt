@@ -1,6 +1,6 @@
 use Rattle.std.proofs.Common.{rules, arith, ◌≡◌, ◌∷◌, ◌<◌, ◌^◌, [], Some, if◌then◌else◌, length, map, ap, ◌∙◌}
 use Rattle.std.specs.Vec.Iter.{into_iter_items}
-use Rattle.plans.specs.Automata.{absent}
+use Rattle.io_automata.specs.Automata.{absent}
 use Rattle.plans.specs.Plans.{text_of}
 use Rattle.ioa_check.specs.Resolutions.{automaton_meaning}
 use Rattle.compose.specs.Instances.{built}

@@ -1,7 +1,7 @@
 use Rattle.std.proofs.Common.{◌≡◌, ◌++◌, ◌<◌, ◌^◌, [], length, map}
 use Rattle.std.specs.List.{All}
 use Rattle.std.specs.Vec.Iter.{into_iter_items, into_iter_len}
-use Rattle.plans.specs.Automata.{with_formals}
+use Rattle.io_automata.specs.Automata.{with_formals}
 use Rattle.plans.specs.Plans.{text_of}
 use Rattle.ioa_check.specs.Resolutions.{automaton_meaning}
 use Rattle.compose.specs.Tables.{converted}

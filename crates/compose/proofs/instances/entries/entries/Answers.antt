@@ -1,6 +1,6 @@
 use Rattle.std.proofs.Common.{rules, arith, ◌≡◌, ◌∷◌, length, map, ap}
 use Rattle.std.specs.Vec.Iter.{into_iter_items}
-use Rattle.plans.specs.Automata.{transition_of}
+use Rattle.io_automata.specs.Automata.{transition_of}
 use Rattle.plans.specs.Plans.{text_of}
 use Rattle.ioa_check.specs.Resolutions.{transition_meaning}
 use Rattle.compose.specs.Instances.{transition}

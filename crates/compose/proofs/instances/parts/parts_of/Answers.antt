@@ -1,5 +1,5 @@
 use Rattle.std.proofs.Common.{◌≡◌, ◌<◌, ◌^◌, [], map, length, sym, ap, refl, subst, ◌∙◌}
-use Rattle.plans.specs.Automata.{with_formals}
+use Rattle.io_automata.specs.Automata.{with_formals}
 use Rattle.plans.specs.Plans.{text_of}
 use Rattle.ioa_check.specs.Resolutions.{meaning}
 use Rattle.compose.specs.Names.{IsRising}

@@ -2,8 +2,8 @@ use Rattle.std.proofs.Common.{◌++◌, ◌∷◌, [], subst}
 use Rattle.std.specs.Prelude.{◌≡◌, ℕ}
 use Rattle.std.specs.List.Sorted.{IsStrictlyIncreasing}
 use Rattle.plans.specs.Plans.{composition}
-use Rattle.plans.specs.Receivers.{AreCandidates}
-use Rattle.plans.specs.Signatures.{receivers_of}
+use Rattle.io_automata.specs.Receivers.{AreCandidates}
+use Rattle.io_automata.specs.Signatures.{receivers_of}
 use Rattle.plans.proofs.Passing.{lent_are, receivers_are, if_ok}
 use Rattle.plans.proofs.plan.Plan.candidates.Goals as goal
 

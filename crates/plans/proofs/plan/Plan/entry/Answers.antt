@@ -1,10 +1,10 @@
 use Rattle.std.proofs.Common.{ap, ◌∙◌}
 use Rattle.std.specs.Option.{option_map}
 use Rattle.std.specs.Prelude.{find}
-use Rattle.plans.specs.Automata.{transition_of, component_at}
+use Rattle.io_automata.specs.Automata.{transition_of, component_at}
 use Rattle.plans.specs.Plans.{composition}
-use Rattle.plans.specs.Signatures.{has}
-use Rattle.plans.specs.Found.{entry_found}
+use Rattle.io_automata.specs.Signatures.{has}
+use Rattle.io_automata.specs.Found.{entry_found}
 use Rattle.plans.proofs.plan.Plan.entry.Goals as goal
 
 pub returns : goal.returns

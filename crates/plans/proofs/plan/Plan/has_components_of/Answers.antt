@@ -1,7 +1,7 @@
 use Rattle.std.proofs.Common.{◌≡◌, ◌∙◌, arith, length}
-use Rattle.plans.specs.Automata.{absent}
+use Rattle.io_automata.specs.Automata.{absent}
 use Rattle.plans.specs.Plans.{composition}
-use Rattle.plans.specs.SameCompositions.{same_instance}
+use Rattle.io_automata.specs.SameCompositions.{same_instance}
 use Rattle.plans.proofs.Pairs.{by_places}
 use Rattle.plans.proofs.plan.Plan.has_components_of.Goals as goal
 

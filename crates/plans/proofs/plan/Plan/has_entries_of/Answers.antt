@@ -1,7 +1,7 @@
 use Rattle.std.proofs.Common.{◌∙◌, refl}
-use Rattle.plans.specs.Automata.{component_at, transition_of}
+use Rattle.io_automata.specs.Automata.{component_at, transition_of}
 use Rattle.plans.specs.Plans.{composition}
-use Rattle.plans.specs.SameCompositions.{same_entry, same_transition}
+use Rattle.io_automata.specs.SameCompositions.{same_entry, same_transition}
 use Rattle.plans.proofs.Pairs.{by_views}
 use Rattle.plans.proofs.plan.Plan.has_entries_of.Goals as goal
 

@@ -2,8 +2,8 @@ use Rattle.std.proofs.Common.{◌≡◌, ◌∙◌, arith, length, refl}
 use Rattle.std.specs.Bool.{beq}
 use Rattle.std.specs.List.{list_all, zip}
 use Rattle.plans.specs.Plans.{mark_of}
-use Rattle.plans.specs.SameCompositions.{same_mark_of}
-use Rattle.plans.specs.declared.automaton.ActionName.{ActionName}
+use Rattle.plans.specs.SamePlans.{same_mark_of}
+use Rattle.io_automata.specs.declared.automaton.ActionName.{ActionName}
 use Rattle.plans.proofs.Pairs.{by_pairs, by_items}
 use Rattle.plans.proofs.plan.Plan.has_marks_of.Goals as goal
 

@@ -2,8 +2,8 @@ use Rattle.std.proofs.Common.{◌≡◌, ◌∙◌, arith, length, nat_eq, refl}
 use Rattle.std.specs.List.{list_all, zip}
 use lib.Pointwise.{pointwise}
 use Rattle.plans.specs.Plans.{text_of}
-use Rattle.plans.specs.SameCompositions.{same_text_of}
-use Rattle.plans.specs.declared.automaton.ActionName.{ActionName}
+use Rattle.plans.specs.SamePlans.{same_text_of}
+use Rattle.io_automata.specs.declared.automaton.ActionName.{ActionName}
 use Rattle.plans.proofs.Pairs.{by_pairs, by_items}
 use Rattle.plans.proofs.plan.Plan.has_names_of.Goals as goal
 

@@ -2,7 +2,7 @@ use Rattle.std.proofs.Common.{◌∙◌, refl}
 use Rattle.terms.specs.SameTrees.{same_term}
 use Rattle.terms.specs.TermTree.{term_tree}
 use Rattle.terms.specs.contracts.same.TermPartialEq.TheImpl as term_eq
-use Rattle.plans.specs.Automata.{component_at}
+use Rattle.io_automata.specs.Automata.{component_at}
 use Rattle.plans.specs.Plans.{composition}
 use Rattle.plans.proofs.Pairs.{by_views}
 use Rattle.plans.proofs.plan.Plan.has_start_of.Goals as goal

@@ -1,6 +1,6 @@
 use Rattle.std.proofs.Common.{◌∙◌, refl, nat_eq}
 use lib.Pointwise.{pointwise}
-use Rattle.plans.specs.Automata.{component_at, items_in}
+use Rattle.io_automata.specs.Automata.{component_at, items_in}
 use Rattle.plans.specs.Plans.{composition}
 use Rattle.plans.proofs.Pairs.{by_views}
 use Rattle.plans.proofs.plan.Plan.has_tasks_of.Goals as goal

@@ -1,6 +1,6 @@
 use Rattle.std.proofs.Common.{◌∙◌}
 use Rattle.plans.specs.Plans.{composition, hides}
-use Rattle.plans.specs.External.{seen_is_external}
+use Rattle.io_automata.specs.External.{seen_is_external}
 use Rattle.plans.proofs.plan.Plan.is_external.Goals as goal
 
 pub returns : goal.returns

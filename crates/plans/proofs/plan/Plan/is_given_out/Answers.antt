@@ -1,6 +1,6 @@
 use Rattle.std.proofs.Common.{◌∙◌}
 use Rattle.plans.specs.Plans.{composition}
-use Rattle.plans.specs.External.{given_somewhere}
+use Rattle.io_automata.specs.External.{given_somewhere}
 use Rattle.plans.proofs.plan.Plan.is_given_out.Goals as goal
 
 pub returns : goal.returns

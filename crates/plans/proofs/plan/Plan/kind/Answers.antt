@@ -1,7 +1,7 @@
 use Rattle.std.proofs.Common.{ap, ◌∙◌}
-use Rattle.plans.specs.Automata.{component_at}
+use Rattle.io_automata.specs.Automata.{component_at}
 use Rattle.plans.specs.Plans.{composition}
-use Rattle.plans.specs.Found.{kind_found, kind-entry_in, disjoint_at}
+use Rattle.io_automata.specs.Found.{kind_found, kind-entry_in, disjoint_at}
 use Rattle.plans.proofs.plan.Plan.kind.Goals as goal
 
 pub returns-in-Some : goal.returns-in-Some

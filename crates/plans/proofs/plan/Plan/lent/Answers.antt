@@ -4,8 +4,8 @@ use Rattle.std.proofs.Math.Logic.{∥∥₁_elim}
 use Rattle.std.specs.Prelude.{filter}
 use Rattle.std.specs.List.Sorted.{IsStrictlyIncreasing}
 use Rattle.plans.specs.Plans.{composition}
-use Rattle.plans.specs.Patterns.{Kept, AreRising}
-use Rattle.plans.specs.Signatures.{receives, receivers_of}
+use Rattle.patterns.specs.Patterns.{Kept, AreRising}
+use Rattle.io_automata.specs.Signatures.{receives, receivers_of}
 use Rattle.plans.proofs.Candidates.{HasListed, receivers_among, taker_found, if_both}
 use Rattle.plans.proofs.plan.Plan.lent.Goals as goal
 

@@ -1,9 +1,9 @@
 use Rattle.std.proofs.Common.{◌≡◌, ◌∙◌, ap, rules, sym, subst, true, false, Bool, Some}
 use Rattle.std.specs.Prelude.{OnOk, cond}
-use Rattle.plans.specs.Automata.{transition_of}
+use Rattle.io_automata.specs.Automata.{transition_of}
 use Rattle.plans.specs.Plans.{composition}
-use Rattle.plans.specs.Signatures.{inputs}
-use Rattle.plans.specs.Steps.{applied}
+use Rattle.io_automata.specs.Signatures.{inputs}
+use Rattle.io_automata.specs.Steps.{applied}
 use Rattle.plans.proofs.Passing.{takes_by_entry}
 use Rattle.plans.proofs.plan.Plan.receive.Goals as goal
 

@@ -1,7 +1,7 @@
 use Rattle.std.proofs.Common.{ℕ, ◌≡◌, List, subst, IfOk, IfSome}
 use Rattle.std.specs.Prelude.{filter}
 use Rattle.plans.specs.Plans.{composition}
-use Rattle.plans.specs.Signatures.{receives, receivers_of}
+use Rattle.io_automata.specs.Signatures.{receives, receivers_of}
 use Rattle.plans.proofs.plan.Plan.receivers.Goals as goal
 
 pub returns-in-Some : goal.returns-in-Some

@@ -1,7 +1,7 @@
 use Rattle.std.proofs.Common.{◌≡◌, take}
 use Rattle.std.specs.Prelude.{filter}
 use Rattle.plans.specs.Plans.{composition}
-use Rattle.plans.specs.Signatures.{receives}
+use Rattle.io_automata.specs.Signatures.{receives}
 use Rattle.plans.proofs.plan.Plan.receivers_among.Given as goal
 
 abbrev pub invariant-loop-j : goal.invariant-loop-j

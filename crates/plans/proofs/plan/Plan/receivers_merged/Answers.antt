@@ -1,7 +1,7 @@
 use Rattle.std.proofs.Common.{ℕ, ◌≡◌, List, ◌∙◌, ap, subst, IfOk}
 use Rattle.std.specs.Prelude.{filter}
 use Rattle.plans.specs.Plans.{composition}
-use Rattle.plans.specs.Signatures.{receives}
+use Rattle.io_automata.specs.Signatures.{receives}
 use Rattle.plans.proofs.plan.Plan.receivers_merged.Goals as goal
 
 pub returns : goal.returns

@@ -1,7 +1,7 @@
 use Rattle.std.proofs.Common.{ℕ, ◌≡◌, List, ◌∙◌, ap, subst, IfOk, is_some}
 use Rattle.std.specs.Prelude.{filter}
 use Rattle.plans.specs.Plans.{composition}
-use Rattle.plans.specs.Signatures.{kind_of}
+use Rattle.io_automata.specs.Signatures.{kind_of}
 use Rattle.plans.proofs.plan.Plan.takers.Goals as goal
 
 pub returns : goal.returns

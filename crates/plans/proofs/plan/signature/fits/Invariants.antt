@@ -1,5 +1,5 @@
 use Rattle.std.proofs.Common.{◌≡◌, drop}
-use Rattle.plans.specs.Signatures.{fits}
+use Rattle.io_automata.specs.Signatures.{fits}
 use Rattle.plans.proofs.plan.signature.fits.Given as goal
 
 abbrev pub invariant-loop-k : goal.invariant-loop-k

@@ -1,6 +1,6 @@
 use Rattle.std.proofs.Common.{◌≡◌, map, take}
 use Rattle.terms.specs.TermTree.{term_tree}
-use Rattle.plans.specs.Steps.{start_value}
+use Rattle.io_automata.specs.Steps.{start_value}
 use Rattle.plans.proofs.plan.step.start_values.Given as goal
 
 abbrev pub invariant-loop-term : goal.invariant-loop-term

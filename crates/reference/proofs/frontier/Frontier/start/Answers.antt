@@ -2,7 +2,7 @@ use Rattle.std.proofs.Common.{◌≡◌, ◌∙◌, ap, length, map, refl, sym, 
 use Rattle.std.specs.Prelude.{replicate}
 use Rattle.std.specs.List.{range_with_len}
 use Rattle.plans.specs.Plans.{composition}
-use Rattle.plans.specs.Steps.{start_of}
+use Rattle.io_automata.specs.Steps.{start_of}
 use Rattle.task_seed.specs.Setups.{system}
 use Rattle.task_seed.specs.Machines.{machine}
 use Rattle.reference.specs.Clocks.{AreClocks}

@@ -14,7 +14,7 @@ invariant_of-result g c =
     let f = c.in_ok-frontier.frontier in (
       subst (λ p. IsBeforeLeast (system t p) f.places.items f.numbers.items f.states.items) c.deref.ensures c.in_ok-frontier.ensures.stands,
       subst (λ p. AreClocks t p f.numbers.items f.clocks.clocks.items) c.deref.ensures c.in_ok-frontier.ensures.clocks,
-      subst (λ p. AreResting (composition (plan_of p)) f.states.items f.resting.tasks.items) c.deref.ensures c.in_ok-frontier.ensures.resting,
+      subst (λ p. AreResting (composition (plan_of p)) f.states.items f.resting.components.items) c.deref.ensures c.in_ok-frontier.ensures.resting,
     )
 
 pub returns : goal.returns

@@ -1,5 +1,5 @@
 use Rattle.std.proofs.Common.{ap, subst, sym, ◌∙◌}
-use Rattle.plans.specs.Outcomes.{task_count}
+use Rattle.io_automata.specs.Outcomes.{task_count}
 use Rattle.plans.specs.Plans.{composition}
 use Rattle.task_seed.specs.Clocks.{IsOwnTurn}
 use Rattle.task_seed.specs.declared.clock.Clock.{Clock}

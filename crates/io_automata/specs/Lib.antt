@@ -1,0 +1,16 @@
+pub mod Automata
+pub mod Compatible
+pub mod Each
+pub mod Enabling
+pub mod External
+pub mod Found
+pub mod Lists
+pub mod Outcomes
+pub mod Receivers
+pub mod SameCompositions
+pub mod SameLaws
+pub mod Signatures
+pub mod Steps
+pub mod Tuples
+pub mod TurnSteps
+pub mod WellFormed

@@ -1,0 +1,14 @@
+mod AllOrNone
+mod Among
+mod Asked
+mod Chosen
+mod Counted
+mod Finding
+mod Firsts
+mod Members
+mod OneEntry
+mod Picked
+mod Placed
+mod Ranges
+mod Solved
+mod Walking
