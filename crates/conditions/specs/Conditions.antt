@@ -48,11 +48,11 @@ abbrev pub AreWithin : ℕ → List Test → Type 0
 AreWithin k [] = zero ≡ zero
 AreWithin k (test ∷ tests) = (reach (term_tree test.term) ≤ k) × AreWithin k tests
 
--- where the tests hold, the last of the first k parameters has the value of a term, which mentions only those before it
+-- where the tests hold, the last of the first k parameters has the value of a term, which mentions only those before it; and where there is no other test, the test holds where it has that value
 abbrev pub Binds : ℕ → List Test → Option Term → Type 0
 Binds k tests None = zero ≡ zero
 Binds zero tests (Some term) = ⊥
-Binds (suc p) tests (Some term) = (reach (term_tree term) ≤ p) × ((scope : Scope) (state : List Datum) → tests_hold scope state tests ≡ true → value (term_tree term) scope state ≡ Just (slot scope.parameters p))
+Binds (suc p) tests (Some term) = (reach (term_tree term) ≤ p) × ((scope : Scope) (state : List Datum) → tests_hold scope state tests ≡ true → value (term_tree term) scope state ≡ Just (slot scope.parameters p)) × ((scope : Scope) (state : List Datum) → length tests ≡ 1 → value (term_tree term) scope state ≡ Just (slot scope.parameters p) → tests_hold scope state tests ≡ true)
 
 abbrev pub AreBranches : ℕ → List Branch → Type 0
 AreBranches k [] = zero ≡ zero
