@@ -6,6 +6,7 @@ ghost use Rattle.terms.specs.Meaning.{value, combined, cell};
 ghost use Rattle.terms.specs.Scopes.{scope};
 ghost use Rattle.terms.specs.TermTree.{term_tree, operand_tree, link_tree};
 
+use crate::plain::number_made_up;
 use crate::{number, parts, unary};
 use terms::cells::slot_of;
 use terms::reading::{number_in, truth_in};
@@ -137,11 +138,35 @@ pub(crate) fn place_of<'a, C: Cells>(
         Operand::Cell(n) => cells.get(*n),
         Operand::Head(a, _) => unary::item_at(items_in(a, env, cells), 0),
         Operand::Index(a, at, listed) => {
-            let at = scalar_of(at, env, cells)?;
+            let at = index_of(at, env, cells)?;
             unary::item_at(items_in(a, env, cells), parts::place_in(*listed, at))
         }
         _ => None,
     }
+}
+
+// The scalar that an index is: at once where it is read off, or is a whole number made of what is, as most are.
+#[inline(always)]
+#[cycle(glance)]
+fn index_of<C: Cells>(term: &Term, env: &Env, cells: &C) -> Option<Scalar>
+    ensures { IfSome result
+        (λ s. value (term_tree term.now) (scope env.now) (C.values cells.now) ≡ Just s) }
+{
+    match index_at_once(term, env, cells) {
+        Some(scalar) => Some(scalar),
+        None => scalar_of(term, env, cells),
+    }
+}
+
+#[inline(always)]
+fn index_at_once<C: Cells>(term: &Term, env: &Env, cells: &C) -> Option<Scalar>
+    ensures { IfSome result
+        (λ s. value (term_tree term.now) (scope env.now) (C.values cells.now) ≡ Just s) }
+{
+    if term.links.is_empty() {
+        return read_off(&term.first, env, cells);
+    }
+    Some(Scalar::Int(number_made_up(term, env, cells)?))
 }
 
 // The items of a sequence or an array in the state.

@@ -1,4 +1,4 @@
-//! What is read off at once: a literal, what stands in a slot or in a cell, and what one operator makes of two of them.
+//! What is read off at once: a literal, what stands in a slot or in a cell, and what operators make of these.
 ghost use Rattle.std.specs.Prelude.{◌≡◌, IfSome, map};
 ghost use Rattle.terms.specs.Datum.{Just};
 ghost use Rattle.terms.specs.Linked.{value_on, values_on};
@@ -58,6 +58,9 @@ pub(crate) fn number_at<C: Cells>(operand: &Operand, env: &Env, cells: &C) -> Op
     if let Operand::Loop(n) = operand {
         return as_number(slot_of(&env.loops, *n));
     }
+    if let Operand::Parameter(n) = operand {
+        return as_number(slot_of(env.parameters, *n));
+    }
     number_in_slot(operand, env, cells)
 }
 
@@ -70,7 +73,6 @@ fn number_in_slot<C: Cells>(operand: &Operand, env: &Env, cells: &C) -> Option<i
     let _ = cells;
     match operand {
         Operand::Formal(n) => as_number(slot_of(env.formals, *n)),
-        Operand::Parameter(n) => as_number(slot_of(env.parameters, *n)),
         _ => None,
     }
 }
@@ -247,6 +249,61 @@ pub(crate) fn number_alone<C: Cells>(term: &Term, env: &Env, cells: &C) -> Optio
         return number_at(&term.first, env, cells);
     }
     None
+}
+
+/// The whole number that a term is where it is made of what is read off alone.
+#[inline(never)]
+#[cycle(sums)]
+pub(crate) fn number_made_up<C: Cells>(term: &Term, env: &Env, cells: &C) -> Option<i64>
+    ensures { IfSome result
+        (λ n. value (term_tree term.now) (scope env.now) (C.values cells.now)
+        ≡ Just (Scalar.Int n)) }
+{
+    let first = number_at(&term.first, env, cells)?;
+    made_up_on(first, term.links.as_slice(), env, cells)
+}
+
+#[inline(always)]
+#[cycle(sums)]
+fn made_up_on<C: Cells>(first: i64, links: &[Link], env: &Env, cells: &C) -> Option<i64>
+    ensures { IfSome result
+        (λ n. values_on (map link_tree links.now) (scope env.now) (C.values cells.now)
+        (Just (Scalar.Int first)) ≡ Just (Scalar.Int n)) }
+{
+    let mut number = first;
+    for link in links {
+        number = made_up_with(number, link, env, cells)?;
+    }
+    Some(number)
+}
+
+#[inline(always)]
+#[cycle(sums)]
+fn made_up_with<C: Cells>(left: i64, link: &Link, env: &Env, cells: &C) -> Option<i64>
+    ensures { IfSome result
+        (λ n. value_on (link_tree link.now) (scope env.now) (C.values cells.now)
+        (Just (Scalar.Int left)) ≡ Just (Scalar.Int n)) }
+{
+    match link {
+        Link::Operator(operator, right) => {
+            let right = right_made_up(right, env, cells)?;
+            calculated(*operator, left, right)
+        }
+        Link::Modulo(k) => Some(number::modulo(left, *k)),
+    }
+}
+
+#[inline(always)]
+#[cycle(sums)]
+fn right_made_up<C: Cells>(term: &Term, env: &Env, cells: &C) -> Option<i64>
+    ensures { IfSome result
+        (λ n. value (term_tree term.now) (scope env.now) (C.values cells.now)
+        ≡ Just (Scalar.Int n)) }
+{
+    if term.links.is_empty() {
+        return number_at(&term.first, env, cells);
+    }
+    number_made_up(term, env, cells)
 }
 
 /// The whole number that an operator makes of two; `None` where it makes none.
