@@ -10,7 +10,7 @@ use Rattle.terms.specs.TermTree.{term_tree}
 use Rattle.conditions.specs.declared.condition.Test.{Test}
 use Rattle.conditions.specs.declared.condition.Branch.{Branch}
 use Rattle.conditions.specs.declared.condition.Stage.{Stage}
-use Rattle.conditions.specs.Conditions.{turned, test_holds, tests_hold, left_after, left_after_all, is_one_left, AreWithin, Binds, AreBranches, AreStages}
+use Rattle.conditions.specs.Conditions.{turned, test_holds, tests_hold, left_after, left_after_all, is_one_left, AreWithin, Binds, AreBranches, AreStages, AreApart, IsApart}
 use Rattle.conditions.specs.Branches.{TestTree, test_tree, one_holds}
 use Rattle.conditions.specs.Held.{hold_at, hold_below, each_at, each_below, each_asked, AreAllWithin}
 use Rattle.conditions.specs.Reach.{reach}
@@ -130,14 +130,6 @@ left_next scope state k (tests ∷ branches) (branch ∷ asked) h =
     let others = left_next scope state k branches asked more in
     λ i. first i ∷ others i
 
-stages_more : (scope : Scope) (state : List Datum) (stages : List Stage) (stage : Stage) (left : List Truth) → left_after_all scope state (stages ++ stage ∷ []) left ≡ left_after scope state stage.branches.items (left_after_all scope state stages left)
-stages_more scope state [] stage left = refl
-stages_more scope state (other ∷ stages) stage left = stages_more scope state stages stage (left_after scope state other.branches.items left)
-
-are_more : (n k m : ℕ) (stages : List Stage) (stage : Stage) → m ≡ k + length stages → AreStages n k stages → length stage.branches.items ≡ n → AreBranches m stage.branches.items → AreStages n k (stages ++ stage ∷ [])
-are_more n k m [] stage e h l b = (l, subst (λ x. AreBranches x stage.branches.items) (let same : m ≡ k = omega arith in same) b, refl)
-are_more n k m (other ∷ stages) stage e h l b = (h.0, h.1, are_more n (suc k) m stages stage (omega arith) h.2 l b)
-
 below_none : (scope : Scope) (state : List Datum) (tests : List Test) → hold_below scope state zero tests ≡ true
 below_none scope state [] = refl
 below_none scope state (test ∷ tests) =
@@ -145,20 +137,9 @@ below_none scope state (test ∷ tests) =
     ∙ below_none scope state tests
 
 -- before any stage all branches are left
-pub each_none : (scope : Scope) (state : List Datum) (branches : List (Vec Test Global)) → replicate (length branches) true ≡ each_below scope state zero branches
+each_none : (scope : Scope) (state : List Datum) (branches : List (Vec Test Global)) → replicate (length branches) true ≡ each_below scope state zero branches
 each_none scope state [] = refl
 each_none scope state (tests ∷ branches) = λ i. sym (below_none scope state tests.items) i ∷ each_none scope state branches i
-
--- one stage more
-pub stage_next : (n : ℕ) (branches : List (Vec Test Global)) (stages more : List Stage) (stage : Stage) → more ≡ stages ++ stage ∷ [] → ((scope : Scope) (state : List Datum) → each_asked scope state stage.branches.items ≡ each_at scope state n branches) → length stages ≡ n → ((scope : Scope) (state : List Datum) → left_after_all scope state stages (replicate (length branches) true) ≡ each_below scope state n branches) → (scope : Scope) (state : List Datum) → left_after_all scope state more (replicate (length branches) true) ≡ each_below scope state (suc n) branches
-stage_next n branches stages more stage e h l b scope state =
-    ap (λ list. left_after_all scope state list (replicate (length branches) true)) e
-    ∙ stages_more scope state stages stage (replicate (length branches) true)
-    ∙ ap (left_after scope state stage.branches.items) (b scope state)
-    ∙ left_next scope state n branches stage.branches.items (h scope state)
-
-pub are_next : (m n : ℕ) (stages more : List Stage) (stage : Stage) → more ≡ stages ++ stage ∷ [] → length stages ≡ n → AreStages m 0 stages → length stage.branches.items ≡ m → AreBranches n stage.branches.items → AreStages m 0 more
-are_next m n stages more stage e k h l b = subst (AreStages m 0) (sym e) (are_more m 0 n stages stage (let same : n ≡ 0 + length stages = omega arith in same) h l b)
 
 below_all : (scope : Scope) (state : List Datum) (k : ℕ) (tests : List Test) → AreWithin k tests → hold_below scope state (suc k) tests ≡ tests_hold scope state tests
 below_all scope state k [] h = refl
@@ -196,23 +177,37 @@ count_more {A = A} xs more x n e h = ap length e ∙ all xs ∙ ap suc h where
   all [] = refl
   all (y ∷ ys) = ap suc (all ys)
 
--- the stages that have been made so far
+-- the last stages, of which the first is asked once `from` parameters have values
 pub record AreMade (branches : List (Vec Test Global)) (last : ℕ) (stages : List Stage) : Type 0 where
-  pub are : AreStages (length branches) 0 stages
-  pub held : (scope : Scope) (state : List Datum) → left_after_all scope state stages (replicate (length branches) true) ≡ each_below scope state (length stages) branches
-  pub few : length stages ≤ suc last
+  pub from : ℕ
+  pub all : from + length stages ≡ suc last
+  pub are : AreStages (length branches) from stages
+  pub held : (scope : Scope) (state : List Datum) → left_after_all scope state stages (each_below scope state from branches) ≡ each_below scope state (suc last) branches
+  pub apart : AreApart from stages
 
 pub stages_begin : (branches : List (Vec Test Global)) (stages : List Stage) (last : ℕ) → stages ≡ [] → AreMade branches last stages
-stages_begin branches stages last e = subst (AreMade branches last) (sym e) (record { are = refl; held = λ scope state. each_none scope state branches; few = omega arith })
+stages_begin branches stages last e = subst (AreMade branches last) (sym e) (record { from = suc last; all = omega arith; are = refl; held = λ scope state. refl; apart = refl })
 
-pub stages_go_on : (branches : List (Vec Test Global)) (stages more : List Stage) (stage : Stage) (n last : ℕ) → more ≡ stages ++ stage ∷ [] → length stages ≡ n → n ≤ last → AreStages (length branches) 0 stages → ((scope : Scope) (state : List Datum) → left_after_all scope state stages (replicate (length branches) true) ≡ each_below scope state (length stages) branches) → AreBranches n stage.branches.items → ((scope : Scope) (state : List Datum) → each_asked scope state stage.branches.items ≡ each_at scope state n branches) → length stage.branches.items ≡ length branches → AreMade branches last more
-stages_go_on branches stages more stage n last e k l a b s h m =
-    let many : length more ≡ suc n = count_more stages more stage n e k in
-    record {
-      are = are_next (length branches) n stages more stage e k a m s;
-      held = λ scope state. stage_next n branches stages more stage e h k (λ sc st. b sc st ∙ ap (λ j. each_below sc st j branches) k) scope state ∙ ap (λ j. each_below scope state j branches) (sym many);
-      few = omega (arith, many, l);
-    }
+-- the stage before them
+pub stages_go_on : (branches : List (Vec Test Global)) (stages more : List Stage) (stage : Stage) (k last : ℕ) → more ≡ stage ∷ stages → k + length stages ≡ last → AreMade branches last stages → AreBranches k stage.branches.items → ((scope : Scope) (state : List Datum) → each_asked scope state stage.branches.items ≡ each_at scope state k branches) → length stage.branches.items ≡ length branches → IsApart k stage.apart stages → AreMade branches last more
+stages_go_on branches stages more stage k last e l made s h m a =
+    let next : made.from ≡ suc k = omega (arith, made.all, l) in
+    subst (AreMade branches last) (sym e) (record {
+      from = k;
+      all = omega (arith, l);
+      are = (m, s, subst (λ j. AreStages (length branches) j stages) next made.are);
+      held = λ scope state.
+          ap (left_after_all scope state stages) (left_next scope state k branches stage.branches.items (h scope state) ∙ ap (λ j. each_below scope state j branches) (sym next))
+          ∙ made.held scope state;
+      apart = (a, subst (λ j. AreApart j stages) next made.apart);
+    })
+
+-- all of them, asked of all branches
+pub all_held : (branches : List (Vec Test Global)) (last : ℕ) (stages : List Stage) (made : AreMade branches last stages) → last < length stages → (scope : Scope) (state : List Datum) → left_after_all scope state stages (replicate (length branches) true) ≡ each_below scope state (suc last) branches
+all_held branches last stages made h scope state =
+    let first : made.from ≡ 0 = omega (arith, made.all, h) in
+    ap (left_after_all scope state stages) (each_none scope state branches ∙ ap (λ j. each_below scope state j branches) (sym first))
+    ∙ made.held scope state
 
 pub all_met : (scope : Scope) (state : List Datum) (branches others : List (Vec Test Global)) (last number : ℕ) (stages : List Stage) → others ≡ branches → number ≡ length branches → AreAllWithin last others → left_after_all scope state stages (replicate (length others) true) ≡ each_below scope state (suc last) others → is_one_left (left_after_all scope state stages (replicate number true)) ≡ one_holds scope state branches
 all_met scope state branches others last number stages e n w h =

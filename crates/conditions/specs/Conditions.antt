@@ -8,6 +8,7 @@ use Rattle.conditions.specs.declared.condition.Test.{Test}
 use Rattle.conditions.specs.declared.condition.Branch.{Branch}
 use Rattle.conditions.specs.declared.condition.Stage.{Stage}
 use Rattle.conditions.specs.declared.condition.Condition.{Condition}
+use Rattle.conditions.specs.Mentions.{mentions}
 use Rattle.conditions.specs.Reach.{reach}
 
 -- a truth value, or its inverse
@@ -63,8 +64,34 @@ abbrev pub AreStages : ℕ → ℕ → List Stage → Type 0
 AreStages n k [] = zero ≡ zero
 AreStages n k (stage ∷ stages) = (length stage.branches.items ≡ n) × AreBranches k stage.branches.items × AreStages n (suc k) stages
 
+-- no test mentions parameter p
+abbrev pub AreTestsWithout : ℕ → List Test → Type 0
+AreTestsWithout p [] = zero ≡ zero
+AreTestsWithout p (test ∷ tests) = (mentions p (term_tree test.term) ≡ false) × AreTestsWithout p tests
+
+-- the same of each branch
+abbrev pub AreBranchesWithout : ℕ → List Branch → Type 0
+AreBranchesWithout p [] = zero ≡ zero
+AreBranchesWithout p (branch ∷ branches) = AreTestsWithout p branch.tests.items × AreBranchesWithout p branches
+
+-- no test of these stages mentions parameter p
+abbrev pub AreWithout : ℕ → List Stage → Type 0
+AreWithout p [] = zero ≡ zero
+AreWithout p (stage ∷ stages) = AreBranchesWithout p stage.branches.items × AreWithout p stages
+
+-- the stage after the first k parameters is apart only if no later stage mentions the last of these; the stage before all parameters is not apart
+abbrev pub IsApart : ℕ → Truth → List Stage → Type 0
+IsApart zero apart later = apart ≡ false
+IsApart (suc p) apart later = apart ≡ true → AreWithout p later
+
+-- this holds of each of the stages from the one at which the first k parameters have values
+abbrev pub AreApart : ℕ → List Stage → Type 0
+AreApart k [] = zero ≡ zero
+AreApart k (stage ∷ stages) = IsApart k stage.apart stages × AreApart (suc k) stages
+
 -- the condition is a precondition solved
 pub record IsSolved (pre : TermTree) (condition : Condition) : Type 0 where
   pub met : (scope : Scope) (state : List Datum) → is_met scope state condition ≡ truth (value pre scope state)
   pub stages : AreStages condition.branches 0 condition.stages.items
   pub few : condition.branches ≤ 16
+  pub apart : AreApart 0 condition.stages.items

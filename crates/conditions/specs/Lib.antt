@@ -1,4 +1,5 @@
 pub mod Reach
+pub mod Mentions
 pub mod Conditions
 pub mod Stages
 pub mod Branches

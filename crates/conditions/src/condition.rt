@@ -24,9 +24,11 @@ pub struct Branch {
 }
 
 /// Stage k is asked once the first k parameters have values; it has for each branch its tests.
+/// `apart`: there is a last one of these parameters, and no later stage mentions it.
 #[derive(Drop)]
 pub struct Stage {
     pub branches: Vec<Branch>,
+    pub apart: bool,
 }
 
 /// A precondition solved: one of its branches has to hold, and a branch holds if its tests at all

@@ -2,10 +2,12 @@
 //! as soon as their parameters have values.
 #![tactic(auto)]
 
+mod apart;
 mod bounds;
 mod branches;
 mod condition;
 mod copy;
+mod mentions;
 mod reach;
 mod stages;
 

@@ -1,7 +1,8 @@
 //! The tests of branches, each at the first stage at which it can be asked.
 ghost use Rattle.std.specs.Prelude.{◌≡◌, ◌≤◌, ◌&&◌, suc, true, if◌then◌else◌, nat_eq};
 ghost use Rattle.std.specs.Prelude.{length, List, replicate, IfOk, OnOk};
-ghost use Rattle.conditions.specs.Conditions.{AreBranches, AreStages, AreWithin, Binds};
+ghost use Rattle.conditions.specs.Conditions.{AreApart, AreBranches, AreStages, AreWithin};
+ghost use Rattle.conditions.specs.Conditions.{Binds, IsApart};
 ghost use Rattle.conditions.specs.Conditions.{left_after_all, test_holds, tests_hold};
 ghost use Rattle.conditions.specs.Held.{AreAllWithin, each_asked, each_at, each_below, hold_at};
 ghost use Rattle.conditions.specs.Reach.{reach};
@@ -9,6 +10,7 @@ ghost use Rattle.terms.specs.Datum.{Datum};
 ghost use Rattle.terms.specs.Meaning.{Scope};
 ghost use Rattle.terms.specs.TermTree.{term_tree};
 
+use crate::apart::is_apart;
 use crate::bounds::bound_of;
 use crate::branches::test_copy;
 use crate::condition::{Branch, Stage, Test};
@@ -37,7 +39,8 @@ fn last_of(tests: &[Test]) -> Result<usize, NoMemory>
     Ok(last)
 }
 
-/// The stages up to the last.
+/// The stages up to the last. The later ones are made first, since an earlier one says whether they
+/// mention its last parameter.
 pub(crate) fn stages_of(
     alloc: Global,
     branches: &[Vec<Test>],
@@ -47,27 +50,38 @@ pub(crate) fn stages_of(
     ensures held { IfOk result (λ stages. (scope : Scope) (state : List Datum)
         → left_after_all scope state stages.items (replicate (length branches.now) true)
         ≡ each_below scope state (suc last) branches.now) }
+    ensures apart { IfOk result (λ stages. AreApart 0 stages.items) }
 {
     let mut stages = Vec::new(alloc);
     while stages.len() <= last {
-        let stage = stage_at(alloc, branches, stages.len())?;
-        stages.push(stage)?;
+        let k = last - stages.len();
+        let stage = stage_at(alloc, branches, k, stages.as_slice())?;
+        stages.insert(0, stage)?;
     }
     Ok(stages)
 }
 
 // The stage after the first k parameters.
-fn stage_at(alloc: Global, branches: &[Vec<Test>], k: usize) -> Result<Stage, NoMemory>
+fn stage_at(
+    alloc: Global,
+    branches: &[Vec<Test>],
+    k: usize,
+    later: &[Stage],
+) -> Result<Stage, NoMemory>
     ensures are { IfOk result (λ stage. AreBranches k stage.branches.items) }
     ensures held { IfOk result (λ stage. (scope : Scope) (state : List Datum)
         → each_asked scope state stage.branches.items ≡ each_at scope state k branches.now) }
     ensures many { IfOk result (λ stage. length stage.branches.items ≡ length branches.now) }
+    ensures apart { IfOk result (λ stage. IsApart k stage.apart later.now) }
 {
     let mut at = Vec::new(alloc);
     for tests in branches {
         at.push(branch_at(alloc, tests.as_slice(), k)?)?;
     }
-    Ok(Stage { branches: at })
+    Ok(Stage {
+        branches: at,
+        apart: is_apart(later, k),
+    })
 }
 
 // What a branch asks after the first k parameters.

@@ -12,4 +12,5 @@ returns c =
       met = λ scope state. all_met scope state c.in_ok-branches.branches.items c.as_slice-lists.result.now c.in_ok-last.last c.len-number.result c.in_ok-stages.stages.items same number c.in_ok-last.ensures (c.in_ok-stages.ensures.held scope state) ∙ c.in_ok-branches.ensures.stand scope state;
       stages = subst Staged (ap length same ∙ sym number) c.in_ok-stages.ensures.are;
       few = omega (arith, number, c.in_ok-branches.ensures.few);
+      apart = c.in_ok-stages.ensures.apart;
     }
