@@ -1,6 +1,6 @@
 -- One branch more of a stage that is asked.
 use Rattle.std.specs.Prelude.{◌≡◌, ◌⊎◌, ℕ, zero, suc, ◌+◌, ◌<◌, ◌≤◌, min, max, Bool as Truth, true, false, ◌&&◌, ◌||◌, List, [], ◌∷◌, ◌++◌, length, take, drop, get_or, Some, refl}
-use Rattle.std.proofs.Common.{arith, ap, sym, ◌∙◌, inl, inr, set, append_assoc}
+use Rattle.std.proofs.Common.{arith, ap, sym, ◌∙◌, inl, inr, set, append_assoc, true≢false}
 use Rattle.std.proofs.lemmas.List.{drop_more, drop_all, take_more_set, take_all, append-nil, length-set}
 use Rattle.conditions.specs.Conditions.{tests_hold, left_after, is_one_left, Binds, AreBranches}
 use Rattle.conditions.specs.Reach.{same_within}
@@ -8,7 +8,7 @@ use Rattle.conditions.specs.declared.condition.Branch.{Branch}
 use Rattle.conditions.specs.declared.condition.Test.{Test}
 use Rattle.io_automata.specs.Tuples.{choices, picked}
 use Rattle.io_automata.specs.declared.automaton.Param.{Param}
-use Rattle.outcomes.specs.Solving.{IsOutside}
+use Rattle.outcomes.specs.Solving.{IsOnly, IsOutside, IsSure}
 use Rattle.terms.specs.Datum.{Datum, Just}
 use Rattle.terms.specs.Meaning.{Scope, slot, value}
 use Rattle.terms.specs.TermTree.{term_tree}
@@ -97,6 +97,56 @@ bound_outside scope state known param tests term place binds only p others below
       let there = binds.1 (record scope { parameters = others }) state h in
       let same = same_within (term_tree term) scope state others scope.parameters known binds.0 front in
       absurd (off (only scope.formals p below (sym same ∙ there ∙ ap Just is)))
+
+-- one that has no other test holds where it has the value of its term
+pub bound_sure : (scope : Scope) (state : List Datum) (known : ℕ) (param : Param) (tests : List Test) (term : Term) (place : ℕ) → Binds (suc known) tests (Some term) → length tests ≡ 1 → value (term_tree term) scope state ≡ Just (picked scope.formals param place) → IsSure scope state known param tests place (place + 1)
+bound_sure scope state known param tests term place binds one is p others low high front there =
+    let same : p ≡ place = omega (arith, low, high) in
+    let agree = same_within (term_tree term) scope state others scope.parameters known binds.0 front in
+    binds.2 (record scope { parameters = others }) state one (agree ∙ is ∙ ap Just (ap (picked scope.formals param) (sym same) ∙ sym there))
+
+-- where there is no test, all hold
+pub none_sure : (scope : Scope) (state : List Datum) (known : ℕ) (param : Param) (tests : List Test) (low high : ℕ) → tests ≡ [] → IsSure scope state known param tests low high
+none_sure scope state known param tests low high none p others least below front there = ap (tests_hold (record scope { parameters = others }) state) none
+
+none_kept : (scope : Scope) (state : List Datum) (branches : List Branch) (left : List Truth) → length branches ≡ length left → is_one_left left ≡ false → left_after scope state branches left ≡ left
+none_kept scope state [] [] many none = refl
+none_kept scope state [] (here ∷ left) many none = absurd (omega (arith, many))
+none_kept scope state (branch ∷ branches) [] many none = absurd (omega (arith, many))
+none_kept scope state (branch ∷ branches) (true ∷ left) many none = absurd (true≢false none)
+none_kept scope state (branch ∷ branches) (false ∷ left) many none = ap (λ xs. false ∷ xs) (none_kept scope state branches left (omega (arith, many)) none)
+
+-- the one branch that is left stays so where its tests hold
+pub only_kept : (scope : Scope) (state : List Datum) (branches : List Branch) (left : List Truth) (b : ℕ) (d : Branch) → length branches ≡ length left → IsOnly b left → tests_hold scope state (get_or branches b d).tests.items ≡ true → left_after scope state branches left ≡ left
+only_kept scope state branches [] b d many only hold = absurd only
+only_kept scope state [] (here ∷ left) b d many only hold = absurd (omega (arith, many))
+only_kept scope state (branch ∷ branches) (here ∷ left) zero d many only hold =
+    let others = none_kept scope state branches left (omega (arith, many)) only.1 in
+    (λ i. (only.0 i && hold i) ∷ others i) ∙ ap (λ h. h ∷ left) (sym only.0)
+only_kept scope state (branch ∷ branches) (here ∷ left) (suc b) d many only hold =
+    let others = only_kept scope state branches left b d (omega (arith, many)) only.1 hold in
+    (λ i. (only.0 i && tests_hold scope state branch.tests.items) ∷ others i) ∙ ap (λ h. h ∷ left) (sym only.0)
+
+-- and none is left where they don't
+pub only_lost : (scope : Scope) (state : List Datum) (branches : List Branch) (left : List Truth) (b : ℕ) (d : Branch) → length branches ≡ length left → IsOnly b left → tests_hold scope state (get_or branches b d).tests.items ≡ false → is_one_left (left_after scope state branches left) ≡ false
+only_lost scope state branches [] b d many only lost = absurd only
+only_lost scope state [] (here ∷ left) b d many only lost = absurd (omega (arith, many))
+only_lost scope state (branch ∷ branches) (here ∷ left) zero d many only lost =
+    let others = none_kept scope state branches left (omega (arith, many)) only.1 in
+    (λ i. (only.0 i && lost i) || is_one_left (others i)) ∙ only.1
+only_lost scope state (branch ∷ branches) (here ∷ left) (suc b) d many only lost =
+    let others = only_lost scope state branches left b d (omega (arith, many)) only.1 lost in
+    λ i. (only.0 i && tests_hold scope state branch.tests.items) || others i
+
+pub one_alone : (left : List Truth) (b : ℕ) → IsOnly b left → is_one_left left ≡ true
+one_alone [] b only = absurd only
+one_alone (here ∷ left) zero only = ap (λ h. h || is_one_left left) only.0
+one_alone (here ∷ left) (suc b) only = ap (λ h. h || is_one_left left) only.0 ∙ one_alone left b only.1
+
+pub only_one : (left : List Truth) (b : ℕ) → IsOnly b left → b < length left
+only_one [] b only = absurd only
+only_one (here ∷ left) zero only = omega arith
+only_one (here ∷ left) (suc b) only = let below = only_one left b only.1 in omega (arith, below)
 
 -- the range of one branch more, where it is left
 pub range_next : (scope : Scope) (state : List Datum) (known : ℕ) (param : Param) (branches : List Branch) (left : List Truth) (b low high some_low some_high new_low new_high : ℕ) (d : Branch) → b < length left → length branches ≡ length left → IsOutside scope state known param (get_or branches b d).tests.items some_low some_high → new_low ≡ min low some_low → new_high ≡ max high some_high

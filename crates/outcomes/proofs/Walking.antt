@@ -1,14 +1,14 @@
 -- One parameter more: the tuples of a node, by the value of the next parameter.
-use Rattle.std.specs.Prelude.{◌≡◌, ℕ, zero, suc, ◌+◌, ◌-◌, ◌*◌, ◌/◌, ◌%◌, ◌<◌, ◌≤◌, ◌^◌, Bool as Truth, true, false, List, [], ◌∷◌, ◌++◌, filter, length, take, drop, get_or, slice_get, Some, refl}
+use Rattle.std.specs.Prelude.{◌≡◌, ℕ, cond, map, zero, suc, ◌+◌, ◌-◌, ◌*◌, ◌/◌, ◌%◌, ◌<◌, ◌≤◌, ◌^◌, Bool as Truth, true, false, List, [], ◌∷◌, ◌++◌, filter, length, take, drop, get_or, slice_get, Some, refl}
 use Rattle.std.specs.List.{range_with_len}
-use Rattle.std.proofs.Common.{arith, ap, sym, ◌∙◌, subst, append_assoc, set, suc-mul, zero-mul}
+use Rattle.std.proofs.Common.{arith, ap, sym, ◌∙◌, subst, append_assoc, set, suc-mul, zero-mul, true≢false}
 use Rattle.std.proofs.Math.Nat.{add-mul, mul_comm, one-mul, mul-div_cancel_left, mod-eq_of_lt, div-eq_of_lt, add-mod_right, add-div_right}
 use Rattle.std.proofs.lemmas.Nat.{div_below, mul-le}
 use Rattle.std.proofs.lemmas.Grind.{flat_map-append}
 use Rattle.std.proofs.Math.Seq.{take-append_seam}
-use Rattle.std.proofs.lemmas.List.{take_more_set, take-take, append-nil}
-use Rattle.conditions.specs.Conditions.{left_after, left_after_all, is_one_left, AreBranches, AreStages}
-use Rattle.conditions.specs.Stages.{left_length, same_left, none_left}
+use Rattle.std.proofs.lemmas.List.{drop_more, map-append, take_more, take_more_set, take-take, append-nil}
+use Rattle.conditions.specs.Conditions.{left_after, left_after_all, is_one_left, AreApart, AreBranches, AreStages, AreWithout}
+use Rattle.conditions.specs.Stages.{left_length, same_later, same_left, none_left}
 use Rattle.conditions.specs.declared.condition.Stage.{Stage}
 use Rattle.io_automata.specs.Steps.{scope_in}
 use Rattle.io_automata.specs.Tuples.{many, choices, picked, tuple_at}
@@ -34,6 +34,7 @@ node_same formals args others node is long same = record {
   within = is.within;
   reached = λ j less. is.reached j less ∙ ap (λ xs. xs ++ tuple_at formals (drop node.known node.all.now) j) (sym same);
   stages = is.stages;
+  apart = is.apart;
   few = is.few;
   complete = is.complete;
 }
@@ -99,6 +100,65 @@ pub record Step (formals args : List Scalar) (node : Node) (stage : Stage) (stag
   pub more : node.known < length node.all.now
   pub total_is : total ≡ choices param
   pub count_is : count ≡ node.count / total
+
+slot_other : (xs ys : List Scalar) (a b : Scalar) (n : ℕ) → (n ≡ length xs → ⊥) → slot (xs ++ a ∷ ys) n ≡ slot (xs ++ b ∷ ys) n
+slot_other [] ys a b zero off = absurd (off refl)
+slot_other [] ys a b (suc n) off = refl
+slot_other (x ∷ xs) ys a b zero off = refl
+slot_other (x ∷ xs) ys a b (suc n) off = slot_other xs ys a b n (λ same. off (ap suc same))
+
+kept_behind : (f g : ℕ → Truth) (from by count : ℕ) → ((j : ℕ) → j < count → f (from + j) ≡ g (from + by + j)) → map (λ at. at + by) (filter f (range_with_len from count)) ≡ filter g (range_with_len (from + by) count)
+kept_behind f g from by zero all = refl
+kept_behind f g from by (suc n) all =
+    let same : from ≡ from + 0 = omega arith in
+    let back : from + by + 0 ≡ from + by = omega arith in
+    let here : f from ≡ g (from + by) = ap f same ∙ all 0 (omega arith) ∙ ap g back in
+    let next : from + 1 + by ≡ from + by + 1 = omega arith in
+    let rest : map (λ at. at + by) (filter f (range_with_len (from + 1) n)) ≡ filter g (range_with_len (from + by + 1) n) =
+    kept_behind f g (from + 1) by n (λ j less. let one : from + 1 + j ≡ from + suc j = omega arith in let other : from + by + suc j ≡ from + 1 + by + j = omega arith in ap f one ∙ all (suc j) (omega (arith, less)) ∙ ap g other) ∙ ap (λ (m : ℕ). filter g (range_with_len m n)) next in
+    split (f from) (g (from + by)) (filter f (range_with_len (from + 1) n)) (filter g (range_with_len (from + by + 1) n)) here rest where
+      split : (a b : Truth) (xs ys : List ℕ) → a ≡ b → map (λ at. at + by) xs ≡ ys → map (λ at. at + by) (cond a (from ∷ xs) xs) ≡ cond b ((from + by) ∷ ys) ys
+      split true true xs ys ab e = ap (λ zs. (from + by) ∷ zs) e
+      split false false xs ys ab e = e
+      split true false xs ys ab e = absurd (true≢false ab)
+      split false true xs ys ab e = absurd (true≢false (sym ab))
+
+-- what it is, whatever the later arguments are by now
+pub step_at : (formals first args : List Scalar) (node : Node) (stage : Stage) (stages : List Stage) (total : ℕ) → IsNode formals first node → length args ≡ length first → take node.known args ≡ take node.known first → node.stages.now ≡ stage ∷ stages → node.known < length node.all.now → total ≡ choices (get_or node.all.now node.known (Const 0)) → Step formals args node stage stages (get_or node.all.now node.known (Const 0)) (drop (node.known + 1) node.all.now) total (node.count / total)
+step_at formals first args node stage stages total is long same asked more total_is = record {
+  is = node_same formals first args node is long same;
+  asked = asked;
+  next = drop_more node.all.now node.known (Const 0) more;
+  more = more;
+  total_is = total_is;
+  count_is = refl;
+}
+
+-- what a node says of its next stage
+module _ (formals args : List Scalar) (node : Node) (stage : Stage) (stages : List Stage) (is : IsNode formals args node) (asked : node.stages.now ≡ stage ∷ stages) where
+  stages_there : AreStages (length node.left.now) (suc node.known) (stage ∷ stages)
+  stages_there = subst (AreStages (length node.left.now) (suc node.known)) asked is.stages
+
+  pub stage_many : length stage.branches.items ≡ length node.left.now
+  stage_many = stages_there.0
+
+  pub stage_branches : AreBranches (suc node.known) stage.branches.items
+  stage_branches = stages_there.1
+
+  pub next_stages : AreStages (length node.left.now) (suc (node.known + 1)) stages
+  next_stages =
+      let one : suc (suc node.known) ≡ suc (node.known + 1) = omega arith in
+      subst (λ (k : ℕ). AreStages (length node.left.now) k stages) one stages_there.2
+
+  pub next_apart : AreApart (suc (node.known + 1)) stages
+  next_apart =
+      let one : suc (suc node.known) ≡ suc (node.known + 1) = omega arith in
+      subst (λ (k : ℕ). AreApart k stages) one (subst (AreApart (suc node.known)) asked is.apart).1
+
+pub slot_set : (xs : List Scalar) (n : ℕ) (x : Scalar) → n < length xs → slot (set xs n x) n ≡ x
+slot_set [] n x less = absurd (omega (arith, less))
+slot_set (y ∷ ys) zero x less = refl
+slot_set (y ∷ ys) (suc n) x less = slot_set ys n x (omega (arith, less))
 
 module _ (formals args : List Scalar) (state : List Datum) (node : Node) (stage : Stage) (stages : List Stage) (param : Param) (params : List Param) (total count : ℕ) (step : Step formals args node stage stages param params total count) where
   is : IsNode formals args node
@@ -289,6 +349,46 @@ module _ (formals args : List Scalar) (state : List Datum) (node : Node) (stage 
         let few = is.few in
         omega (arith, long, few)
 
+  -- the node below the first value
+  module _ (new : List Scalar) (new_is : new ≡ set args node.known (picked formals param 0)) where
+    abbrev first_left : List Truth
+    first_left = left_after (scope_in formals new) state stage.branches.items node.left.now
+
+    pub first_within : node.from + count < 2 ^ 64
+    first_within =
+        let most = below_within 0 total_some new new_is first_left refl in
+        let none = zero-mul count in
+        omega (arith, most, none)
+
+    pub first_reached : (j : ℕ) → j < count → tuple_at formals node.all.now (node.from + j) ≡ take (node.known + 1) new ++ tuple_at formals params j
+    first_reached j less =
+        let none = zero-mul count in
+        let start : node.from + j ≡ node.from + 0 * count + j = omega (arith, none) in
+        ap (tuple_at formals node.all.now) start ∙ below_reached 0 total_some new new_is first_left refl j less
+
+  -- what is found below the first value stands below another, where no later stage mentions the parameter
+  module _ (place : ℕ) (below : place < total) (without : AreWithout node.known stages) (left : List Truth) where
+    abbrev found_below : ℕ → Truth
+    found_below at = passes formals state stages left (tuple_at formals node.all.now at)
+
+    value_at : (p : ℕ) → p < total → (j : ℕ) → j < count → tuple_at formals node.all.now (node.from + p * count + j) ≡ prefix ++ picked formals param p ∷ tuple_at formals params j
+    value_at p less = chunk_tuple p less (set args node.known (picked formals param p)) refl (left_after (scope_in formals (set args node.known (picked formals param p))) state stage.branches.items node.left.now) refl
+
+    found_same : (j : ℕ) → j < count → found_below (node.from + j) ≡ found_below (node.from + place * count + j)
+    found_same j less =
+        let first = tuple_at formals node.all.now (node.from + 0 * count + j) in
+        let other = tuple_at formals node.all.now (node.from + place * count + j) in
+        let none = zero-mul count in
+        let start : node.from + j ≡ node.from + 0 * count + j = omega (arith, none) in
+        let agree : (n : ℕ) → (n ≡ node.known → ⊥) → slot first n ≡ slot other n =
+        λ n off. ap (λ xs. slot xs n) (value_at 0 total_some j less)
+        ∙ slot_other prefix (tuple_at formals params j) (picked formals param 0) (picked formals param place) n (λ same. off (same ∙ prefix_length))
+        ∙ sym (ap (λ xs. slot xs n) (value_at place below j less)) in
+        ap found_below start ∙ ap is_one_left (same_later node.known stages (scope_in formals []) state first other left without agree)
+
+    pub found_again : (spans : List Span) → places_in spans ≡ filter found_below (range_with_len node.from count) → map (λ at. at + place * count) (places_in spans) ≡ filter found_below (range_with_len (node.from + place * count) count)
+    found_again spans is = ap (map (λ at. at + place * count)) is ∙ kept_behind found_below found_below node.from (place * count) count found_same
+
 -- the stages of a node have as many branches as are left or not
 pub as_many : (n k : ℕ) (stages : List Stage) → AreStages n k stages → AreAsMany n stages
 as_many n k [] are = refl
@@ -301,6 +401,29 @@ nothing_left formals state stages left all from count places none =
 
 spans_more : (spans : List Span) (span : Span) → places_in (spans ++ span ∷ []) ≡ places_in spans ++ range_with_len span.from span.count
 spans_more spans span = flat_map-append (λ (span : Span). range_with_len span.from span.count) spans (span ∷ []) ∙ ap (λ xs. places_in spans ++ xs) (append-nil (range_with_len span.from span.count))
+
+range_behind : (from by count : ℕ) → map (λ at. at + by) (range_with_len from count) ≡ range_with_len (from + by) count
+range_behind from by zero = refl
+range_behind from by (suc n) =
+    let next : from + 1 + by ≡ from + by + 1 = omega arith in
+    ap (λ xs. (from + by) ∷ xs) (range_behind (from + 1) by n ∙ ap (λ (m : ℕ). range_with_len m n) next)
+
+-- one span more behind those before it
+pub behind_more : (first old new spans : List Span) (k by from count : ℕ) (d : Span) → k < length spans → places_in old ≡ places_in first ++ map (λ at. at + by) (places_in (take k spans)) → new ≡ old ++ record { from = from; count = count } ∷ [] → from ≡ (get_or spans k d).from + by → count ≡ (get_or spans k d).count → places_in new ≡ places_in first ++ map (λ at. at + by) (places_in (take (k + 1) spans))
+behind_more first old new spans k by from count d less old_is new_is from_is count_is =
+    let span = get_or spans k d in
+    let before = map (λ at. at + by) (places_in (take k spans)) in
+    let last : map (λ at. at + by) (places_in (take (k + 1) spans)) ≡ before ++ range_with_len from count =
+    ap (λ xs. map (λ at. at + by) (places_in xs)) (take_more spans k d less)
+    ∙ ap (map (λ at. at + by)) (spans_more (take k spans) span)
+    ∙ map-append (λ at. at + by) (places_in (take k spans)) (range_with_len span.from span.count)
+    ∙ ap (λ xs. before ++ xs) (range_behind span.from by span.count)
+    ∙ (λ i. before ++ range_with_len (sym from_is i) (sym count_is i)) in
+    ap places_in new_is
+    ∙ spans_more old (record { from = from; count = count })
+    ∙ ap (λ xs. xs ++ range_with_len from count) old_is
+    ∙ append_assoc (places_in first) before (range_with_len from count)
+    ∙ ap (λ xs. places_in first ++ xs) (sym last)
 
 -- where no stage is to come, all are found
 pub all_left : (formals : List Scalar) (state : List Datum) (stages : List Stage) (left : List Truth) (all : List Param) (from count : ℕ) (spans new : List Span) → stages ≡ [] → is_one_left left ≡ true → new ≡ spans ++ record { from = from; count = count } ∷ [] → places_in new ≡ places_in spans ++ filter (λ at. passes formals state stages left (tuple_at formals all at)) (range_with_len from count)

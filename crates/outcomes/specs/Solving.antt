@@ -1,7 +1,7 @@
 -- The tuples for which a condition that is solved holds, and where they stand.
-use Rattle.std.specs.Prelude.{◌≡◌, ◌⊎◌, ℕ, suc, ◌+◌, ◌<◌, ◌≤◌, ◌^◌, Bool as Truth, true, false, List, [], ◌∷◌, ◌++◌, length, take, drop, slice_get, Some}
+use Rattle.std.specs.Prelude.{◌≡◌, ◌⊎◌, ℕ, zero, suc, ◌+◌, ◌<◌, ◌≤◌, ◌^◌, Bool as Truth, true, false, List, [], ◌∷◌, ◌++◌, length, take, drop, slice_get, Some}
 use Rattle.std.specs.List.{flat_map, range_with_len}
-use Rattle.conditions.specs.Conditions.{left_after, left_after_all, is_one_left, tests_hold, AreStages}
+use Rattle.conditions.specs.Conditions.{left_after, left_after_all, is_one_left, tests_hold, AreApart, AreStages, AreWithout}
 use Rattle.conditions.specs.declared.condition.Branch.{Branch}
 use Rattle.conditions.specs.declared.condition.Stage.{Stage}
 use Rattle.conditions.specs.declared.condition.Test.{Test}
@@ -34,6 +34,17 @@ abbrev pub AreAsMany : ℕ → List Stage → Type 0
 AreAsMany n [] = n ≡ n
 AreAsMany n (stage ∷ stages) = (length stage.branches.items ≡ n) × AreAsMany n stages
 
+-- branch b is left, and no other
+abbrev pub IsOnly : ℕ → List Truth → Type 0
+IsOnly b [] = ⊥
+IsOnly zero (here ∷ left) = (here ≡ true) × (is_one_left left ≡ false)
+IsOnly (suc b) (here ∷ left) = (here ≡ false) × IsOnly b left
+
+-- there is a stage to come, and none after it mentions parameter p
+abbrev pub AreLaterWithout : ℕ → List Stage → Type 0
+AreLaterWithout p [] = ⊥
+AreLaterWithout p (stage ∷ stages) = AreWithout p stages
+
 -- At a node the first parameters have values, and the stages that they decide were asked. The tuples that begin with these values follow each other.
 pub record IsNode (formals args : List Scalar) (node : Node) : Type 0 where
   pub room : length args ≡ length node.all.now
@@ -43,6 +54,7 @@ pub record IsNode (formals args : List Scalar) (node : Node) : Type 0 where
   pub within : node.from + node.count < 2 ^ 64
   pub reached : (j : ℕ) → j < node.count → tuple_at formals node.all.now (node.from + j) ≡ take node.known args ++ tuple_at formals (drop node.known node.all.now) j
   pub stages : AreStages (length node.left.now) (suc node.known) node.stages.now
+  pub apart : AreApart (suc node.known) node.stages.now
   pub few : length node.left.now ≤ 16
   pub complete : AreComplete node.all.now
 
@@ -56,7 +68,13 @@ IsOutside scope state known param tests low high =
     (p : ℕ) (others : List Scalar) → p < choices param → (p < low) ⊎ (high ≤ p) → take known others ≡ take known scope.parameters → slot others known ≡ picked scope.formals param p
     → tests_hold (record scope { parameters = others }) state tests ≡ false
 
--- and no branch is left after the next stage
+-- the tests hold where it has a value at a place from low on and below high
+abbrev pub IsSure : Scope → List Datum → ℕ → Param → List Test → ℕ → ℕ → Type 0
+IsSure scope state known param tests low high =
+    (p : ℕ) (others : List Scalar) → low ≤ p → p < high → take known others ≡ take known scope.parameters → slot others known ≡ picked scope.formals param p
+    → tests_hold (record scope { parameters = others }) state tests ≡ true
+
+-- Where it has a value at a place below low or from high on, no branch is left after the next stage.
 abbrev pub IsRange : Scope → List Datum → ℕ → Param → List Branch → List Truth → ℕ → ℕ → Type 0
 IsRange scope state known param branches left low high =
     (p : ℕ) (others : List Scalar) → p < choices param → (p < low) ⊎ (high ≤ p) → take known others ≡ take known scope.parameters → slot others known ≡ picked scope.formals param p

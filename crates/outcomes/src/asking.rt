@@ -1,9 +1,9 @@
 //! Whether conditions hold.
-ghost use Rattle.std.specs.Prelude.{◌≡◌, IfOk, OnOk, length};
+ghost use Rattle.std.specs.Prelude.{◌≡◌, IfOk, IfSome, OnOk, length};
 ghost use Rattle.conditions.specs.Conditions.{tests_hold, left_after, left_after_all, is_one_left};
 ghost use Rattle.io_automata.specs.Automata.{transition_of};
 ghost use Rattle.io_automata.specs.Steps.{scope_in, holds};
-ghost use Rattle.outcomes.specs.Solving.{AreAsMany};
+ghost use Rattle.outcomes.specs.Solving.{AreAsMany, IsOnly};
 ghost use Rattle.terms.specs.Scopes.{scope};
 
 use conditions::{Stage, Test};
@@ -98,6 +98,17 @@ pub(crate) fn ask_all<C: Cells>(
         ask(alloc, stage, env, cells, left)?;
     }
     Ok(())
+}
+
+/// The branch that is left, where it is the only one.
+pub(crate) fn only_left(left: &[bool]) -> Option<usize>
+    ensures { IfSome result (λ b. IsOnly b left.now) }
+{
+    let (here, others) = left.split_first()?;
+    if *here {
+        return if is_one_left(others) { None } else { Some(0) };
+    }
+    only_left(others)?.checked_add(1)
 }
 
 /// Whether a branch is left.

@@ -1,7 +1,7 @@
 //! What is enabled of a task: one walk, by which a turn's action is chosen and the enabled actions are listed.
 ghost use Rattle.std.specs.Prelude.{◌≡◌, ◌++◌, List, IfOk, OnOk, filter, length, map};
 ghost use Rattle.std.specs.List.{flat_map, range_with_len};
-ghost use Rattle.conditions.specs.Conditions.{AreStages, IsSolved};
+ghost use Rattle.conditions.specs.Conditions.{AreApart, AreStages, IsSolved};
 ghost use Rattle.io_automata.specs.Automata.{transition_of};
 ghost use Rattle.io_automata.specs.Steps.{holds};
 ghost use Rattle.io_automata.specs.Tuples.{many, tuple_at, enabled_in};
@@ -134,8 +134,10 @@ fn ask_first<'a, C: Cells>(
     left: &mut [bool],
 ) -> Result<&'a [Stage], NoMemory>
     requires stages { AreStages (length left.old) 0 stages.now }
+    requires apart { AreApart 0 stages.now }
     ensures many { length left.new ≡ length left.old }
     ensures stages { IfOk result (λ rest. AreStages (length left.old) 1 rest.now) }
+    ensures apart { IfOk result (λ rest. AreApart 1 rest.now) }
     ensures passes { IfOk result (λ rest. (args : List Value)
         → passes formals.now (C.values cells.now) rest.now left.new args
         ≡ passes formals.now (C.values cells.now) stages.now left.old args) }

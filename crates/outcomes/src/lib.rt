@@ -8,6 +8,7 @@ pub mod asking;
 pub mod choose;
 mod found;
 pub mod known;
+mod lone;
 mod making;
 mod node;
 mod range;

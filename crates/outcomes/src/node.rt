@@ -16,9 +16,18 @@ pub struct Node<'a> {
     pub count: usize,
 }
 
+/// A node at which one branch is left, and its number.
+#[derive(Clone, Copy)]
+pub struct Lone<'a> {
+    pub node: Node<'a>,
+    pub branch: usize,
+}
+
 /// The values of a parameter that are worth a try, by their places.
 #[derive(Clone, Copy)]
 pub struct Range {
     pub low: usize,
     pub high: usize,
+    /// Whether the tests of the one branch that was asked hold for each of them.
+    pub sure: bool,
 }

@@ -4,9 +4,10 @@ ghost use Rattle.std.specs.List.{range_with_len};
 ghost use Rattle.io_automata.specs.Tuples.{tuple_at};
 ghost use Rattle.outcomes.specs.Solving.{places_in, passes, IsNode};
 
-use crate::asking::{ask, ask_all, env_of, is_one_left};
+use crate::asking::{ask, ask_all, env_of, is_one_left, only_left};
+use crate::lone::walk_lone;
 use crate::making::picked;
-use crate::node::Node;
+use crate::node::{Lone, Node};
 use crate::range::range_of;
 use crate::spans::{Span, Spans};
 use crate::tuples::choices;
@@ -34,6 +35,13 @@ pub fn walk<C: Cells>(
         node.now.left.now (tuple_at formals.now node.now.all.now at))
         (range_with_len node.now.from node.now.count)) }
 {
+    if let Some(branch) = only_left(node.left) {
+        let lone = Lone {
+            node: *node,
+            branch,
+        };
+        return walk_lone(alloc, formals, cells, &lone, args, out);
+    }
     if !is_one_left(node.left) {
         return Ok(());
     }
@@ -71,10 +79,10 @@ pub fn walk<C: Cells>(
     Ok(())
 }
 
-// The same where all parameters have values: the one tuple is asked the stages that are left.
+/// The same where all parameters have values: the one tuple is asked the stages that are left.
 #[cold]
 #[inline(never)]
-fn walk_end<C: Cells>(
+pub(crate) fn walk_end<C: Cells>(
     alloc: Global,
     formals: &[Scalar],
     cells: &C,

@@ -1,11 +1,11 @@
 use Rattle.std.proofs.Common.{◌≡◌, ◌<◌, ◌≤◌, ◌+◌, ◌++◌, ◌/◌, [], ◌∙◌, ap, subst, arith, rules, inl, inr, length, refl, true, false, drop, get_or, set}
-use Rattle.std.proofs.lemmas.List.{drop_more, length-set, take-set}
+use Rattle.std.proofs.lemmas.List.{length-set, take-set}
 use Rattle.conditions.specs.Conditions.{is_one_left, left_after}
 use Rattle.io_automata.specs.Steps.{scope_in}
 use Rattle.io_automata.specs.Tuples.{picked}
 use Rattle.io_automata.specs.declared.automaton.Param.TheVariants.{Const}
 use Rattle.outcomes.specs.Solving.{places_in, IsRange}
-use Rattle.outcomes.proofs.Walking.{Step, node_same, none_before, none_after, chunk_found, count_many, count_some, below_within, below_reached, below_stages, below_few, nothing_left, all_left, one_place, shorter, nothing_more, found_more, empty}
+use Rattle.outcomes.proofs.Walking.{step_at, none_before, none_after, chunk_found, count_many, count_some, below_within, below_reached, below_stages, below_few, next_apart, nothing_left, all_left, one_place, shorter, nothing_more, found_more, empty}
 use Rattle.outcomes.proofs.walk.+walk.Goals as goal
 
 pub returns-then-not-is_one_left-clause-out : goal.returns-then-not-is_one_left-clause-out
@@ -14,10 +14,10 @@ returns-then-not-is_one_left-clause-out g t c =
     let none : is_one_left node.left.now ≡ false = search rules in
     nothing_left c.args.formals.now (g.C.Cells.values c.args.cells.now) node.stages.now node.left.now node.all.now node.from node.count (places_in c.args.out.now.items) none
 
-pub returns-in_default-clause-out : goal.returns-in_default-clause-out
-returns-in_default-clause-out g t c =
+pub returns-in_default-split_first-clause-out : goal.returns-in_default-split_first-clause-out
+returns-in_default-split_first-clause-out g t c =
     let node = c.args.node.now in
-    let none : node.stages.now ≡ [] = empty node.stages.now c.in_default.ensures.cases in
+    let none : node.stages.now ≡ [] = empty node.stages.now c.in_default-split_first.ensures.cases in
     let some : is_one_left node.left.now ≡ true = search rules in
     all_left c.args.formals.now (g.C.Cells.values c.args.cells.now) node.stages.now node.left.now node.all.now node.from node.count c.args.out.now.items c.push.new.self.items none some c.in_ok-push.ensures.ok
 
@@ -32,20 +32,13 @@ loop-place-init g t c =
     let node = c.args.node.now in
     let formals = c.args.formals.now in
     let state = g.C.Cells.values c.args.cells.now in
-    let stage = c.in-Some.stage.now in
+    let stage = c.in-Some-split_first.stage.now in
     let param = get_or node.all.now node.known (Const 0) in
     let params = drop (node.known + 1) node.all.now in
     let total = c.from-total.result in
     let count = node.count / total in
     let more : node.known < length node.all.now = omega (arith, c.if-node.false) in
-    let step : Step formals c.args.args.now node stage c.in-Some.stages.now param params total count = record {
-      is = c.requires.node;
-      asked = c.in-Some.ensures.cases.0;
-      next = drop_more node.all.now node.known (Const 0) more;
-      more = more;
-      total_is = c.from-total.ensures ∙ c.choices.ensures;
-      count_is = refl;
-    } in
+    let step = step_at formals c.args.args.now c.args.args.now node stage c.in-Some-split_first.stages.now total c.requires.node refl refl c.in-Some-split_first.ensures.cases.0 more (c.from-total.ensures ∙ c.choices.ensures) in
     let low = c.in_ok-range.range.low in
     let within : low ≤ total = omega (arith, c.in_ok-range.ensures.low, step.total_is) in
     let range = subst (λ s. IsRange s state node.known param stage.branches.items node.left.now low c.in_ok-range.range.high) c.env_of-env.ensures c.in_ok-range.ensures.range in
@@ -53,7 +46,7 @@ loop-place-init g t c =
       within = within;
       room = refl;
       front = refl;
-      found = nothing_more (places_in c.args.out.now.items) _ (none_before formals c.args.args.now state node stage c.in-Some.stages.now param params total count step low within (λ p less others front value. range p others (omega (arith, less, within, step.total_is)) (inl less) front value));
+      found = nothing_more (places_in c.args.out.now.items) _ (none_before formals c.args.args.now state node stage c.in-Some-split_first.stages.now param params total count step low within (λ p less others front value. range p others (omega (arith, less, within, step.total_is)) (inl less) front value));
     }
 
 pub loop-place-preserved : goal.loop-place-preserved
@@ -61,22 +54,15 @@ loop-place-preserved g t c =
     let node = c.args.node.now in
     let formals = c.args.formals.now in
     let state = g.C.Cells.values c.args.cells.now in
-    let stage = c.in-Some.stage.now in
-    let stages = c.in-Some.stages.now in
+    let stage = c.in-Some-split_first.stage.now in
+    let stages = c.in-Some-split_first.stages.now in
     let param = get_or node.all.now node.known (Const 0) in
     let params = drop (node.known + 1) node.all.now in
     let total = c.from-total.result in
     let count = node.count / total in
     let args = c.loop-place.args in
     let more : node.known < length node.all.now = omega (arith, c.if-node.false) in
-    let step : Step formals args node stage stages param params total count = record {
-      is = node_same formals c.args.args.now args node c.requires.node c.loop-place.invariant.room c.loop-place.invariant.front;
-      asked = c.in-Some.ensures.cases.0;
-      next = drop_more node.all.now node.known (Const 0) more;
-      more = more;
-      total_is = c.from-total.ensures ∙ c.choices.ensures;
-      count_is = refl;
-    } in
+    let step = step_at formals c.args.args.now args node stage stages total c.requires.node c.loop-place.invariant.room c.loop-place.invariant.front c.in-Some-split_first.ensures.cases.0 more (c.from-total.ensures ∙ c.choices.ensures) in
     let place = c.loop-place.place in
     let below : place < total = omega (arith, c.loop-place-test.true, c.in_ok-range.ensures.high, step.total_is) in
     let new = set args node.known c.picked.result in
@@ -104,28 +90,21 @@ walk-requires g t c = λ κs within.
     let node = c.args.node.now in
     let formals = c.args.formals.now in
     let state = g.C.Cells.values c.args.cells.now in
-    let stage = c.in-Some.stage.now in
-    let stages = c.in-Some.stages.now in
+    let stage = c.in-Some-split_first.stage.now in
+    let stages = c.in-Some-split_first.stages.now in
     let param = get_or node.all.now node.known (Const 0) in
     let params = drop (node.known + 1) node.all.now in
     let total = c.from-total.result in
     let count = node.count / total in
     let args = c.loop-place.args in
     let more : node.known < length node.all.now = omega (arith, c.if-node.false) in
-    let step : Step formals args node stage stages param params total count = record {
-      is = node_same formals c.args.args.now args node c.requires.node c.loop-place.invariant.room c.loop-place.invariant.front;
-      asked = c.in-Some.ensures.cases.0;
-      next = drop_more node.all.now node.known (Const 0) more;
-      more = more;
-      total_is = c.from-total.ensures ∙ c.choices.ensures;
-      count_is = refl;
-    } in
+    let step = step_at formals c.args.args.now args node stage stages total c.requires.node c.loop-place.invariant.room c.loop-place.invariant.front c.in-Some-split_first.ensures.cases.0 more (c.from-total.ensures ∙ c.choices.ensures) in
     let place = c.loop-place.place in
     let below : place < total = omega (arith, c.loop-place-test.true, c.in_ok-range.ensures.high, step.total_is) in
     let new = set args node.known c.picked.result in
     let new_is : new ≡ set args node.known (picked formals param place) = ap (set args node.known) c.picked.ensures in
     let left_is : c.ask.new.left ≡ left_after (scope_in formals new) state stage.branches.items node.left.now = c.in_ok-ask.ensures.left ∙ (λ i. left_after (c.env_of.ensures i) state stage.branches.items (c.copy_from_slice.ensures.after i)) in
-    let asked_length = ap length c.in-Some.ensures.cases.0 in
+    let asked_length = ap length c.in-Some-split_first.ensures.cases.0 in
     let fewer : length stages < t = omega (arith, c.decreases, asked_length) in (
       fewer,
       (
@@ -138,6 +117,7 @@ walk-requires g t c = λ κs within.
           within = below_within formals args state node stage stages param params total count step place below new new_is c.ask.new.left left_is;
           reached = below_reached formals args state node stage stages param params total count step place below new new_is c.ask.new.left left_is;
           stages = below_stages formals args state node stage stages param params total count step place below new new_is c.ask.new.left left_is;
+          apart = next_apart formals c.args.args.now node stage stages c.requires.node c.in-Some-split_first.ensures.cases.0;
           few = below_few formals args state node stage stages param params total count step place below new new_is c.ask.new.left left_is;
           complete = c.requires.node.complete;
         },
@@ -152,23 +132,16 @@ returns-clause-out g t c =
     let node = c.args.node.now in
     let formals = c.args.formals.now in
     let state = g.C.Cells.values c.args.cells.now in
-    let stage = c.in-Some.stage.now in
+    let stage = c.in-Some-split_first.stage.now in
     let param = get_or node.all.now node.known (Const 0) in
     let params = drop (node.known + 1) node.all.now in
     let total = c.from-total.result in
     let count = node.count / total in
     let more : node.known < length node.all.now = omega (arith, c.if-node.false) in
-    let step : Step formals c.args.args.now node stage c.in-Some.stages.now param params total count = record {
-      is = c.requires.node;
-      asked = c.in-Some.ensures.cases.0;
-      next = drop_more node.all.now node.known (Const 0) more;
-      more = more;
-      total_is = c.from-total.ensures ∙ c.choices.ensures;
-      count_is = refl;
-    } in
+    let step = step_at formals c.args.args.now c.args.args.now node stage c.in-Some-split_first.stages.now total c.requires.node refl refl c.in-Some-split_first.ensures.cases.0 more (c.from-total.ensures ∙ c.choices.ensures) in
     let place = c.loop-place.place in
     let past : c.in_ok-range.range.high ≤ place = omega (arith, c.loop-place-test.false) in
     let within : place ≤ total = c.loop-place.invariant.within in
     let range = subst (λ s. IsRange s state node.known param stage.branches.items node.left.now c.in_ok-range.range.low c.in_ok-range.range.high) c.env_of-env.ensures c.in_ok-range.ensures.range in
     c.loop-place.invariant.found
-    ∙ ap (λ xs. places_in c.args.out.now.items ++ xs) (none_after formals c.args.args.now state node stage c.in-Some.stages.now param params total count step place within (λ p high less others front value. range p others (omega (arith, less, step.total_is)) (inr (omega (arith, high, past))) front value))
+    ∙ ap (λ xs. places_in c.args.out.now.items ++ xs) (none_after formals c.args.args.now state node stage c.in-Some-split_first.stages.now param params total count step place within (λ p high less others front value. range p others (omega (arith, less, step.total_is)) (inr (omega (arith, high, past))) front value))
