@@ -1,7 +1,7 @@
 -- What is known of the entries of all automata is a fact: it has at most one proof.
 use Rattle.std.specs.Prelude.{ℕ, zero, suc, List, [], ◌∷◌, Option, None, Some}
 use Rattle.std.specs.Coded.{codes, ×_prop, le_prop}
-use Rattle.conditions.specs.Conditions.{AreWithin, Binds, AreBranches, AreStages, IsSolved}
+use Rattle.conditions.specs.Conditions.{AreApart, AreBranches, AreBranchesWithout, AreStages, AreTestsWithout, AreWithin, AreWithout, Binds, IsSolved}
 use Rattle.conditions.specs.declared.condition.Branch.{Branch}
 use Rattle.conditions.specs.declared.condition.Condition.{Condition}
 use Rattle.conditions.specs.declared.condition.Stage.{Stage}
@@ -39,8 +39,31 @@ stages_prop n k (stage ∷ stages) =
     let rest = stages_prop n (suc k) stages in
     Prim.hlevel (codes, here, rest)
 
+tests_without_prop : (p : ℕ) (tests : List Test) → IsProp (AreTestsWithout p tests)
+tests_without_prop p [] = Prim.hlevel codes
+tests_without_prop p (test ∷ tests) = let rest = tests_without_prop p tests in Prim.hlevel (codes, rest)
+
+branches_without_prop : (p : ℕ) (branches : List Branch) → IsProp (AreBranchesWithout p branches)
+branches_without_prop p [] = Prim.hlevel codes
+branches_without_prop p (branch ∷ branches) = ×_prop (tests_without_prop p branch.tests.items) (branches_without_prop p branches)
+
+without_prop : (p : ℕ) (stages : List Stage) → IsProp (AreWithout p stages)
+without_prop p [] = Prim.hlevel codes
+without_prop p (stage ∷ stages) = ×_prop (branches_without_prop p stage.branches.items) (without_prop p stages)
+
+apart_prop : (k : ℕ) (stages : List Stage) → IsProp (AreApart k stages)
+apart_prop k [] = Prim.hlevel codes
+apart_prop zero (stage ∷ stages) = let rest = apart_prop 1 stages in Prim.hlevel (codes, rest)
+apart_prop (suc p) (stage ∷ stages) =
+    let later = without_prop p stages in
+    let rest = apart_prop (suc (suc p)) stages in
+    Prim.hlevel (codes, later, rest)
+
 solved_prop : (pre : TermTree) (condition : Condition) → IsProp (IsSolved pre condition)
-solved_prop pre condition = let stages = stages_prop condition.branches 0 condition.stages.items in Prim.hlevel (codes, stages)
+solved_prop pre condition =
+    let stages = stages_prop condition.branches 0 condition.stages.items in
+    let apart = apart_prop 0 condition.stages.items in
+    Prim.hlevel (codes, stages, apart)
 
 by_prop : (entry : Transition) (found : Option Condition) → IsProp (IsSolvedBy entry found)
 by_prop entry None = Prim.hlevel codes
