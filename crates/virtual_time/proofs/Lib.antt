@@ -15,6 +15,7 @@ pub mod Refs
 pub mod Delivered
 pub mod Tied
 pub mod Exchange
+pub mod Groups
 pub mod Replied
 pub mod Undone
 pub mod Crossed

@@ -9,4 +9,5 @@ pub mod Rules
 pub mod Replies
 pub mod Inverses
 pub mod Exchange
+pub mod Groups
 pub mod Ring

@@ -2,6 +2,9 @@
 
 ghost use Rattle.std.specs.Prelude.{None, Some, [], ◌∷◌, ◌≡◌};
 ghost use Rattle.virtual_time.specs.Entries.{Input, Own};
+ghost use Rattle.virtual_time.specs.Groups.Leases.{Does, lease_of};
+ghost use Rattle.virtual_time.specs.Groups.Pair.{pair, pair_lease, pair_world};
+ghost use Rattle.virtual_time.specs.Groups.Windows.{AreAmong};
 ghost use Rattle.virtual_time.specs.Machine.{HasCount, Lawful};
 ghost use Rattle.virtual_time.specs.Records.{next_of};
 ghost use Rattle.virtual_time.specs.Replies.{Committed, Delivered, Met, Processed, Refused, RolledBack, Runs};
@@ -116,4 +119,25 @@ pub fn whole_example()
         ∷ Commit 100 ∷ [])).committed ≡ record { key = 8; outcome = Some 1 }
         ∷ record { key = 7; outcome = Some 0 } ∷ record { key = 4; outcome = Some 1 }
         ∷ record { key = 3; outcome = None } ∷ [] }
+{}
+
+/// The ring as one group: the token passes within it, and a straggler takes a turn back there. Nothing is in its outgoing bag, and its
+/// floor at the start is the first turn of the two.
+pub fn group_example()
+    ensures among { AreAmong pair 2 0 }
+    ensures floor { pair_lease.floor ≡ 3 }
+    ensures steps { Does ring pair 0 pair_world
+        (Process 1 ∷ Process 1 ∷ Process 0 ∷ DeliverMessage 1 pass_2 ∷ [])
+        (led pair_world (Process 1 ∷ Process 1 ∷ Process 0 ∷ DeliverMessage 1 pass_2 ∷ [])) }
+    ensures flight { ((lease_of pair 0 pair_lease
+        (led pair_world (Process 1 ∷ Process 1 ∷ Process 0 ∷ []))).part 1).plus ≡ pass_2 ∷ [] }
+    ensures done { ((lease_of pair 0 pair_lease
+        (led pair_world (Process 1 ∷ Process 1 ∷ Process 0 ∷ DeliverMessage 1 pass_2 ∷ []))).part 1).done
+        ≡ Own 3 None ∷ [] }
+    ensures pending { ((lease_of pair 0 pair_lease
+        (led pair_world (Process 1 ∷ Process 1 ∷ Process 0 ∷ DeliverMessage 1 pass_2 ∷ []))).part 1).pending
+        ≡ pass_2 ∷ [] }
+    ensures bag { (lease_of pair 0 pair_lease
+        (led pair_world (Process 1 ∷ Process 1 ∷ Process 0 ∷ DeliverMessage 1 pass_2 ∷ []))).out_plus 1
+        ≡ [] }
 {}

@@ -6,7 +6,9 @@
 
 pub mod examples;
 pub mod exchanges;
+pub mod grouped;
 pub mod merging;
 pub mod reference;
 pub mod rolling_back;
+pub mod singles;
 pub mod worlds;

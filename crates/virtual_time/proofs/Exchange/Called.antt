@@ -18,7 +18,7 @@ use Rattle.virtual_time.proofs.Exchange.Runs.{does_lease, does_whole}
 use Rattle.virtual_time.proofs.Exchange.Wholes.{commit_leads, meet_whole, start_whole}
 
 module _ {S A : Type 0} (machine : Machine S A) (law : Lawful machine) where
-  more_steps : (u w v : World S A) (ss ts : List (Step A)) → Reaches machine u ss w → Reaches machine w ts v → Reaches machine u (ss ++ ts) v
+  pub more_steps : (u w v : World S A) (ss ts : List (Step A)) → Reaches machine u ss w → Reaches machine w ts v → Reaches machine u (ss ++ ts) v
   more_steps u w v [] ts p q = subst (λ (x : World S A). Reaches machine x ts v) p q
   more_steps u w v (s ∷ ss) ts p q = (p.0, p.1, more_steps p.0 w v ss ts p.2 q)
 

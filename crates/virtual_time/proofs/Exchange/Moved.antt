@@ -23,7 +23,7 @@ use Rattle.virtual_time.proofs.Exchange.Windowed.{times_append}
 use Rattle.virtual_time.proofs.Exchange.Meetings.{high, done_g}
 use Rattle.virtual_time.proofs.Exchange.Pairs.{both, left_is, left_times, pairs_all, pairs_of, rest_is, rest_times}
 
-outcome_among : {A : Type 0} (k : ℕ) (es : List (Entry A)) → outcome_at k (turns_among es) ≡ turn_at k es
+pub outcome_among : {A : Type 0} (k : ℕ) (es : List (Entry A)) → outcome_at k (turns_among es) ≡ turn_at k es
 outcome_among k [] = refl
 outcome_among k (Own k' o ∷ es) = ap (λ x. cond (k' == k) (Some o) x) (outcome_among k es)
 outcome_among k (Input x ∷ es) = outcome_among k es

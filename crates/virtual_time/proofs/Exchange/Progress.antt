@@ -27,7 +27,7 @@ key_or_above g (x ∷ xs) h = go h.0 (cases_lt g x.key) (key_or_above g xs h.1)
     go low (inl l) (inr r) = inr (omega arith, r)
 
 -- one of the first n floors is not above g, or all are
-low_or_above : (floor : ℕ → ℕ) (g n : ℕ) → ((i : ℕ) × (i < n) × (floor i ≤ g)) ⊎ ((j : ℕ) → j < n → g < floor j)
+pub low_or_above : (floor : ℕ → ℕ) (g n : ℕ) → ((i : ℕ) × (i < n) × (floor i ≤ g)) ⊎ ((j : ℕ) → j < n → g < floor j)
 low_or_above floor g zero = inr (λ j l. absurd (omega arith))
 low_or_above floor g (suc n) = go (cases_lt g (floor n)) (low_or_above floor g n)
   where
@@ -90,7 +90,7 @@ module _ {S A : Type 0} (machine : Machine S A) (law : Lawful machine) where
   none_from i b n s (Own k o ∷ es) d = let up = law.rises i (number n es) in from_at (machine.key i (number n (Own k o ∷ es))) (Own k o) es (omega arith)
   none_from i b n s (Input x ∷ es) d = from_at (machine.key i (number n es)) (Input x) es d.0
 
-  goes_on : (i b g : ℕ) (c : Part S A) → IsProper machine b i c → g < machine.top → IsPast machine g i c → (IsPast machine (g + 1) i c → ⊥) → CanGoOn machine i g c
+  pub goes_on : (i b g : ℕ) (c : Part S A) → IsProper machine b i c → g < machine.top → IsPast machine g i c → (IsPast machine (g + 1) i c → ⊥) → CanGoOn machine i g c
   goes_on i b g c proper l past none = tray (key_or_above g c.plus past.plus) (key_or_above g c.minus past.minus)
     where
       next : ((x : Item A) × (least_of machine i (record_of c) c.pending ≡ Some (Input x)) × (x.key ≡ g))

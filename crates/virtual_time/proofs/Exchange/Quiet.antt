@@ -17,18 +17,18 @@ use Rattle.virtual_time.proofs.Exchange.Called.{each_lease}
 
 module _ {S A : Type 0} (machine : Machine S A) (law : Lawful machine) (count : ℕ) (counted : HasCount machine count) where
   -- a bag that has nothing is empty
-  empty_is : (xs : List (Item A)) → ((k : ℕ) (a : A) → times machine xs k a ≡ 0) → xs ≡ []
+  pub empty_is : (xs : List (Item A)) → ((k : ℕ) (a : A) → times machine xs k a ≡ 0) → xs ≡ []
   empty_is [] h = refl
   empty_is (x ∷ xs) h = let z = h x.key x.action in let s = hit_self machine law x in absurd (omega arith)
 
-  put_quiet : (i j : ℕ) (r : Record S A) (plus minus : ℕ → List (Item A) → List (Item A)) (u : World S A) → (j ≡ i → ⊥) → plus j [] ≡ [] → (u.part j).plus ≡ [] → ((put_back i r plus minus u).part j).plus ≡ []
+  pub put_quiet : (i j : ℕ) (r : Record S A) (plus minus : ℕ → List (Item A) → List (Item A)) (u : World S A) → (j ≡ i → ⊥) → plus j [] ≡ [] → (u.part j).plus ≡ [] → ((put_back i r plus minus u).part j).plus ≡ []
   put_quiet i j r plus minus u ne p h = ap (λ (c : Part S A). plus j c.plus) (put_other i (with_record (u.part i) r) u.part j ne) ∙ ap (plus j) h ∙ p
 
-  process_quiet : (i j : ℕ) (e : Option (Entry A)) (u : World S A) → (j ≡ i → ⊥) → count ≤ j → (u.part j).plus ≡ [] → ((process_entry machine i e u).part j).plus ≡ []
+  pub process_quiet : (i j : ℕ) (e : Option (Entry A)) (u : World S A) → (j ≡ i → ⊥) → count ≤ j → (u.part j).plus ≡ [] → ((process_entry machine i e u).part j).plus ≡ []
   process_quiet i j None u ne l h = h
   process_quiet i j (Some e) u ne l h = put_quiet i j (after_entry e (record_of (u.part i))) (sent_by machine i e) same u ne (by_deaf machine count counted i e j [] l) h
 
-  taken_none : (i j : ℕ) (x : Item A) → (j ≡ i → ⊥) → taken_at machine i x j [] ≡ []
+  pub taken_none : (i j : ℕ) (x : Item A) → (j ≡ i → ⊥) → taken_at machine i x j [] ≡ []
   taken_none i j x ne = rw (ne_eqb j i ne)
 
   does_quiet : (i j : ℕ) (u : World S A) (ss : List (Step A)) (w : World S A) → (j ≡ i → ⊥) → count ≤ j → (u.part j).plus ≡ [] → Does machine i u ss w → (w.part j).plus ≡ []

@@ -197,7 +197,7 @@ module _ {S A : Type 0} (machine : Machine S A) (law : Lawful machine) where
       let m = hm x.to x.item.key x.item.action in
       let o = one_gone x w (omega arith) (omega arith) in
       let r = meets_all xs (walk_meet machine x.to x.item w) (λ j k a. let t = o.plus j k a in let h = hp j k a in omega arith) (λ j k a. let t = o.minus j k a in let h = hm j k a in omega arith) in
-      (r.0, (walk_meet machine x.to x.item w, rw (lt-ltb 0 (times machine (w.part x.to).plus x.item.key x.item.action) (omega arith), lt-ltb 0 (times machine (w.part x.to).minus x.item.key x.item.action) (omega arith)), r.1), then o r.2)
+      (r.0, (walk_meet machine x.to x.item w, rw (lt-ltb 0 (times machine (w.part x.to).plus x.item.key x.item.action) (omega arith), lt-ltb 0 (times machine (w.part x.to).minus x.item.key x.item.action) (omega arith)), r.1), then {v = r.0} o r.2)
     where
       then : {u v : World S A} → Gone w u (x ∷ []) → Gone u v xs → Gone w v (x ∷ xs)
       then o r =

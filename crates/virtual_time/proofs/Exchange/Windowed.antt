@@ -20,7 +20,7 @@ module _ {S A : Type 0} (machine : Machine S A) where
   times_append [] ys k a = omega arith
   times_append (x ∷ xs) ys k a = let h = times_append xs ys k a in omega arith
 
-  sends_is : (es : List (Entry A)) (k : ℕ) (a : A) (i : ℕ) → sends machine es k a i ≡ cond (machine.receives (machine.owner k) a i) (owns machine es k a) 0
+  pub sends_is : (es : List (Entry A)) (k : ℕ) (a : A) (i : ℕ) → sends machine es k a i ≡ cond (machine.receives (machine.owner k) a i) (owns machine es k a) 0
   unfolding sends
   sends_is es k a i = refl
 
@@ -31,7 +31,7 @@ module _ {S A : Type 0} (machine : Machine S A) where
   told b j i (Own k (Some a) ∷ es) = cond (leb b k && ((machine.owner k == j) && machine.receives j a i)) (record { key = k; action = a } ∷ told b j i es) (told b j i es)
   told b j i (Input x ∷ es) = told b j i es
 
-  told_few : (b j i : ℕ) (es : List (Entry A)) → length (told b j i es) ≤ own_turns es
+  pub told_few : (b j i : ℕ) (es : List (Entry A)) → length (told b j i es) ≤ own_turns es
   told_few b j i [] = omega arith
   told_few b j i (Own k None ∷ es) = let h = told_few b j i es in omega arith
   told_few b j i (Own k (Some a) ∷ es) = go (leb b k && ((machine.owner k == j) && machine.receives j a i)) (told_few b j i es)
@@ -51,7 +51,7 @@ module _ {S A : Type 0} (machine : Machine S A) where
   cond_none true false = refl
   cond_none false d = refl
 
-  cond_zero : (c : Bool) → ◌≡◌ {A = ℕ} (cond c 0 0) 0
+  pub cond_zero : (c : Bool) → ◌≡◌ {A = ℕ} (cond c 0 0) 0
   cond_zero true = refl
   cond_zero false = refl
 
@@ -113,7 +113,7 @@ module _ {S A : Type 0} (machine : Machine S A) (law : Lawful machine) where
   told_low : (b j i : ℕ) (es : List (Entry A)) (k : ℕ) (a : A) → k < b → times machine (told machine b j i es) k a ≡ 0
   told_low b j i es k a l = told_times b j i es k a ∙ rw (lt-leb b k l)
 
-  told_self : (b i : ℕ) (es : List (Entry A)) → told machine b i i es ≡ []
+  pub told_self : (b i : ℕ) (es : List (Entry A)) → told machine b i i es ≡ []
   told_self b i [] = refl
   told_self b i (Own k None ∷ es) = told_self b i es
   told_self b i (Own k (Some a) ∷ es) = rw (law.others i a) (go (leb b k) (machine.owner k == i)) ∙ told_self b i es
@@ -129,7 +129,7 @@ module _ {S A : Type 0} (machine : Machine S A) (law : Lawful machine) where
   gathered sents b i zero = []
   gathered sents b i (suc n) = told machine b n i (sents n) ++ gathered sents b i n
 
-  gathered_past : (sents : ℕ → List (Entry A)) (b i n k : ℕ) (a : A) → n ≤ machine.owner k → times machine (gathered sents b i n) k a ≡ 0
+  pub gathered_past : (sents : ℕ → List (Entry A)) (b i n k : ℕ) (a : A) → n ≤ machine.owner k → times machine (gathered sents b i n) k a ≡ 0
   gathered_past sents b i zero k a l = refl
   gathered_past sents b i (suc n) k a l =
       let h = gathered_past sents b i n k a (omega arith) in
@@ -295,18 +295,18 @@ module _ {S A : Type 0} (machine : Machine S A) (law : Lawful machine) where
       record { turns = w.turns; inputs = omega arith }
 
   -- The inputs of a record are no more than what its lease has taken, where the tray is empty.
-  inputs_list : List (Entry A) → List (Item A)
+  pub inputs_list : List (Entry A) → List (Item A)
   inputs_list [] = []
   inputs_list (Own k o ∷ es) = inputs_list es
   inputs_list (Input x ∷ es) = x ∷ inputs_list es
 
-  list_length : (es : List (Entry A)) → length (inputs_list es) ≡ inputs_done es
+  pub list_length : (es : List (Entry A)) → length (inputs_list es) ≡ inputs_done es
   unfolding inputs_list
   list_length [] = refl
   list_length (Own k o ∷ es) = list_length es
   list_length (Input x ∷ es) = ap suc (list_length es)
 
-  list_times : (es : List (Entry A)) (k : ℕ) (a : A) → times machine (inputs_list es) k a ≡ inputs machine es k a
+  pub list_times : (es : List (Entry A)) (k : ℕ) (a : A) → times machine (inputs_list es) k a ≡ inputs machine es k a
   unfolding inputs_list
   list_times [] k a = refl
   list_times (Own k' o ∷ es) k a = list_times es k a

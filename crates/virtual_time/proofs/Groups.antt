@@ -1,0 +1,24 @@
+-- The proofs on the exchange of groups.
+pub mod Singles
+pub mod Parts
+pub mod Starts
+pub mod Alone
+pub mod Steps
+pub mod Runs
+pub mod Stands
+pub mod Meetings
+pub mod Committed
+pub mod Wholes
+pub mod Chunks
+pub mod Called
+pub mod Ones
+pub mod Leased
+pub mod Moved
+pub mod Exists
+pub mod Quiet
+pub mod Windowed
+pub mod WindowKept
+pub mod Progress
+pub mod OnesWithin
+pub mod Given
+pub mod Extras
