@@ -19,19 +19,32 @@ def ring(size):
     return head + ";\n".join(f"c{it}: Node({it}, {(it + 1) % size}, {str(it == 0).lower()})" for it in range(size)) + "\n"
 
 
+def phold_with(size, others):
+    """Returns the source of PHOLD with so many components, where component `it` sends to the three that are others(it)."""
+    head = (LOADS / "phold64.ioa").read_text().partition("c0:")[0].replace("0..63", f"0..{size - 1}")
+    return head + ";\n".join(f"c{it}: Node({', '.join(map(str, [it, *others(it)]))})" for it in range(size)) + "\n"
+
+
 def phold(size):
     """Returns the source of PHOLD with so many components, 4 or more: each has a job, which goes to one of three others, drawn at random."""
-    head = (LOADS / "phold64.ioa").read_text().partition("c0:")[0].replace("0..63", f"0..{size - 1}")
-    chance, lines = random.Random(size), []
-    for it in range(size):
-        others = [other + (other >= it) for other in chance.sample(range(size - 1), 3)]
-        lines.append(f"c{it}: Node({', '.join(map(str, [it, *others]))})")
-    return head + ";\n".join(lines) + "\n"
+    chance = random.Random(size)
+    return phold_with(size, lambda it: [other + (other >= it) for other in chance.sample(range(size - 1), 3)])
+
+
+def phold_of_neighbours(size):
+    """Returns the source of PHOLD whose components stand in a circle, and send to the two next and the one before."""
+    return phold_with(size, lambda it: [(it + away) % size for away in (1, 2, -1)])
+
+
+def token_of_100():
+    """Returns the source of Suzuki and Kasami's token whose requests are numbered from 0 to 99 in place of 15."""
+    return (LOADS / "token.ioa").read_text().replace("0..15", "0..99")
 
 
 def loads():
-    """Returns the sources of bench/loads by their names, and a ring and PHOLD of 1,024 components, which have 30 and 33 KB."""
-    return {**{it.stem: it.read_text() for it in LOADS.glob("*.ioa")}, "ring1024": ring(1024), "phold1024": phold(1024)}
+    """Returns the sources of bench/loads by their names, and those made here: a ring and PHOLD of 1,024 components have 30 and 33 KB."""
+    generated = {"ring64": ring(64), "ring1024": ring(1024), "phold64near": phold_of_neighbours(64), "phold1024": phold(1024), "token100": token_of_100()}
+    return {**{it.stem: it.read_text() for it in LOADS.glob("*.ioa")}, **generated}
 
 
 def in_order(turns):

@@ -1,7 +1,7 @@
 #!/usr/bin/env python3
-"""Prints how many seeds a second of its processor a hunt looks at, by one worker, over each example that has an output `alarm`, up to tick 400: of so many
-seeds that they take more than half a second. It counts the seeds that have the alarm, so that it looks at all of them. Two runs on a busy machine differ
-by some tenths.
+"""Prints how many seeds a second of its processor a hunt looks at, by one worker, over each example that has an output `alarm`, and over the token in
+bench/loads, up to tick 400: of so many seeds that they take more than half a second. It counts the seeds that have the alarm, so that it looks at all of
+them. Two runs on a busy machine differ by some tenths.
 
 usage: hunts.py PROGRAM"""
 import re, resource, subprocess, sys
@@ -20,7 +20,7 @@ def spent():
 def seconds(source, seeds):
     words = ["hunt", source.name, "alarm", "--ticks", "400", "--seeds", f"1..{seeds}", "--workers", "1", "--count"]
     start = spent()
-    subprocess.run([program, *words], cwd=EXAMPLES, stdin=subprocess.DEVNULL, stdout=subprocess.DEVNULL, check=True)
+    subprocess.run([program, *words], cwd=source.parent, stdin=subprocess.DEVNULL, stdout=subprocess.DEVNULL, check=True)
     return spent() - start
 
 
@@ -33,6 +33,6 @@ def print_speed(source):
 
 
 program = Path(sys.argv[1]).resolve()
-for source in sorted(EXAMPLES.glob("*.ioa")):
+for source in [*sorted(EXAMPLES.glob("*.ioa")), EXAMPLES.parent / "bench" / "loads" / "token.ioa"]:
     if re.search(r"^\s*output alarm\b", source.read_text(), re.M):
         print_speed(source)

@@ -1,6 +1,6 @@
 #!/usr/bin/env python3
-"""Prints how many turns a second the program takes on the loads in bench/loads and on PHOLD of 1,024, text to /dev/null: by `reference`, and the
-speed of `run` by 1, 2 and 4 workers beside it. Each is the median of five runs, which take turns; only a quiet machine with four processors tells
+"""Prints how many turns a second the program takes on the loads in bench/loads and on others, on the token and on three examples, text to /dev/null: by
+`reference`, and the speed of `run` by 1, 2 and 4 workers beside it. Each is the median of five runs, which take turns; only a quiet machine with four processors tells
 something.
 
 usage: times.py PROGRAM"""
@@ -9,7 +9,9 @@ from pathlib import Path
 
 from generated import loads
 
-LOADS = [("ring8", 300000), ("compute64", 2000), ("phold64", 20000), ("phold64w", 4000), ("phold1024", 1250)]
+LOADS = [("ring8", 300000), ("ring64", 40000), ("compute64", 2000), ("phold64", 20000), ("phold64near", 20000), ("phold64w", 4000), ("phold1024", 1250),
+         ("token", 100000)]
+EXAMPLES = [("paxos", 60000), ("ricart-agrawala", 60000), ("bakery", 100000)]
 CREWS = [1, 2, 4]
 
 
@@ -33,5 +35,7 @@ program = Path(sys.argv[1]).resolve()
 with tempfile.TemporaryDirectory() as folder:
     for name, text in loads().items():
         (Path(folder) / f"{name}.ioa").write_text(text)
-    for load, ticks in LOADS:
+    for name, _ in EXAMPLES:
+        (Path(folder) / f"{name}.ioa").write_text((Path(__file__).resolve().parent.parent / "examples" / f"{name}.ioa").read_text())
+    for load, ticks in [*LOADS, *EXAMPLES]:
         print_times(folder, load, ticks)
