@@ -1,5 +1,5 @@
 -- Ranges of seeds, one behind the other.
-use Rattle.std.proofs.Common.{◌≡◌, ◌⊎◌, ℕ, Bool, true, false, true≢false, zero, suc, ◌+◌, ◌-◌, ◌<◌, ◌≤◌, List, inl, inr, refl, sym, subst, arith}
+use Rattle.std.proofs.Common.{◌≡◌, ◌⊎◌, ℕ, Bool, true, false, true≢false, zero, suc, ◌+◌, ◌-◌, ◌<◌, ◌≤◌, List, inl, inr, refl, sym, subst, ◌∙◌, arith}
 use Rattle.std.specs.Prelude.{Option, None, Some, Result, Ok, Err, IfErr, IfNone, IfOk, IfSome, MatchBool, OnOk}
 use Rattle.std.proofs.lemmas.Bool.{cases_lt}
 use Rattle.event_keys.specs.declared.outcome.Turned.{Turned}
@@ -162,3 +162,8 @@ module _ (h : Hunted) where
     looked_lacks (Ok (Some text)) is = tt
     looked_lacks (Ok None) is = record { plan = plan; system = s; wanted = wanted; means = record { composed = composed; sown = sown; named = named }; never = subst (λ (p : Plan). NeverOccurs p s wanted) same is }
     looked_lacks (Err e) is = tt
+
+-- a plan that is kept is the one that the source means
+pub kept_plan : (kept : Option Plan) (source : List ℕ) (plan other : Plan) → IfSome kept (λ p. p ≡ other) → other ≡ plan → IsComposed source plan → IfSome kept (IsComposed source)
+kept_plan None source plan other is same composed = tt
+kept_plan (Some p) source plan other is same composed = subst (IsComposed source) (sym (is ∙ same)) composed

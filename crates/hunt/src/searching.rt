@@ -1,5 +1,6 @@
 //! The least seed of a range that has the action.
-ghost use Rattle.std.specs.Prelude.{IfErr, IfOk};
+ghost use Rattle.std.specs.Prelude.{IfErr, IfOk, IfSome};
+ghost use Rattle.compose.specs.Composed.{IsComposed};
 ghost use Rattle.hunt.specs.Faults.{IsUnseen};
 ghost use Rattle.hunt.specs.Hunts.{IsFound, IsPart};
 ghost use Rattle.hunt.specs.Seeds.{hunted};
@@ -10,6 +11,7 @@ use crate::find::{Aim, Find, Part};
 use crate::looks::Looks;
 use crate::seeds::look;
 use crate::sharing::look_through;
+use plans::Plan;
 use std::alloc::Global;
 use std::sync::atomic::{AtomicU64, Ordering};
 use std::thread::Threads;
@@ -27,8 +29,9 @@ fn search_alone(
     ensures found { IfOk result (IsFound (hunted source.now action.now course) from end) }
     ensures err { IfErr result (IsUnseen (hunted source.now action.now course)) }
 {
+    let mut kept = None;
     for seed in from..end {
-        match look(alloc, source, action, course, seed) {
+        match look(alloc, source, action, course, seed, &mut kept) {
             Ok(Some(text)) => return Ok(Some(Find { seed, text })),
             Ok(None) => {}
             Err(fault) => return Err(fault),
@@ -60,7 +63,10 @@ pub(crate) fn search_part<L: Looks>(
     end: u64,
     least: &AtomicU64,
     looks: &L,
+    kept: &mut Option<Plan>,
 ) -> Result<Part, HuntFault>
+    requires kept { IfSome kept.old (IsComposed source.now) }
+    ensures kept { IfSome kept.new (IsComposed source.now) }
     ensures part { IfOk result (IsPart (hunted source.now action.now course) from end) }
     ensures err { IfErr result (IsUnseen (hunted source.now action.now course)) }
 {
@@ -68,7 +74,7 @@ pub(crate) fn search_part<L: Looks>(
         if is_given_up(least, seed) {
             return Ok(Part::GivenUp);
         }
-        match look(alloc, source, action, course, seed) {
+        match look(alloc, source, action, course, seed, kept) {
             Ok(Some(text)) => {
                 note_found(least, seed);
                 looks.looked();

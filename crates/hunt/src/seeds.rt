@@ -1,5 +1,5 @@
 //! One seed: what a source means with its turns, and whether the action comes.
-ghost use Rattle.std.specs.Prelude.{◌≡◌, ◌++◌, [], ℕ, List, IfErr, IfNone, IfOk, IfSome, codes, decimal};
+ghost use Rattle.std.specs.Prelude.{◌≡◌, ◌++◌, [], ℕ, List, None, IfErr, IfNone, IfOk, IfSome, codes, decimal};
 ghost use Rattle.compose.specs.Composed.{IsComposed};
 ghost use Rattle.task_seed.specs.Drawn.{drawn_turn, seed_turn};
 ghost use Rattle.task_seed.specs.Setups.{plan_of, system};
@@ -70,6 +70,28 @@ fn composed(alloc: Global, source: &[u8]) -> Result<Plan, HuntFault>
     }
 }
 
+// The plan that is kept, or else the composition of the source.
+fn plan_for(alloc: Global, source: &[u8], kept: &mut Option<Plan>) -> Result<Plan, HuntFault>
+    requires { IfSome kept.old (IsComposed source.now) }
+    ensures none { kept.new ≡ None }
+    ensures ok { IfOk result (IsComposed source.now) }
+    ensures err { (action : List ℕ) (course : Course) → IfErr result
+        (IsUnseen (hunted source.now action course)) }
+{
+    match kept.take() {
+        Some(plan) => Ok(plan),
+        None => composed(alloc, source),
+    }
+}
+
+// The plan of a simulator that takes no more turns.
+fn plan_in(reference: Reference<SeedTurns>) -> Option<Plan>
+    ensures { IfSome result (λ plan. plan ≡ plan_of reference.setup) }
+{
+    let setup = Arc::into_inner(reference.into_setup())?;
+    Some(setup.into_plan())
+}
+
 // The actions that a text names.
 fn named(alloc: Global, plan: &Plan, action: &str) -> Result<Wanted, HuntFault>
     ensures ok { IfOk result (IsWanted plan.now action.now) }
@@ -124,6 +146,7 @@ fn show(
     requires known { IsKnown
         (plan_of reference.old.setup) (system seed_turn reference.old.setup) }
     requires start { reference.old.taken ≡ [] }
+    ensures setup { reference.new.setup ≡ reference.old.setup }
     ensures shown { IfOk result (λ found. IfSome found (λ text. IsShown
         (plan_of reference.old.setup)
         (system seed_turn reference.old.setup) wanted.now seed text.items)) }
@@ -142,13 +165,16 @@ fn show(
     }
 }
 
-// The same of a setup.
+// The same of a setup, whose plan is kept.
 fn watch(
     alloc: Global,
     setup: Setup<SeedTurns>,
     wanted: &Wanted,
     seed: u64,
+    kept: &mut Option<Plan>,
 ) -> Result<Option<Vec<u8>>, HuntFault>
+    requires none { kept.old ≡ None }
+    ensures kept { IfSome kept.new (λ plan. plan ≡ plan_of setup) }
     ensures shown { IfOk result (λ found. IfSome found (λ text. IsShown
         (plan_of setup) (system seed_turn setup) wanted.now seed text.items)) }
     ensures never { IfOk result (λ found. IfNone found (NeverOccurs
@@ -158,24 +184,30 @@ fn watch(
     known_law(&setup);
     let shared = Arc::new(alloc, setup)?;
     let mut reference = Reference::new(alloc, shared)?;
-    show(alloc, &mut reference, wanted, seed)
+    let found = show(alloc, &mut reference, wanted, seed);
+    *kept = plan_in(reference);
+    found
 }
 
-/// The text of a seed's turns up to the first that did the action, if its schedule has it.
+/// The text of a seed's turns up to the first that did the action, if its schedule has it. The plan of the source is kept, so
+/// that it is made once for many seeds.
 pub(crate) fn look(
     alloc: Global,
     source: &[u8],
     action: &str,
     course: Course,
     seed: u64,
+    kept: &mut Option<Plan>,
 ) -> Result<Option<Vec<u8>>, HuntFault>
+    requires kept { IfSome kept.old (IsComposed source.now) }
+    ensures kept { IfSome kept.new (IsComposed source.now) }
     ensures has { IfOk result (λ found. IfSome found (λ text.
         HasText (hunted source.now action.now course) seed text.items)) }
     ensures lacks { IfOk result (λ found. IfNone found
         (Lacks (hunted source.now action.now course) seed)) }
     ensures err { IfErr result (IsUnseen (hunted source.now action.now course)) }
 {
-    let plan = match composed(alloc, source) {
+    let plan = match plan_for(alloc, source, kept) {
         Ok(plan) => plan,
         Err(fault) => return Err(fault),
     };
@@ -193,7 +225,7 @@ pub(crate) fn look(
             return Err(fault);
         }
     };
-    let found = watch(alloc, setup, &wanted, seed);
+    let found = watch(alloc, setup, &wanted, seed, kept);
     drop(wanted);
     found
 }

@@ -1,6 +1,7 @@
 //! Many seeds by several workers, each of which takes the next part of them when it is through with one.
-ghost use Rattle.std.specs.Prelude.{◌≡◌, ◌≤◌, ◌<◌, ℕ, true, IfErr, IfOk};
+ghost use Rattle.std.specs.Prelude.{◌≡◌, ◌≤◌, ◌<◌, ℕ, true, IfErr, IfOk, IfSome};
 ghost use Rattle.std.specs.Thread.{IsSync};
+ghost use Rattle.compose.specs.Composed.{IsComposed};
 ghost use Rattle.hunt.specs.Faults.{IsUnseen};
 ghost use Rattle.hunt.specs.Hunts.{AreTaken, IsPart};
 ghost use Rattle.hunt.specs.Seeds.{Hunted, hunted};
@@ -11,6 +12,7 @@ use crate::fault::HuntFault;
 use crate::find::{Aim, Part, Taken, merged};
 use crate::looks::Looks;
 use crate::searching::search_part;
+use plans::Plan;
 use std::alloc::Global;
 use std::sync::atomic::{AtomicU64, Ordering};
 use std::thread::{Threads, join};
@@ -36,14 +38,17 @@ fn look_at<L: Looks>(
     end: u64,
     least: &AtomicU64,
     looks: &L,
+    kept: &mut Option<Plan>,
 ) -> Result<Part, HuntFault>
     requires range { from ≤ end }
+    requires kept { IfSome kept.old (IsComposed source.now) }
+    ensures kept { IfSome kept.new (IsComposed source.now) }
     ensures part { IfOk result (IsPart (hunted source.now action.now course) from end) }
     ensures err { IfErr result (IsUnseen (hunted source.now action.now course)) }
 {
     match aim {
-        Aim::Least => search_part(alloc, source, action, course, from, end, least, looks),
-        Aim::Count => match count_alone(alloc, source, action, course, from, end, looks) {
+        Aim::Least => search_part(alloc, source, action, course, from, end, least, looks, kept),
+        Aim::Count => match count_alone(alloc, source, action, course, from, end, looks, kept) {
             Ok(count) => Ok(Part::Counted(count)),
             Err(fault) => Err(fault),
         },
@@ -70,6 +75,7 @@ fn take_parts<L: Looks>(
     ensures err { IfErr result (IsUnseen (hunted source.now action.now course)) }
 {
     let mut parts = Vec::new(alloc);
+    let mut kept = None;
     for _ in from..end {
         let begin = next.fetch_add(size, Ordering::SeqCst);
         if end <= begin {
@@ -77,7 +83,7 @@ fn take_parts<L: Looks>(
         }
         let stop = begin.saturating_add(size).min(end);
         match look_at(
-            alloc, source, action, course, aim, begin, stop, least, looks,
+            alloc, source, action, course, aim, begin, stop, least, looks, &mut kept,
         ) {
             Ok(part) => parts.push(Taken {
                 from: begin,

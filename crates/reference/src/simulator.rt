@@ -82,6 +82,15 @@ impl<T: Turns> Reference<T> {
         &self.setup
     }
 
+    /// The setup, of a simulator that takes no more turns.
+    pub fn into_setup(self) -> Arc<Setup<T>>
+        ensures { arc_value result ≡ self.setup }
+    {
+        let Reference { setup, frontier } = self;
+        drop(frontier);
+        setup
+    }
+
     /// Takes the turn with the least key: by the joint step, its component and each receiver of its action take it. `None` after
     /// the last turn.
     ///

@@ -87,6 +87,19 @@ impl<T: Turns> Setup<T> {
         &self.plan
     }
 
+    /// The plan, which so serves for another setup.
+    pub fn into_plan(self) -> Plan
+        ensures { result ≡ plan_of self }
+    {
+        let Setup {
+            plan,
+            turns,
+            horizon: _,
+        } = self;
+        drop(turns);
+        plan
+    }
+
     // The tick of turn `n` of component `i`, where that of the turn before is `tick`.
     fn tick_after(&self, i: u16, n: u64, tick: u64) -> Option<u64>
         requires { tick ≤ horizon_of self.now }

@@ -14,6 +14,7 @@ loop-seed-preserved g c =
       below = omega arith;
       are = count_joined (hunted c.args.source.now c.args.action.now c.args.course) c.args.from c.loop-seed.seed (c.loop-seed.seed + 1) c.loop-seed.count c.in-Ok.one here.above (omega arith) here.are c.in-Ok.ensures.count;
       few = omega arith;
+      kept = c.count_one.ensures.kept;
     }
 
 pub returns-clause-count : goal.returns-clause-count

@@ -1,4 +1,6 @@
 use Rattle.std.proofs.Common.{◌≤◌, ◌-◌}
+use Rattle.std.specs.Prelude.{IfSome}
+use Rattle.compose.specs.Composed.{IsComposed}
 use Rattle.hunt.specs.Hunts.{IsCount}
 use Rattle.hunt.specs.Seeds.{hunted}
 use Rattle.hunt.proofs.counting.count_alone.Given as goal
@@ -9,4 +11,5 @@ invariant-loop-seed g l = record {
   below : l.seed ≤ l.end;
   are : IsCount (hunted l.source l.action l.course) l.from l.seed l.count;
   few : l.count ≤ l.seed - l.from;
+  kept : IfSome l.kept (IsComposed l.source);
 }

@@ -7,4 +7,7 @@ use Rattle.hunt.proofs.searching.search_alone.Goals as goal
 pub loop-seed-preserved : goal.loop-seed-preserved
 loop-seed-preserved c =
     let h = hunted c.args.source.now c.args.action.now c.args.course in
-    lack_more h c.args.from c.loop-seed.seed c.loop-seed.invariant (subst (λ o. IfNone o (Lacks h c.loop-seed.seed)) c.in-Ok-None.field-0-is c.in-Ok-None.ensures.lacks)
+    record {
+      lack = lack_more h c.args.from c.loop-seed.seed c.loop-seed.invariant.lack (subst (λ o. IfNone o (Lacks h c.loop-seed.seed)) c.in-Ok-None.field-0-is c.in-Ok-None.ensures.lacks);
+      kept = c.look.ensures.kept;
+    }
