@@ -88,15 +88,15 @@ branch_at k (branch ∷ branches) zero d are below = are.1
 branch_at k (branch ∷ branches) (suc b) d are below = branch_at k branches b d are.2 (omega (arith, below))
 
 -- a branch that is bound holds at one place at most
-pub bound_outside : (scope : Scope) (state : List Datum) (known : ℕ) (param : Param) (tests : List Test) (term : Term) (place : ℕ) → Binds (suc known) tests (Some term) → ((formals : List Scalar) (p : ℕ) → p < choices param → value (term_tree term) scope state ≡ Just (picked formals param p) → p ≡ place)
-    → (p : ℕ) (others : List Scalar) → p < choices param → (p ≡ place → ⊥) → take known others ≡ take known scope.parameters → slot others known ≡ picked scope.formals param p → tests_hold (record scope { parameters = others }) state tests ≡ false
-bound_outside scope state known param tests term place binds only p others below off front is = go (tests_hold (record scope { parameters = others }) state tests) refl where
+pub bound_outside : (scope : Scope) (state : List Datum) (known : ℕ) (param : Param) (tests : List Test) (term : Term) → Binds (suc known) tests (Some term)
+    → (p : ℕ) (others : List Scalar) → (value (term_tree term) scope state ≡ Just (picked scope.formals param p) → ⊥) → take known others ≡ take known scope.parameters → slot others known ≡ picked scope.formals param p → tests_hold (record scope { parameters = others }) state tests ≡ false
+bound_outside scope state known param tests term binds p others off front is = go (tests_hold (record scope { parameters = others }) state tests) refl where
   go : (b : Truth) → tests_hold (record scope { parameters = others }) state tests ≡ b → tests_hold (record scope { parameters = others }) state tests ≡ false
   go false h = h
   go true h =
       let there = binds.1 (record scope { parameters = others }) state h in
       let same = same_within (term_tree term) scope state others scope.parameters known binds.0 front in
-      absurd (off (only scope.formals p below (sym same ∙ there ∙ ap Just is)))
+      absurd (off (sym same ∙ there ∙ ap Just is))
 
 -- one that has no other test holds where it has the value of its term
 pub bound_sure : (scope : Scope) (state : List Datum) (known : ℕ) (param : Param) (tests : List Test) (term : Term) (place : ℕ) → Binds (suc known) tests (Some term) → length tests ≡ 1 → value (term_tree term) scope state ≡ Just (picked scope.formals param place) → IsSure scope state known param tests place (place + 1)

@@ -5,7 +5,7 @@ use Rattle.conditions.specs.Conditions.{left_after, left_after_all, is_one_left,
 use Rattle.conditions.specs.declared.condition.Branch.{Branch}
 use Rattle.conditions.specs.declared.condition.Stage.{Stage}
 use Rattle.conditions.specs.declared.condition.Test.{Test}
-use Rattle.terms.specs.Datum.{Datum}
+use Rattle.terms.specs.Datum.{Datum, Just}
 use Rattle.terms.specs.Meaning.{Scope, slot}
 use Rattle.terms.specs.declared.scalar.Listed.{Listed}
 use Rattle.terms.specs.declared.scalar.Scalar.{Scalar}
@@ -73,6 +73,16 @@ abbrev pub IsSure : Scope → List Datum → ℕ → Param → List Test → ℕ
 IsSure scope state known param tests low high =
     (p : ℕ) (others : List Scalar) → low ≤ p → p < high → take known others ≡ take known scope.parameters → slot others known ≡ picked scope.formals param p
     → tests_hold (record scope { parameters = others }) state tests ≡ true
+
+-- a parameter has this value at this place, and at no other
+pub record IsPlaceOf (value : Datum) (formals : List Scalar) (param : Param) (at : ℕ) : Type 0 where
+  pub below : at < choices param
+  pub there : value ≡ Just (picked formals param at)
+  pub only : (p : ℕ) → p < choices param → value ≡ Just (picked formals param p) → p ≡ at
+
+-- it has this value nowhere
+abbrev pub IsNowhere : Datum → List Scalar → Param → Type 0
+IsNowhere value formals param = (p : ℕ) → p < choices param → value ≡ Just (picked formals param p) → ⊥
 
 -- Where it has a value at a place below low or from high on, no branch is left after the next stage.
 abbrev pub IsRange : Scope → List Datum → ℕ → Param → List Branch → List Truth → ℕ → ℕ → Type 0

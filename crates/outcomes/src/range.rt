@@ -1,11 +1,11 @@
 //! Which values of a parameter are worth a try.
-ghost use Rattle.std.specs.Prelude.{◌≡◌, ◌⊎◌, ◌<◌, ◌≤◌, IfOk, IfSome, List, ℕ, Some, false, true, suc, length, take, get_or, slice_get, max};
+ghost use Rattle.std.specs.Prelude.{◌≡◌, ◌⊎◌, ◌<◌, ◌≤◌, IfNone, IfOk, IfSome, List, ℕ, false, true, suc, length, take, get_or, slice_get, max};
 ghost use Rattle.conditions.specs.Conditions.{AreBranches, AreWithin, Binds, tests_hold};
 ghost use Rattle.io_automata.specs.Steps.{scope_in};
 ghost use Rattle.io_automata.specs.Tuples.{choices, picked};
 ghost use Rattle.io_automata.specs.WellFormed.{is_complete};
 ghost use Rattle.io_automata.specs.declared.automaton.Param.TheVariants.{Member};
-ghost use Rattle.outcomes.specs.Solving.{IsComplete, IsOutside, IsRange, IsSure};
+ghost use Rattle.outcomes.specs.Solving.{IsComplete, IsNowhere, IsOutside, IsPlaceOf, IsRange, IsSure};
 ghost use Rattle.terms.specs.Datum.{Just};
 ghost use Rattle.terms.specs.Meaning.{slot, value};
 ghost use Rattle.terms.specs.Scopes.{scope};
@@ -16,7 +16,7 @@ use crate::asking::env_of;
 use crate::making::picked;
 use crate::node::Range;
 use crate::tuples::choices;
-use conditions::{Branch, Stage};
+use conditions::{Branch, Stage, Test};
 use evaluation::{eval, parts};
 use io_automata::Param;
 use std::alloc::Global;
@@ -85,75 +85,74 @@ pub(crate) fn branch_range<C: Cells>(
         branch.now.tests.items range.low range.high) }
 {
     let _ = known;
-    let total = usize::from(choices(&param));
-    let number = branch.tests.len();
     match &branch.bound {
         None => Ok(Range {
             low: 0,
-            high: total,
-            sure: number == 0,
+            high: usize::from(choices(&param)),
+            sure: branch.tests.is_empty(),
         }),
-        Some(term) => {
-            let said = said_by(alloc, term, param, env, cells)?;
-            if said.place < total {
-                return Ok(Range {
-                    low: said.place,
-                    high: said.place + 1,
-                    sure: is_all(number, said, param, env.formals),
-                });
-            }
-            Ok(Range {
-                low: total,
+        Some(term) => match place_by(alloc, term, param, env, cells)? {
+            Some(place) => Ok(Range {
+                low: place,
+                high: place + 1,
+                sure: is_alone(branch.tests.as_slice()),
+            }),
+            None => Ok(Range {
+                low: usize::from(choices(&param)),
                 high: 0,
                 sure: false,
-            })
-        }
+            }),
+        },
     }
 }
 
-// What a term says of a parameter that has its value: the only place at which it may have it, and the scalar that it is.
-#[derive(Clone, Copy)]
-struct Said {
-    place: usize,
-    scalar: Option<Scalar>,
+// Whether there is one test and no other.
+#[inline(always)]
+fn is_alone(tests: &[Test]) -> bool
+    ensures { result ≡ true → length tests.now ≡ 1 }
+{
+    tests.len() == 1
 }
 
+// The only place at which a parameter has the value of a term; `None` where it has it nowhere.
 #[inline(always)]
-fn said_by<C: Cells>(
+fn place_by<C: Cells>(
     alloc: Global,
     term: &Term,
     param: Param,
     env: &Env,
     cells: &C,
-) -> Result<Said, NoMemory>
+) -> Result<Option<usize>, NoMemory>
     requires complete { IsComplete param }
-    ensures place { IfOk result (λ said. (formals : List Value) (p : ℕ) → p < choices param
-        → value (term_tree term.now) (scope env.now) (C.values cells.now)
-        ≡ Just (picked formals param p) → p ≡ said.place) }
-    ensures scalar { IfOk result (λ said. IfSome said.scalar (λ s.
-        value (term_tree term.now) (scope env.now) (C.values cells.now) ≡ Just s)) }
+    ensures some { IfOk result (λ found. IfSome found (λ at. IsPlaceOf
+        (value (term_tree term.now) (scope env.now) (C.values cells.now))
+        env.now.formals.now param at)) }
+    ensures none { IfOk result (λ found. IfNone found (IsNowhere
+        (value (term_tree term.now) (scope env.now) (C.values cells.now))
+        env.now.formals.now param)) }
 {
     let value = eval(alloc, term, env, cells)?;
-    let place = place_of(param, value.scalar());
     let scalar = value.as_scalar();
     drop(value);
-    Ok(Said { place, scalar })
+    match scalar {
+        Some(scalar) => Ok(place_with(env.formals, param, scalar)),
+        None => Ok(None),
+    }
 }
 
-// Whether that is the only test, and the parameter has that value at that place.
 #[inline(always)]
-fn is_all(number: usize, said: Said, param: Param, formals: &[Scalar]) -> bool
-    requires { said.place < choices param }
-    ensures one { result ≡ true → number ≡ 1 }
-    ensures at { result ≡ true → said.scalar ≡ Some (picked formals.now param said.place) }
+fn place_with(formals: &[Scalar], param: Param, scalar: Scalar) -> Option<usize>
+    requires complete { IsComplete param }
+    ensures some { IfSome result (λ at. IsPlaceOf (Just scalar) formals.now param at) }
+    ensures none { IfNone result (IsNowhere (Just scalar) formals.now param) }
 {
-    if number == 1 {
-        return match said.scalar {
-            Some(scalar) => scalar == picked(formals, &param, said.place),
-            None => false,
-        };
+    let place = place_of(param, scalar);
+    if place < usize::from(choices(&param)) {
+        if picked(formals, &param, place) == scalar {
+            return Some(place);
+        }
     }
-    false
+    None
 }
 
 #[inline(always)]
