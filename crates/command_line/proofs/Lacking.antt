@@ -5,14 +5,14 @@ use Rattle.std.proofs.lemmas.Bool.{eqb-false}
 use Rattle.std.proofs.lemmas.Option.{none-some, same_Some}
 use Rattle.clap.specs.Words.{Row, Text, first_of}
 use Rattle.command_line.specs.declared.Asked.{Asked}
-use Rattle.command_line.specs.declared.Asked.TheVariants.{Print, Reference, Run, Check, Drive, Explain, Hunt, Draw}
+use Rattle.command_line.specs.declared.Asked.TheVariants.{Print, Format, Reference, Run, Check, Drive, Explain, Hunt, Draw}
 use Rattle.command_line.specs.declared.crew.Crew.{Crew}
 use Rattle.command_line.specs.declared.ticks.Ticks.{Ticks}
 use Rattle.command_line.specs.declared.hunting.Hunting.{Hunting}
 use Rattle.command_line.specs.declared.Options.{Options}
 use Rattle.command_line.specs.Drawing.{HasTicks}
 use Rattle.command_line.specs.Hunting.{HasHunting}
-use Rattle.command_line.specs.Words.{HasCrew, HasOptions, IsAskedBy, IsNamed}
+use Rattle.command_line.specs.Words.{HasCrew, HasOptions, HasTurns, IsAskedBy, IsNamed}
 
 abbrev Entered : Type 0
 Entered = Option (Text × List Row)
@@ -41,6 +41,8 @@ pub without_reference : (rows : List Row) → ((o : Options) → HasOptions rows
     → IsNamed (Some (codes "reference", rows)) a → ⊥
 without_reference rows none (Print source) named =
     apart (codes "reference") rows named.rows (codes "print") refl named.is
+without_reference rows none (Format source check) named =
+    apart (codes "reference") rows named.rows (codes "format") refl named.is
 without_reference rows none (Reference source options) named =
     none options (subst (λ found. HasOptions found options) (sym (ap rows_in named.is)) named.chosen)
 without_reference rows none (Run source options crew) named =
@@ -61,6 +63,8 @@ pub without_run : (rows : List Row) → ((o : Options) (c : Crew) → HasOptions
     → IsNamed (Some (codes "run", rows)) a → ⊥
 without_run rows none (Print source) named =
     apart (codes "run") rows named.rows (codes "print") refl named.is
+without_run rows none (Format source check) named =
+    apart (codes "run") rows named.rows (codes "format") refl named.is
 without_run rows none (Reference source options) named =
     apart (codes "run") rows named.rows (codes "reference") refl named.is
 without_run rows none (Run source options crew) named =
@@ -81,6 +85,8 @@ pub without_drive : (rows : List Row) → ((text : Text) (o : Options) → first
     → IsNamed (Some (codes "drive", rows)) a → ⊥
 without_drive rows none (Print source) named =
     apart (codes "drive") rows named.rows (codes "print") refl named.is
+without_drive rows none (Format source check) named =
+    apart (codes "drive") rows named.rows (codes "format") refl named.is
 without_drive rows none (Reference source options) named =
     apart (codes "drive") rows named.rows (codes "reference") refl named.is
 without_drive rows none (Run source options crew) named =
@@ -102,6 +108,8 @@ pub without_hunt : (rows : List Row) → ((text : Text) (h : Hunting) → first_
     → IsNamed (Some (codes "hunt", rows)) a → ⊥
 without_hunt rows none (Print source) named =
     apart (codes "hunt") rows named.rows (codes "print") refl named.is
+without_hunt rows none (Format source check) named =
+    apart (codes "hunt") rows named.rows (codes "format") refl named.is
 without_hunt rows none (Reference source options) named =
     apart (codes "hunt") rows named.rows (codes "reference") refl named.is
 without_hunt rows none (Run source options crew) named =
@@ -118,11 +126,13 @@ without_hunt rows none (Hunt source action hunting) named =
 without_hunt rows none (Draw source options ticks) named =
     apart (codes "hunt") rows named.rows (codes "draw") refl named.is
 
--- the options or the ticks of `draw`
-pub without_draw : (rows : List Row) → ((o : Options) (t : Ticks) → HasOptions rows o → HasTicks rows t → ⊥) → (a : Asked)
+-- the turns or the ticks of `draw`
+pub without_draw : (rows : List Row) → ((o : Options) (t : Ticks) → HasTurns rows o → HasTicks rows t → ⊥) → (a : Asked)
     → IsNamed (Some (codes "draw", rows)) a → ⊥
 without_draw rows none (Print source) named =
     apart (codes "draw") rows named.rows (codes "print") refl named.is
+without_draw rows none (Format source check) named =
+    apart (codes "draw") rows named.rows (codes "format") refl named.is
 without_draw rows none (Reference source options) named =
     apart (codes "draw") rows named.rows (codes "reference") refl named.is
 without_draw rows none (Run source options crew) named =
@@ -136,7 +146,7 @@ without_draw rows none (Explain source table steps actions) named =
 without_draw rows none (Hunt source action hunting) named =
     apart (codes "draw") rows named.rows (codes "hunt") refl named.is
 without_draw rows none (Draw source options ticks) named =
-    none options ticks (subst (λ found. HasOptions found options) (sym (ap rows_in named.is)) named.chosen) (subst (λ found. HasTicks found ticks) (sym (ap rows_in named.is)) named.ticks)
+    none options ticks (subst (λ found. HasTurns found options) (sym (ap rows_in named.is)) named.chosen) (subst (λ found. HasTicks found ticks) (sym (ap rows_in named.is)) named.ticks)
 
 pub asks_nothing : (entered : Entered) (r : Option Asked) → r ≡ None → ((a : Asked) → IsNamed entered a → ⊥)
     → IsAskedBy entered r
@@ -151,6 +161,8 @@ given_nothing rows other source is lacking given =
 pub without_file : (name : Text) (rows : List Row) → first_of (codes "F") rows ≡ None → (a : Asked)
     → IsNamed (Some (name, rows)) a → ⊥
 without_file name rows lacking (Print source) named =
+    given_nothing rows named.rows source.now (ap rows_in named.is) lacking named.given
+without_file name rows lacking (Format source check) named =
     given_nothing rows named.rows source.now (ap rows_in named.is) lacking named.given
 without_file name rows lacking (Reference source options) named =
     given_nothing rows named.rows source.now (ap rows_in named.is) lacking named.given
@@ -173,6 +185,7 @@ entered_something name rows is = none-some (name, rows) is
 -- a subcommand
 pub without_subcommand : (a : Asked) → IsNamed None a → ⊥
 without_subcommand (Print source) named = entered_something (codes "print") named.rows named.is
+without_subcommand (Format source check) named = entered_something (codes "format") named.rows named.is
 without_subcommand (Reference source options) named =
     entered_something (codes "reference") named.rows named.is
 without_subcommand (Run source options crew) named = entered_something (codes "run") named.rows named.is
@@ -187,17 +200,18 @@ without_subcommand (Draw source options ticks) named =
     entered_something (codes "draw") named.rows named.is
 
 -- a subcommand that there is
-pub without_name : (name : Text) (rows : List Row) → name ≢ codes "print" → name ≢ codes "reference"
+pub without_name : (name : Text) (rows : List Row) → name ≢ codes "print" → name ≢ codes "format" → name ≢ codes "reference"
     → name ≢ codes "run" → name ≢ codes "check" → name ≢ codes "drive" → name ≢ codes "explain"
     → name ≢ codes "hunt" → name ≢ codes "draw" → (a : Asked) → IsNamed (Some (name, rows)) a → ⊥
-without_name name rows p r n c d e h w (Print source) named = p (ap name_in named.is)
-without_name name rows p r n c d e h w (Reference source options) named = r (ap name_in named.is)
-without_name name rows p r n c d e h w (Run source options crew) named = n (ap name_in named.is)
-without_name name rows p r n c d e h w (Check source trace) named = c (ap name_in named.is)
-without_name name rows p r n c d e h w (Drive source steps options) named = d (ap name_in named.is)
-without_name name rows p r n c d e h w (Explain source table steps actions) named = e (ap name_in named.is)
-without_name name rows p r n c d e h w (Hunt source action hunting) named = h (ap name_in named.is)
-without_name name rows p r n c d e h w (Draw source options ticks) named = w (ap name_in named.is)
+without_name name rows p f r n c d e h w (Print source) named = p (ap name_in named.is)
+without_name name rows p f r n c d e h w (Format source check) named = f (ap name_in named.is)
+without_name name rows p f r n c d e h w (Reference source options) named = r (ap name_in named.is)
+without_name name rows p f r n c d e h w (Run source options crew) named = n (ap name_in named.is)
+without_name name rows p f r n c d e h w (Check source trace) named = c (ap name_in named.is)
+without_name name rows p f r n c d e h w (Drive source steps options) named = d (ap name_in named.is)
+without_name name rows p f r n c d e h w (Explain source table steps actions) named = e (ap name_in named.is)
+without_name name rows p f r n c d e h w (Hunt source action hunting) named = h (ap name_in named.is)
+without_name name rows p f r n c d e h w (Draw source options ticks) named = w (ap name_in named.is)
 
 -- what is asked for by a name is asked for by what is equal to it
 pub named_so : (own name : Text) (rows : List Row) (r : Option Asked) → name ≡ own → IsAskedBy (Some (own, rows)) r

@@ -1,5 +1,5 @@
 -- What the words of the command line ask for, as `clap` reads them.
-use Rattle.std.specs.Prelude.{◌≡◌, ◌≢◌, ◌⊎◌, ℕ, Option, None, Some, true, List, [], codes, option_map}
+use Rattle.std.specs.Prelude.{◌≡◌, ◌≢◌, ◌⊎◌, ℕ, Bool as Truth, Option, None, Some, true, false, List, [], codes, option_map}
 use Rattle.clap.specs.Words.{App, IsAmong, Row, Text, fault_of, first_of, new_app, subcommand_of, with_rule, with_subcommand}
 use Rattle.clap.specs.declared.builder.value_parser.ValueParser.TheVariants.{Unsigned}
 use Rattle.clap.specs.declared.error.ErrorKind.{ErrorKind}
@@ -26,12 +26,17 @@ version_text = codes "warp 0.1.0\nproved with rattle-kit-13f logic dac8208d650f1
 abbrev pub print_app : App
 print_app = of_file (codes "print") (codes "F")
 
+abbrev pub format_app : App
+format_app = with_rule (of_file (codes "format") (codes "F")) (flag_rule (codes "check"))
+
+-- a subcommand that takes turns of a seed or of a table
+abbrev pub turned : App → App
+turned app = with_rule (drawn (with_rule app (number_rule (codes "seed") (codes "1") whole))) (option_rule (codes "table"))
+
 -- a subcommand that simulates or drives
 abbrev pub simulating : App → App
 simulating app =
-    with_rule (with_rule (with_rule (with_rule (drawn (with_rule app
-    (number_rule (codes "seed") (codes "1") whole)))
-    (option_rule (codes "table")))
+    with_rule (with_rule (with_rule (turned app)
     (flag_rule (codes "trace")))
     (flag_rule (codes "head")))
     (flag_rule (codes "progress"))
@@ -67,24 +72,32 @@ abbrev pub explain_app : App
 explain_app = judging (of_file (codes "explain") (codes "F"))
 
 abbrev pub draw_app : App
-draw_app = ticked (simulating (of_file (codes "draw") (codes "F")))
+draw_app = ticked (turned (of_file (codes "draw") (codes "F")))
 
 abbrev pub warp : App
 warp =
-    with_subcommand (with_subcommand (with_subcommand (with_subcommand (with_subcommand (with_subcommand (with_subcommand (with_subcommand bare print_app.top) reference_app.top) run_app.top) check_app.top)
+    with_subcommand (with_subcommand (with_subcommand (with_subcommand (with_subcommand (with_subcommand (with_subcommand (with_subcommand (with_subcommand bare print_app.top) format_app.top) reference_app.top) run_app.top) check_app.top)
     drive_app.top)
     explain_app.top)
     hunt_app.top)
     draw_app.top
 
--- the options as they were entered, or else as they are where they aren't
-pub record HasOptions (rows : List Row) (options : Options) : Type 0 where
+-- the turns as they were entered, or else as they are where they aren't
+pub record HasTurns (rows : List Row) (options : Options) : Type 0 where
   pub seed : IsNumber rows (codes "seed") 0 18446744073709551615 options.seed
   pub stream : IsNumber rows (codes "stream") 0 18446744073709551615 options.stream
   pub gap : IsNumber rows (codes "gap") 1 65535 options.gap
   pub from_zero : IsFlag (first_of (codes "from-zero") rows) options.from_zero
   pub ticks : IsNumber rows (codes "ticks") 0 4294967296 options.ticks
   pub table : option_map (λ s. s.now) options.table ≡ first_of (codes "table") rows
+
+-- all turns are written, with no head, and nothing is told
+abbrev pub IsPlain : Options → Type 0
+IsPlain options = (options.trace ≡ false) × (options.head ≡ false) × (options.progress ≡ false)
+
+-- the options as they were entered
+pub record HasOptions (rows : List Row) (options : Options) : Type 0 where
+  pub turns : HasTurns rows options
   pub trace : IsFlag (first_of (codes "trace") rows) options.trace
   pub head : IsFlag (first_of (codes "head") rows) options.head
   pub progress : IsFlag (first_of (codes "progress") rows) options.progress
@@ -126,12 +139,13 @@ pub record NamesBoth (entered : Option (Text × List Row)) (subcommand first sec
   pub first_given : first_of first rows ≡ Some first_file
   pub second_given : first_of second rows ≡ Some second_file
 
--- what was entered is this subcommand, with this file, these options and these ticks
+-- what was entered is this subcommand, with this file, these turns and these ticks
 pub record Draws (entered : Option (Text × List Row)) (source : Text) (options : Options) (between : Ticks) : Type 0 where
   pub rows : List Row
   pub is : entered ≡ Some (codes "draw", rows)
   pub given : first_of (codes "F") rows ≡ Some source
-  pub chosen : HasOptions rows options
+  pub chosen : HasTurns rows options
+  pub plain : IsPlain options
   pub ticks : HasTicks rows between
 
 -- what was entered is this subcommand, and this is its file
@@ -139,6 +153,13 @@ pub record Names (entered : Option (Text × List Row)) (subcommand argument file
   pub rows : List Row
   pub is : entered ≡ Some (subcommand, rows)
   pub given : first_of argument rows ≡ Some file
+
+-- what was entered is `format`, with this file, and whether it is only asked about
+pub record Formats (entered : Option (Text × List Row)) (source : Text) (check : Truth) : Type 0 where
+  pub rows : List Row
+  pub is : entered ≡ Some (codes "format", rows)
+  pub given : first_of (codes "F") rows ≡ Some source
+  pub checks : IsFlag (first_of (codes "check") rows) check
 
 -- what was entered is `explain`, with this file, and these further files where they are named
 pub record Explains (entered : Option (Text × List Row)) (source : Text) (table steps actions : Option Text) : Type 0 where
@@ -151,6 +172,7 @@ pub record Explains (entered : Option (Text × List Row)) (source : Text) (table
 
 abbrev pub IsNamed : Option (Text × List Row) → Asked → Type 0
 IsNamed entered (asked.Print source) = Names entered (codes "print") (codes "F") source.now
+IsNamed entered (asked.Format source check) = Formats entered source.now check
 IsNamed entered (asked.Reference source options) = Simulates entered (codes "reference") source.now options
 IsNamed entered (asked.Run source options crew) = SimulatesByWorkers entered (codes "run") source.now options crew
 IsNamed entered (asked.Check source trace) = NamesBoth entered (codes "check") (codes "F") (codes "TRACE") source.now trace.now

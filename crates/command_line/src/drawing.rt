@@ -7,7 +7,7 @@ ghost use Rattle.command_line.specs.Words.{draw_app};
 
 use crate::adding::add_number;
 use crate::ticks::Ticks;
-use crate::{add_options, number_of, of_file};
+use crate::{add_turns, number_of, of_file};
 use clap::{ArgMatches, Command, value_parser};
 use std::alloc::{AllocError, Global};
 
@@ -22,7 +22,7 @@ pub(crate) fn draw<'a>(alloc: Global) -> Result<Command<'a>, AllocError>
         "Example: warp draw examples/paxos.ioa --ticks 40",
         "The file of the source",
     );
-    let command = add_options(alloc, command);
+    let command = add_turns(alloc, command);
     add_ticks(alloc, command)
 }
 

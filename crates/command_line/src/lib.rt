@@ -7,7 +7,7 @@ ghost use Rattle.command_line.specs.Chosen.{or_one};
 ghost use Rattle.command_line.specs.declared.crew.Crew.{Crew as CrewValue};
 ghost use Rattle.command_line.specs.declared.Options.{Options as OptionsValue};
 ghost use Rattle.command_line.specs.Rules.{drawn, file_rule, flag_rule, long_rule, number_rule, of_file, option_rule, optional_rule, whole, IsChosen, IsFlag, IsNumber};
-ghost use Rattle.command_line.specs.Words.{bare, version_text, warp, simulating, manned, print_app, reference_app, run_app, check_app, drive_app, explain_app, judging, HasCrew, HasOptions, IsAsked, IsAskedBy, IsRefused, IsTold};
+ghost use Rattle.command_line.specs.Words.{bare, version_text, warp, simulating, turned, manned, print_app, format_app, reference_app, run_app, check_app, drive_app, explain_app, judging, HasCrew, HasOptions, HasTurns, IsPlain, IsAsked, IsAskedBy, IsRefused, IsTold};
 ghost use Rattle.command_line.specs.declared.Refused.TheVariants.{NoMemory};
 
 mod adding;
@@ -35,6 +35,11 @@ pub enum Asked<'a> {
     /// The source in this file is printed in its layout.
     Print {
         source: &'a str,
+    },
+    /// The source in this file is laid out, its comments kept; or it is only told whether it is.
+    Format {
+        source: &'a str,
+        check: bool,
     },
     /// The composition of the source in this file is simulated by one thread.
     Reference {
@@ -130,6 +135,10 @@ pub fn version() -> &'static str
     "warp 0.1.0\nproved with rattle-kit-13f logic dac8208d650f15bf\n"
 }
 
+// What is said of words in which clap finds no fault and that ask for nothing: only a range of seeds can be so.
+const NO_SEEDS: &str =
+    "`--seeds` wants FIRST..LAST, two whole numbers with two dots between them, the first not above the last, and the last at most 18446744073709551614";
+
 /// Reads the words after the program's name.
 pub fn read_words<'a>(alloc: Global, words: &'a [String]) -> Result<Asked<'a>, Refused>
     ensures { MatchResult result (IsAsked (map string_bytes words.now))
@@ -151,31 +160,30 @@ pub fn read_words<'a>(alloc: Global, words: &'a [String]) -> Result<Asked<'a>, R
             Ok(asked)
         }
         None => {
-            let error = command.error(
-                ErrorKind::MissingSubcommand,
-                "a subcommand and its file are wanted, and `--seeds` as FIRST..LAST, the first not above the last",
-            );
+            let error = command.error(ErrorKind::ValueValidation, NO_SEEDS);
             drop(command);
             Err(Refused::Words(error?))
         }
     }
 }
 
-// The program without its subcommands.
-fn bare<'a>(alloc: Global) -> Command<'a>
-    ensures { app_of result ≡ bare }
+// The program without its subcommands. Usage lines begin with its name.
+fn bare<'a>(alloc: Global) -> Result<Command<'a>, AllocError>
+    ensures { IfOk result (λ c. app_of c ≡ bare) }
 {
     Command::new(alloc, "warp")
         .about("A parallel simulator of composed I/O automata")
         .version(version())
         .no_binary_name(true)
         .subcommand_required(true)
+        .bin_name("warp")
 }
 
 fn described<'a>(alloc: Global) -> Result<Command<'a>, AllocError>
     ensures app { IfOk result (λ c. app_of c ≡ warp) }
 {
-    let command = add_subcommand(Ok(bare(alloc)), print(alloc));
+    let command = add_subcommand(bare(alloc), print(alloc));
+    let command = add_subcommand(command, format(alloc));
     let command = add_subcommand(command, reference(alloc));
     let command = add_subcommand(command, run(alloc));
     let command = add_subcommand(command, check(alloc));
@@ -210,6 +218,24 @@ fn print<'a>(alloc: Global) -> Result<Command<'a>, AllocError>
         "Print a source in its layout; it is read and not checked",
         "Example: warp print examples/ring.ioa",
         "The file of the source",
+    )
+}
+
+fn format<'a>(alloc: Global) -> Result<Command<'a>, AllocError>
+    ensures { IfOk result (λ c. app_of c ≡ format_app) }
+{
+    let command = of_file(
+        alloc,
+        "format",
+        "Lay a source out as people write it, its comments kept",
+        "Example: warp format examples/paxos.ioa --check",
+        "The file of the source",
+    );
+    add_flag(
+        alloc,
+        command,
+        "check",
+        "Write nothing; the status tells whether it is so laid out",
     )
 }
 
@@ -307,12 +333,6 @@ fn add_options<'a>(
         → IfOk result (λ c. app_of c ≡ simulating app) }
 {
     let command = add_turns(alloc, command);
-    let command = add_other(
-        alloc,
-        command,
-        "table",
-        "The file of a table of turns; seed, stream and gap are then not used",
-    );
     let command = add_flag(
         alloc,
         command,
@@ -333,18 +353,23 @@ fn add_options<'a>(
     )
 }
 
-// A seed, and what else draws turns.
+// A seed, what else draws turns, and a table of them.
 fn add_turns<'a>(
     alloc: Global,
     command: Result<Command<'a>, AllocError>,
 ) -> Result<Command<'a>, AllocError>
     ensures { (app : App) → IfOk command.entry (λ c. app_of c ≡ app)
-        → IfOk result (λ c. app_of c ≡ drawn
-        (with_rule app (number_rule (codes "seed") (codes "1") whole))) }
+        → IfOk result (λ c. app_of c ≡ turned app) }
 {
     let whole = value_parser!(u64);
     let command = add_number(alloc, command, "seed", "1", whole, "The seed of the turns");
-    add_draws(alloc, command)
+    let command = add_draws(alloc, command);
+    add_other(
+        alloc,
+        command,
+        "table",
+        "The file of a table of turns; seed, stream and gap are then not used",
+    )
 }
 
 // How turns are drawn from a seed.
@@ -493,6 +518,9 @@ fn asked_as<'a>(name: &str, source: &'a str, found: &ArgMatches<'a>) -> Option<A
     if name == "print" {
         return Some(Asked::Print { source });
     }
+    if name == "format" {
+        return asked_format(source, found);
+    }
     if name == "reference" {
         return asked_reference(source, found);
     }
@@ -515,6 +543,15 @@ fn asked_as<'a>(name: &str, source: &'a str, found: &ArgMatches<'a>) -> Option<A
         return asked_draw(source, found);
     }
     None
+}
+
+// What is asked for by `format`.
+fn asked_format<'a>(source: &'a str, found: &ArgMatches<'a>) -> Option<Asked<'a>>
+    requires { first_of (codes "F") (rows_of (found_of found.now)) ≡ Some source.now }
+    ensures { IsAskedBy (Some (codes "format", rows_of (found_of found.now))) result }
+{
+    let check = is_set(found, "check");
+    Some(Asked::Format { source, check })
 }
 
 // What is asked for by `reference`.
@@ -595,7 +632,7 @@ fn asked_draw<'a>(source: &'a str, found: &ArgMatches<'a>) -> Option<Asked<'a>>
     requires { first_of (codes "F") (rows_of (found_of found.now)) ≡ Some source.now }
     ensures { IsAskedBy (Some (codes "draw", rows_of (found_of found.now))) result }
 {
-    let options = options_of(found)?;
+    let options = turns_of(found)?;
     let ticks = ticks_of(found)?;
     Some(Asked::Draw {
         source,
@@ -610,6 +647,21 @@ fn options_of<'a>(found: &ArgMatches<'a>) -> Option<Options<'a>>
         ((o : OptionsValue) → HasOptions (rows_of (found_of found.now)) o → ⊥)
         (HasOptions (rows_of (found_of found.now))) }
 {
+    let turns = turns_of(found)?;
+    Some(Options {
+        trace: is_set(found, "trace"),
+        head: is_set(found, "head"),
+        progress: is_set(found, "progress"),
+        ..turns
+    })
+}
+
+// The options of turns alone, each number in its range: all turns are written, with no head, and nothing is told.
+fn turns_of<'a>(found: &ArgMatches<'a>) -> Option<Options<'a>>
+    ensures { MatchOption result
+        ((o : OptionsValue) → HasTurns (rows_of (found_of found.now)) o → ⊥)
+        (λ o. HasTurns (rows_of (found_of found.now)) o × IsPlain o) }
+{
     let seed = number_of(found, "seed", 0, u64::MAX)?;
     let stream = number_of(found, "stream", 0, u64::MAX)?;
     let gap = number_of(found, "gap", 1, 65_535)?;
@@ -621,9 +673,9 @@ fn options_of<'a>(found: &ArgMatches<'a>) -> Option<Options<'a>>
         from_zero: is_set(found, "from-zero"),
         ticks,
         table: file_of(found, "table"),
-        trace: is_set(found, "trace"),
-        head: is_set(found, "head"),
-        progress: is_set(found, "progress"),
+        trace: false,
+        head: false,
+        progress: false,
     })
 }
 
