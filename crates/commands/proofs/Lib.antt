@@ -8,6 +8,8 @@ pub mod FileReports
 mod Fronted
 pub mod HuntReports
 mod Pieces
+mod Printings
+mod Why
 mod Reporting
 mod SetupReports
 mod Streaming

@@ -172,13 +172,13 @@ pub record IsStoryCut (cut : List ℕ → ℕ → Type 0) (number : ℕ) : Type 
   pub written : ℕ
   pub stopped : SomeText (λ text. cut text written)
 
--- the report where a number is explained at length: some text is written
+-- the report where a number is explained at length: some text is written, which may say that nothing has this number
 abbrev pub IsStoryReport : (List ℕ → Type 0) → (List ℕ → ℕ → Type 0) → Report → Type 0
 IsStoryReport wrote cut Done = SomeText wrote
 IsStoryReport wrote cut No = ⊥
 IsStoryReport wrote cut (Driven refused) = ⊥
 IsStoryReport wrote cut (Ran stats) = ⊥
-IsStoryReport wrote cut Explained = ⊥
+IsStoryReport wrote cut Explained = SomeText wrote
 IsStoryReport wrote cut (Refused number place) = ⊥
 IsStoryReport wrote cut (Fault number) = IsStoryCut cut number
 IsStoryReport wrote cut Misused = ⊥

@@ -12,6 +12,7 @@ pub mod Parts
 pub mod PrintRefusals
 pub mod Printing
 pub mod Reading
+pub mod Reasons
 pub mod Refusals
 pub mod Reports
 pub mod Setups

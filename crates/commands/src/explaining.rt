@@ -1,5 +1,5 @@
 //! The engine of `explain`: what people are told of the first file that is refused.
-ghost use Rattle.std.specs.Prelude.{◌≡◌, ◌≢◌, ◌<◌, ◌⊎◌, ℕ, IfErr, IfOk, List, Some, length, option_map};
+ghost use Rattle.std.specs.Prelude.{◌≡◌, ◌≢◌, ◌<◌, ◌⊎◌, ℕ, IfErr, IfOk, IfSome, List, Some, length, option_map};
 ghost use Rattle.ioa_tokens.specs.Bytes.{is_digit};
 ghost use Rattle.compose.specs.Refusals.{source_number};
 ghost use Rattle.trace.specs.Went.{IsStopped, IsWritten};
@@ -81,28 +81,41 @@ fn is_number(name: &str) -> bool
     name.as_bytes().iter().all(|byte| is_digit(*byte))
 }
 
-// Writes what there is to tell of a number.
+// Writes what there is to tell of a number, or that nothing has it.
 fn tell_story<W: Write>(name: &str, out: &mut Counted<W>) -> Report
     ensures { IsStoryReport (IsWritten W.contents out.old out.new)
         (IsStopped W.contents out.old out.new) result }
 {
-    let text = story_of(name);
+    match story_of(name.parse::<u8>().unwrap_or(0)) {
+        Some(text) => write_as(text, Report::Done, out),
+        None => write_as(
+            "no refusal and no fault has this number\n",
+            Report::Explained,
+            out,
+        ),
+    }
+}
+
+// Writes a text, after which this is reported.
+fn write_as<W: Write>(text: &str, report: Report, out: &mut Counted<W>) -> Report
+    requires some { 0 < length text.now }
+    requires report { (report ≡ Report.Done) ⊎ (report ≡ Report.Explained) }
+    ensures { IsStoryReport (IsWritten W.contents out.old out.new)
+        (IsStopped W.contents out.old out.new) result }
+{
     match write_text(text.as_bytes(), out) {
-        Ok(()) => Report::Done,
+        Ok(()) => report,
         Err(fault) => Report::Fault(fault.number()),
     }
 }
 
-fn story_of(name: &str) -> &'static str
-    ensures { 0 < length result.now }
+/// What there is to tell of a number.
+pub(crate) fn story_of(number: u8) -> Option<&'static str>
+    ensures { IfSome result (λ text. 0 < length text.now) }
 {
-    let number = match name.parse::<u8>() {
-        Ok(number) => number,
-        Err(_) => 0,
-    };
     match story(number) {
-        Some(text) if !text.is_empty() => text,
-        _ => "no refusal and no fault has this number\n",
+        Some(text) if !text.is_empty() => Some(text),
+        _ => None,
     }
 }
 
@@ -124,8 +137,8 @@ fn tell<W: Write>(told: Option<Vec<u8>>, out: &mut Counted<W>) -> Report
     }
 }
 
-// What is told of the first file that is refused, if one is, or the number of the fault for which a file isn't read.
-fn first_refused<F: Files>(
+/// What is told of the first file that is refused, if one is, or the number of the fault for which a file isn't read.
+pub(crate) fn first_refused<F: Files>(
     alloc: Global,
     subject: Subject,
     files: &F,

@@ -1,6 +1,7 @@
 //! Files that the program reads.
-ghost use Rattle.std.specs.Prelude.{◌≡◌, ℕ, List, IfOk, IsErrOf};
+ghost use Rattle.std.specs.Prelude.{◌≡◌, ◌≢◌, ℕ, List, IfErr, IfOk};
 ghost use Rattle.commands.specs.Reading.{IsReadOf};
+ghost use Rattle.commands.specs.Reasons.{reason_of};
 
 use std::alloc::Global;
 use thiserror::Error;
@@ -10,9 +11,30 @@ use thiserror::Error;
 pub enum FileFault {
     #[error("out of memory")]
     NoMemory,
-    /// Opening or reading failed.
-    #[error("the file can't be read")]
+    #[error("no such file")]
+    Missing,
+    #[error("it is a folder")]
+    Folder,
+    #[error("it may not be read")]
+    Denied,
+    /// Opening or reading failed for another reason.
+    #[error("it can't be read")]
     Failed,
+}
+
+impl FileFault {
+    /// What people are told of it.
+    pub fn reason(self) -> &'static str
+        ensures { result.now ≡ reason_of self }
+    {
+        match self {
+            FileFault::NoMemory => "out of memory",
+            FileFault::Missing => "no such file",
+            FileFault::Folder => "it is a folder",
+            FileFault::Denied => "it may not be read",
+            FileFault::Failed => "it can't be read",
+        }
+    }
 }
 
 /// Files by their names. The machine's are served by `main`, a test's lie in memory.
@@ -26,5 +48,6 @@ pub trait Files {
     /// The first `most` bytes of a file, or all of them where there are fewer.
     fn read(&self, alloc: Global, name: &str, most: u64) -> Result<Vec<u8>, FileFault>
         ensures bytes { IfOk result (λ bytes. IsReadOf (has self.now name.now) most bytes.items) }
-        ensures failed { IsErrOf result FileFault.Failed → lacks self.now name.now };
+        ensures failed { IfErr result
+            (λ fault. fault ≢ FileFault.NoMemory → lacks self.now name.now) };
 }

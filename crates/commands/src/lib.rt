@@ -5,7 +5,6 @@
 pub mod checking;
 mod counts;
 pub mod diagrams;
-pub mod drives;
 pub mod driving;
 pub mod explaining;
 pub mod fault;
@@ -13,12 +12,14 @@ pub mod files;
 mod given;
 pub mod hunting;
 pub mod laws;
+pub mod over_bytes;
+pub mod over_files;
 pub mod printing;
 pub mod reading;
+pub mod reasons;
 pub mod report;
 pub mod setups;
 pub mod simulating;
-pub mod simulations;
 pub mod writing;
 
 pub use checking::check_trace;

@@ -131,6 +131,8 @@ pub fn read_front<F: Files>(alloc: Global, name: &str, most: u64, files: &F) -> 
     match files.read(alloc, name, most) {
         Ok(bytes) => Ok(bytes),
         Err(FileFault::NoMemory) => Err(1),
-        Err(FileFault::Failed) => Err(63),
+        Err(FileFault::Missing | FileFault::Folder | FileFault::Denied | FileFault::Failed) => {
+            Err(63)
+        }
     }
 }

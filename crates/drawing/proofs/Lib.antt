@@ -1,3 +1,2 @@
-mod Inner
 mod Joined
 mod Windows

@@ -16,7 +16,7 @@ use itoa::Buffer;
 use plans::Plan;
 use std::alloc::{AllocError, Global};
 use terms::{Action, NoMemory};
-use trace::{Counted, Lines, append_taken};
+use trace::{Counted, append_action};
 
 /// The most components whose names are drawn.
 pub(crate) const MOST_COMPONENTS: usize = 1_024;
@@ -49,39 +49,14 @@ fn y_of(from: u64, key: Key) -> u64
     row_of(from, key.tick) + 4 * u64::from(key.component % 6)
 }
 
-// The line of a turn that took this action, with a key that has only zeros.
-fn zero_line(alloc: Global, plan: &Plan, action: &Action) -> Result<Vec<u8>, NoMemory>
-    ensures { IfOk result (λ line. line.items
-        ≡ codes "0 0 0 " ++ (action_text plan.now action.now ++ codes "\n")) }
-{
-    let key = Key {
-        tick: 0,
-        component: 0,
-        number: 0,
-    };
-    let mut out = Counted::new(Vec::new(alloc));
-    match append_taken(plan, key, Some(action), Lines::All, 0, &mut out) {
-        Ok(_) => Ok(out.into_inner()),
-        Err(_) => Err(NoMemory),
-    }
-}
-
-// What a line has behind its six first bytes, without its last one.
-fn inner(line: &[u8]) -> &[u8]
-    requires { 7 ≤ length line.now }
-    ensures { result.now ≡ take (length line.now - 1 - 6) (drop 6 line.now) }
-{
-    &line[6..line.len() - 1]
-}
-
-// The text of an action. The line of a turn has it behind the three numbers of a key, which take six bytes where they are 0.
 fn action_text(alloc: Global, plan: &Plan, action: &Action) -> Result<Vec<u8>, NoMemory>
     ensures { IfOk result (λ text. text.items ≡ action_text plan.now action.now) }
 {
-    let line = zero_line(alloc, plan, action)?;
-    let mut text = Vec::new(alloc);
-    text.extend_from_slice(inner(line.as_slice()))?;
-    Ok(text)
+    let mut out = Counted::new(Vec::new(alloc));
+    match append_action(plan, action, 0, &mut out) {
+        Ok(_) => Ok(out.into_inner()),
+        Err(_) => Err(NoMemory),
+    }
 }
 
 // An arrow to a component.

@@ -1,4 +1,4 @@
--- The rule of the pool: each lease has one place, in the queue or in one pass.
+-- The rule of the pool: each item has one place, in the queue or in one pass.
 use Rattle.std.specs.Prelude.{◌≡◌, ℕ, ◌+◌, ◌≤◌, Bool, true, false, ◌==◌, List, [], ◌∷◌, length, map, cond, All, Option, Some, None}
 use mathlib.Core.Option.{some}
 use lib.ListN.{get_elem?}
@@ -33,7 +33,7 @@ places number x items views = times x (map number items) + total (λ v. times x 
 
 -- what is so at each moment, whatever the threads did: of the items of the queue and of the views of all passes
 pub record Placed {L K : Type 0} (number : L → ℕ) (kind : L → K) (items : List L) (views : List (Hand K)) : Type 0 where
-  -- the numbers of all leases
+  -- the numbers of all items
   pub all : List ℕ
   -- the kind of all, if there are any
   pub one_kind : Option K
@@ -43,11 +43,11 @@ pub record Placed {L K : Type 0} (number : L → ℕ) (kind : L → K) (items : 
   pub sole : (pass : ℕ) (v : Hand K) → get_elem? views pass ≡ some v → v.alone ≡ true → length views ≡ 1
   -- each item of the queue has that kind
   pub alike : All (λ x. one_kind ≡ Some (kind x)) items
-  -- no two leases have one number
+  -- no two items have one number
   pub distinct : (x : ℕ) → times x all ≤ 1
-  -- so the number of a lease has just one place, and any other number has none
+  -- so the number of an item has just one place, and any other number has none
   pub each_once : (x : ℕ) → places number x items views ≡ times x all
-  -- the queue and the passes have as many leases as there are
+  -- the queue and the passes have as many items as there are
   pub count : length items + total (λ v. length v.held) views ≡ length all
 
 -- no number stands twice among these

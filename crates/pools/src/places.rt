@@ -8,7 +8,7 @@ pub struct Pool<L: Numbered<K>, K> {
     pub(crate) queue: RuledArrayQueue<L, Hand<K>, OnePlace<L>>,
 }
 
-/// The right to take leases from one pool and to give them back. It has no bytes.
+/// The right to take items from one pool and to give them back. It has no bytes.
 #[derive(Drop)]
 pub struct Pass<L, K> {
     pub(crate) pass: crossbeam_queue::Pass<L, Hand<K>>,

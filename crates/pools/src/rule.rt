@@ -16,15 +16,15 @@ pub trait Numbered<K> {
 pub struct Hand<K> {
     /// It is the only pass of its pool.
     pub alone: bool,
-    /// The numbers of all leases of the pool, wherever they are.
+    /// The numbers of all items of the pool, wherever they are.
     pub all: LinkedList<u16>,
-    /// The numbers of the leases that are out with this pass.
+    /// The numbers of the items that are out with this pass.
     pub held: LinkedList<u16>,
-    /// The kind of all leases of the pool, if it has any.
+    /// The kind of all items of the pool, if it has any.
     pub kind: Option<K>,
 }
 
-/// Each lease has one place, and all are of one kind.
+/// Each item has one place, and all are of one kind.
 pub struct OnePlace<L> {
     of: PhantomData<L>,
 }
@@ -38,7 +38,7 @@ impl<L: Numbered<K>, K> Protocol<L, Hand<K>> for OnePlace<L> {
     ghost first = { hand true [] [] None };
 }
 
-/// A further lease joins the pool.
+/// A further item joins the pool.
 pub struct Founds<L> {
     of: PhantomData<L>,
 }
@@ -56,7 +56,7 @@ impl<L: Numbered<K>, K> Lesson<L, Hand<K>> for Founds<L> {
     ghost fact = { λ v items. length items + length v.held ≤ length v.all };
 }
 
-/// A lease goes from the pool to the pass.
+/// An item goes from the pool to the pass.
 pub struct Takes<L> {
     of: PhantomData<L>,
 }
@@ -75,7 +75,7 @@ impl<L: Numbered<K>, K> Lesson<L, Hand<K>> for Takes<L> {
     ghost fact = { λ v items. v.alone ≡ true → length items + length v.held ≡ length v.all };
 }
 
-/// A lease goes from the pass to the pool.
+/// An item goes from the pass to the pool.
 pub struct Gives<L> {
     of: PhantomData<L>,
 }

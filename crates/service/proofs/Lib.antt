@@ -1,4 +1,3 @@
 pub mod CrewReports
 pub mod Flushed
-pub mod Printings
 pub mod Told

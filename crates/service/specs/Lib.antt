@@ -1,4 +1,5 @@
 pub mod Crews
 pub mod Flushed
 pub mod Reports
+pub mod Subjects
 pub mod Told

@@ -6,13 +6,14 @@ ghost use Rattle.commands.specs.declared.report.Report.{Report};
 ghost use Rattle.service.specs.Flushed.{IsFlushedWhere};
 ghost use Rattle.commands.specs.Reports.{is_served, status_of};
 ghost use Rattle.service.specs.Reports.{IsFlushedReport, IsReport, IsUnserved};
-ghost use Rattle.service.specs.Told.{IsTold, IsWarned};
+ghost use Rattle.service.specs.Told.{IsTold, IsToldPerson, IsWarned, SaysWhy};
 ghost use Rattle.trace.specs.Went.{IsStopped, IsWritten};
 
-use crate::asked::do_asked;
+use crate::asked::{do_asked, subject_of};
 use clap::error::Error;
 use command_line::{Refused, read_words, version};
 use commands::Files;
+use commands::reasons::{Cause, tell_reason};
 use commands::report::Report;
 use commands::writing::say;
 use hunt::Looks;
@@ -45,6 +46,64 @@ pub fn serve<F: Files, L: Looks + Sync, W: Write + Drop, E: Write, R: Threads + 
     let report = answer(rt, alloc, words, files, looks, out, err);
     report.tell(err);
     report.status()
+}
+
+/// Serves the words as [`serve`] does, where a person reads what goes to `err`. Behind the line of a refusal stands what `explain` tells of it, and
+/// behind that of a file that isn't read its name and why. Of a failed write (60) nothing is said: whoever holds the writer knows why it failed.
+///
+/// For that a file may be read once more, and has to have what it had.
+pub fn serve_person<F: Files, L: Looks + Sync, W: Write + Drop, E: Write, R: Threads + Wait + Sync>(
+    rt: &R,
+    alloc: Global,
+    words: &[String],
+    files: &F,
+    looks: &L,
+    out: &mut Counted<W>,
+    err: &mut Counted<E>,
+) -> u8
+    ensures status { (report : Report) × (result ≡ status_of report)
+        × IsFlushedReport (map string_bytes words.now) (F.has files.now) (F.lacks files.now)
+        (out.new ≡ out.old) (IsWritten W.contents out.old out.new)
+        (IsStopped W.contents out.old out.new) report
+        × IsToldPerson E.contents (map string_bytes words.now) (F.has files.now)
+        (F.lacks files.now) err.old err.new report }
+{
+    let report = answer(rt, alloc, words, files, looks, out, err);
+    if is_cut(&report) {
+        return report.status();
+    }
+    report.tell(err);
+    tell_why(alloc, &report, words, files, err);
+    report.status()
+}
+
+// Whether a write failed.
+fn is_cut(report: &Report) -> bool
+    ensures yes { result ≡ true → report.now ≡ Report.Fault 60 }
+    ensures no { result ≡ false → report.now ≢ Report.Fault 60 }
+{
+    match report {
+        Report::Fault(60) => true,
+        _ => false,
+    }
+}
+
+// Tells a person why, where the words ask for something.
+fn tell_why<F: Files, E: Write>(
+    alloc: Global,
+    report: &Report,
+    words: &[String],
+    files: &F,
+    err: &mut Counted<E>,
+)
+    ensures { SaysWhy E.contents (map string_bytes words.now) (F.has files.now) (F.lacks files.now)
+        err.old err.new report.now }
+{
+    if let Some(cause) = Cause::of(report) {
+        if let Ok(asked) = read_words(alloc, words) {
+            tell_reason(alloc, cause, subject_of(asked), files, err);
+        }
+    }
 }
 
 fn answer<F: Files, L: Looks + Sync, W: Write + Drop, E: Write, R: Threads + Wait + Sync>(

@@ -21,5 +21,6 @@ pub use counted::Counted;
 pub use fault::{TraceError, WriteFault};
 pub use file::read_trace;
 pub use lines::{Lines, append_taken, append_turn, append_turns, write_turns};
+pub use long::append_action;
 pub use steps::read_steps;
 pub use texts::{Form, write_front, write_head, write_text};

@@ -1,4 +1,4 @@
-//! Lines that are too long to be put together: their pieces go out one after another. Every call is
+//! Actions, and lines that are too long to be put together: their pieces go out one after another. Every call is
 //! given how many bytes went out before, and answers how many went out by its end.
 ghost use Rattle.std.specs.Prelude.{◌≡◌, [], ◌∷◌, ◌++◌, IfOk, IfErr};
 ghost use Rattle.trace.specs.Lines.{argument_text, other_text, others_text, bracketed_text};
@@ -124,12 +124,13 @@ fn put_arguments<W: Write>(
     }
 }
 
+/// Writes the text of an action.
 #[tactic(auto, using(crate::proofs::Adding::steps))]
-fn put_action<W: Write>(
-    out: &mut Counted<W>,
+pub fn append_action<W: Write>(
     plan: &Plan,
     action: &Action,
     before: u64,
+    out: &mut Counted<W>,
 ) -> Result<u64, WriteFault>
     ensures ok { IfOk result (λ after.
         Puts W.contents out.old out.new before after (action_text plan.now action.now)) }
@@ -157,6 +158,6 @@ pub(crate) fn put_long<W: Write>(
         before (key_text key.now ++ (action_text plan.now action.now ++ 10 ∷ [])) fault) }
 {
     let written = put_key(out, key, before)?;
-    let written = put_action(out, plan, action, written)?;
+    let written = append_action(plan, action, written, out)?;
     put(out, "\n", written)
 }

@@ -1,7 +1,7 @@
 //! Sources by 1 to 8 workers, beside the one-thread simulator.
 
 use crate::given::Given;
-use crate::served::ask;
+use crate::served::{Place, ask};
 use cases::owned;
 use fixtures::Count;
 use std::alloc::Global;
@@ -54,14 +54,12 @@ pub fn written<R: Threads + Wait + Sync>(
     source: &str,
 ) -> anyhow::Result<Vec<u8>> {
     let said = owned(alloc, words)?;
-    let mut answer = ask(
-        rt,
-        alloc,
-        said.as_slice(),
-        Given::Source(source),
-        usize::MAX,
-        false,
-    );
+    let place = Place {
+        room: usize::MAX,
+        is_stuck: false,
+        is_person: false,
+    };
+    let mut answer = ask(rt, alloc, said.as_slice(), Given::Source(source), place);
     if answer.status != 0 || !answer.err.is_empty() {
         answer.out.clear();
     }

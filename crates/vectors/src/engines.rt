@@ -3,9 +3,8 @@
 use crate::narrow::Narrow;
 use command_line::Crew;
 use commands::GivenTurns;
-use commands::drives::drive_source;
+use commands::over_bytes::{check_source, drive_source, simulate_source};
 use commands::report::Report;
-use commands::simulations::{check_source, simulate_source};
 use fixtures::Count;
 use service::running::run_source;
 use std::alloc::Global;

@@ -33,7 +33,7 @@ impl<'a> Files for Given<'a> {
     fn read(&self, alloc: Global, name: &str, most: u64) -> Result<Vec<u8>, FileFault> {
         let mut bytes = match self.file(alloc, name) {
             Ok(Some(bytes)) => bytes,
-            Ok(None) => return Err(FileFault::Failed),
+            Ok(None) => return Err(FileFault::Missing),
             Err(_) => return Err(FileFault::NoMemory),
         };
         bytes.truncate(most as usize);

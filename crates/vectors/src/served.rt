@@ -4,7 +4,7 @@ use crate::given::Given;
 use crate::narrow::Narrow;
 use cases::{CREWS, Case, with_crew};
 use commands::Looks;
-use service::serve::serve;
+use service::serve::{serve, serve_person};
 use std::alloc::{AllocError, Global};
 use std::sync::Wait;
 use std::sync::atomic::{AtomicU64, Ordering};
@@ -33,21 +33,35 @@ pub struct Answer {
     looked: u64,
 }
 
-/// Asks the service with these words, and with an output that takes so many bytes, and fails to flush where it is stuck.
+/// Where the service answers.
+#[derive(Clone, Copy)]
+pub struct Place {
+    /// How many bytes the output takes.
+    pub room: usize,
+    /// Whether the output fails to flush.
+    pub is_stuck: bool,
+    /// Whether a person reads what is said.
+    pub is_person: bool,
+}
+
+/// Asks the service with these words.
 pub fn ask<R: Threads + Wait + Sync>(
     rt: &R,
     alloc: Global,
     words: &[String],
     given: Given,
-    room: usize,
-    is_stuck: bool,
+    place: Place,
 ) -> Answer {
     let tally = Tally {
         looked: AtomicU64::new(0),
     };
-    let mut out = Counted::new(Narrow::new(Vec::new(alloc), room, is_stuck));
+    let mut out = Counted::new(Narrow::new(Vec::new(alloc), place.room, place.is_stuck));
     let mut err = Counted::new(Vec::new(alloc));
-    let status = serve(rt, alloc, words, &given, &tally, &mut out, &mut err);
+    let status = if place.is_person {
+        serve_person(rt, alloc, words, &given, &tally, &mut out, &mut err)
+    } else {
+        serve(rt, alloc, words, &given, &tally, &mut out, &mut err)
+    };
     let narrow = out.into_inner();
     Answer {
         status,
@@ -122,8 +136,12 @@ fn is_answered<R: Threads + Wait + Sync>(
     if !case.has("files") {
         return Ok(false);
     }
-    let room = case.number("room").unwrap_or(u64::MAX) as usize;
-    let answer = ask(rt, alloc, words, Given::Case(case), room, case.has("stuck"));
+    let place = Place {
+        room: case.number("room").unwrap_or(u64::MAX) as usize,
+        is_stuck: case.has("stuck"),
+        is_person: case.has("person"),
+    };
+    let answer = ask(rt, alloc, words, Given::Case(case), place);
     let is_right = answer.is_right(alloc, case);
     drop(answer);
     is_right

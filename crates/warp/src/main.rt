@@ -3,23 +3,29 @@
 
 mod looks;
 mod machine;
+mod noted;
 mod pace;
+mod person;
 mod progress;
 
 use crate::looks::PacedLooks;
 use crate::machine::{MachineFiles, STANDARD_INPUT};
+use crate::noted::Noted;
 use crate::pace::Paced;
+use crate::person::{tell_failure, tell_unused};
 use crate::progress::progress_of;
 use commands::report::Report;
-use service::serve::serve;
+use service::serve::{serve, serve_person};
 use std::alloc::Global;
+use std::cell::Cell;
 use std::env;
-use std::io::{self, BufWriter, ErrorKind, Write};
+use std::io::{self, BufWriter, ErrorKind, IsTerminal, Write};
 use std::process::ExitCode;
 use trace::{Counted, write_text};
 
 fn main(rt: HostRuntime) -> ExitCode {
     let alloc = rt.alloc();
+    let is_person = rt.stderr().is_terminal();
     let mut err = Counted::new(rt.stderr());
     let words = match words_of(&rt) {
         Ok(words) => words,
@@ -32,22 +38,24 @@ fn main(rt: HostRuntime) -> ExitCode {
     let progress = progress_of(alloc, words.as_slice());
     let pace = progress.pace(&rt);
     let capacity = if pace.is_some() { 1_024 } else { 32_768 };
-    let paced = Paced::new(&rt, rt.stdout(), pace);
+    let failure = Cell::new(None);
+    let paced = Paced::new(&rt, Noted::new(rt.stdout(), &failure), pace);
     let mut out = match BufWriter::with_capacity(alloc, capacity, paced) {
         Ok(out) => Counted::new(out),
         Err(error) => return refuse(&error, &mut err),
     };
-    let files = MachineFiles::new(&rt);
     let looks = PacedLooks::new(&rt, progress.seed_count());
-    ExitCode::from(serve(
-        &rt,
-        alloc,
-        words.as_slice(),
-        &files,
-        &looks,
-        &mut out,
-        &mut err,
-    ))
+    let words = words.as_slice();
+    if !is_person {
+        let files = MachineFiles::new(&rt);
+        let status = serve(&rt, alloc, words, &files, &looks, &mut out, &mut err);
+        return ExitCode::from(status);
+    }
+    tell_unused(words, &mut err);
+    let files = MachineFiles::keeping(&rt, alloc);
+    let status = serve_person(&rt, alloc, words, &files, &looks, &mut out, &mut err);
+    tell_failure(failure.get(), &mut err);
+    ExitCode::from(status)
 }
 
 // The words after the program's name.

@@ -4,11 +4,11 @@ use Rattle.pools.specs.Places.{common, times}
 use Rattle.pools.specs.Passes.{holding, IsEmptyOf}
 use Rattle.pools.proofs.places.Pool.new.Given as goal
 
-abbrev pub invariant-loop-lease : goal.invariant-loop-lease
-invariant-loop-lease g l = record {
-  can : (goal.iterator-loop-lease g).can_next l.lease-iterator;
-  ends : (goal.iterator-loop-lease g).is_finite l.lease-iterator;
-  left : l.yielded ++ l.lease-iterator.rest.items ≡ l.fn.leases.items;
+abbrev pub invariant-loop-item : goal.invariant-loop-item
+invariant-loop-item g l = record {
+  can : (goal.iterator-loop-item g).can_next l.item-iterator;
+  ends : (goal.iterator-loop-item g).is_finite l.item-iterator;
+  left : l.yielded ++ l.item-iterator.rest.items ≡ l.fn.items.items;
   pass : IsPassOf l.queue l.founder;
   alone : (view l.founder).alone ≡ true;
   held : (view l.founder).held ≡ [];
@@ -21,13 +21,13 @@ abbrev pub invariant-loop : goal.invariant-loop
 invariant-loop g l = record {
   count : vec_len l.places + 1 ≡ l.counter;
   room : l.places.cap ≡ l.initial.places.cap;
-  all : All (IsEmptyOf (record { queue = l.queue }) (map g.L.Numbered.number_of l.fn.leases.items)) l.places.items;
+  all : All (IsEmptyOf (record { queue = l.queue }) (map g.L.Numbered.number_of l.fn.items.items)) l.places.items;
   same : l.queue ≡ l.initial.queue;
   pass : IsPassOf l.queue l.founder;
   held : (view l.founder).held ≡ [];
-  kind : (view l.founder).kind ≡ common g.L.Numbered.kind_of l.fn.leases.items;
-  kinds : All (λ p. (holding p).kind ≡ common g.L.Numbered.kind_of l.fn.leases.items) l.places.items;
+  kind : (view l.founder).kind ≡ common g.L.Numbered.kind_of l.fn.items.items;
+  kinds : All (λ p. (holding p).kind ≡ common g.L.Numbered.kind_of l.fn.items.items) l.places.items;
   sole : l.fn.passes ≡ 1 → (view l.founder).alone ≡ true;
-  numbers : (x : ℕ) → times x (view l.founder).all ≡ times x (map g.L.Numbered.number_of l.fn.leases.items);
-  length : length (view l.founder).all ≡ length (map g.L.Numbered.number_of l.fn.leases.items);
+  numbers : (x : ℕ) → times x (view l.founder).all ≡ times x (map g.L.Numbered.number_of l.fn.items.items);
+  length : length (view l.founder).all ≡ length (map g.L.Numbered.number_of l.fn.items.items);
 }
