@@ -1,0 +1,71 @@
+-- What is laid out is a layout, and is read alike.
+use Rattle.std.proofs.Common.{◌≡◌, ◌+◌, ℕ, List, [], ◌∷◌, length, map, refl, sym, ◌∙◌, ap, subst}
+use Rattle.ioa_tokens.specs.Bytes.{Text}
+use Rattle.ioa_tokens.specs.Tokens.{Tok, Placed}
+use Rattle.ioa_tokens.specs.Cutting.{Piece, Blank, Comment, Mark, Part, IsTokens, keep, placed_from}
+use Rattle.ioa_tokens.proofs.Cuts.{tokens_once}
+use Rattle.ioa_layout.specs.declared.gap.Gap.{Gap}
+use Rattle.ioa_layout.specs.Ink.{see, seen, Shows, tidy}
+use Rattle.ioa_layout.specs.Gaps.{AreAllGaps, laid}
+use Rattle.ioa_layout.specs.Fronts.{AreOf}
+use Rattle.ioa_layout.specs.Laid.{IsLayout, ReadsAlike}
+use Rattle.ioa_layout.proofs.Cut.{laid_shows, seen_tidy, AreInk}
+
+pub layout_is : (source text : Text) (shown : List Part) (gaps : List Gap) → AreOf source shown → AreAllGaps shown gaps → text ≡ laid shown gaps → IsLayout source text
+layout_is source text shown gaps h k e =
+    let ink = map tidy h.0 in
+    let same : shown ≡ ink = h.1.1 in
+    let set : AreAllGaps ink gaps = subst (λ ps. AreAllGaps ps gaps) same k in
+    let whole : text ≡ laid ink gaps = e ∙ ap (λ ps. laid ps gaps) same in
+    let visible : AreInk ink = subst (λ ps. AreInk (map tidy ps)) h.1.0.shown (seen_tidy h.1.0.parts [] h.1.0.cut) in
+    record {
+      ink = h.0;
+      gaps = gaps;
+      source_shows = h.1.0;
+      text_shows = subst (λ t. Shows t ink) (sym whole) (laid_shows ink gaps visible set);
+      set = set;
+      whole = whole;
+    }
+
+-- the tokens of parts
+
+abbrev mark_of : Piece → List Tok → List Tok
+mark_of Blank ts = ts
+mark_of Comment ts = ts
+mark_of (Mark t) ts = t ∷ ts
+
+abbrev marks : List Part → List Tok
+marks [] = []
+marks (p ∷ ps) = mark_of p.piece (marks ps)
+
+keep_marks : (q : Piece) (at : ℕ) (ts : List Placed) → map (λ p. p.tok) (keep q at ts) ≡ mark_of q (map (λ p. p.tok) ts)
+keep_marks Blank at ts = refl
+keep_marks Comment at ts = refl
+keep_marks (Mark t) at ts = refl
+
+see_marks : (q : Piece) (text : Text) (ps : List Part) → marks (see q (record { piece = q; text = text }) ps) ≡ mark_of q (marks ps)
+see_marks Blank text ps = refl
+see_marks Comment text ps = refl
+see_marks (Mark t) text ps = refl
+
+placed_marks : (at : ℕ) (ps : List Part) → map (λ p. p.tok) (placed_from at ps) ≡ marks (seen ps)
+placed_marks at [] = refl
+placed_marks at (p ∷ ps) =
+    keep_marks p.piece at (placed_from (at + length p.text) ps) ∙ ap (λ ts. mark_of p.piece ts) (placed_marks (at + length p.text) ps) ∙ sym (see_marks p.piece p.text (seen ps))
+
+tidy_marks : (ps : List Part) → marks (map tidy ps) ≡ marks ps
+tidy_marks [] = refl
+tidy_marks (p ∷ ps) = ap (λ ts. mark_of p.piece ts) (tidy_marks ps)
+
+abbrev shown_tokens : (text : Text) (ink : List Part) → Shows text ink → (us : List Placed) × IsTokens text us
+shown_tokens text ink h = (placed_from 0 h.parts, record { parts = h.parts; whole = h.whole; cut = h.cut; kept = refl })
+
+shown_marks : (text : Text) (ink : List Part) (ts : List Placed) → Shows text ink → IsTokens text ts → map (λ p. p.tok) ts ≡ marks ink
+shown_marks text ink ts h k =
+    ap (λ us. map (λ p. p.tok) us) (tokens_once text ts (placed_from 0 h.parts) k (shown_tokens text ink h).1) ∙ placed_marks 0 h.parts ∙ ap marks h.shown
+
+pub reads_alike : (source text : Text) → IsLayout source text → ReadsAlike source text
+reads_alike source text h = record {
+  read = shown_tokens text (map tidy h.ink) h.text_shows;
+  same = λ ts us k m. shown_marks text (map tidy h.ink) us h.text_shows m ∙ tidy_marks h.ink ∙ sym (shown_marks source h.ink ts h.source_shows k);
+}

@@ -1,0 +1,7 @@
+pub mod Blanks
+pub mod Cut
+pub mod Fronts
+pub mod Items
+pub mod Layouts
+pub mod Setting
+pub mod Tokens

@@ -1,0 +1,4 @@
+pub mod Fronts
+pub mod Gaps
+pub mod Ink
+pub mod Laid
