@@ -5,6 +5,7 @@ pub mod DrawReports
 mod DriveReports
 mod Driven
 pub mod FileReports
+mod Formattings
 mod Fronted
 pub mod HuntReports
 mod Pieces

@@ -6,6 +6,7 @@ pub mod Driven
 pub mod Drives
 pub mod Explained
 pub mod FileReports
+pub mod Formatting
 pub mod Hunting
 pub mod Judged
 pub mod Parts

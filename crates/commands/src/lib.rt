@@ -9,6 +9,7 @@ pub mod driving;
 pub mod explaining;
 pub mod fault;
 pub mod files;
+pub mod formatting;
 mod given;
 pub mod hunting;
 pub mod laws;

@@ -1,5 +1,5 @@
 -- A report that all is done stays one where the output is flushed after it.
-use Rattle.std.proofs.Common.{◌≡◌, ◌⊎◌, inl, inr, ℕ, Bool, true, false, Option, None, Some, List, refl, subst, sym, ◌∙◌}
+use Rattle.std.proofs.Common.{◌≡◌, ◌⊎◌, inl, inr, ℕ, Bool, true, false, Option, None, Some, List, [], refl, subst, sym, ◌∙◌}
 use Rattle.std.specs.Io.KnownBytes.{Appends, Keeps}
 use Rattle.plans.specs.declared.plan.Plan.{Plan}
 use Rattle.reference.specs.declared.checking.Verdict.{Verdict}
@@ -23,7 +23,7 @@ use Rattle.commands.specs.FileReports.{FilesMean, FilesMeanNone, IsCheckFileRepo
 use Rattle.service.specs.Flushed.{IsFlushed, IsFlushedWhere}
 use Rattle.commands.specs.Parts.{IsSimulationReport}
 use Rattle.commands.specs.Reports.{is_served, IsPrintReport}
-use Rattle.service.specs.Reports.{IsFlushedReport, IsInformed, IsReport, IsReportOn, IsUnserved}
+use Rattle.service.specs.Reports.{IsFlushedReport, IsFormatReportOn, IsInformed, IsReport, IsReportOn, IsUnserved}
 use Rattle.commands.specs.Simulations.{IsEngineReport}
 use Rattle.service.specs.Told.{IsWarned}
 use Rattle.commands.proofs.DrawReports.{draw_again}
@@ -42,6 +42,19 @@ module _ (wrote again : List ℕ → Type 0) (stays : (text : List ℕ) → wrot
   print_again has lacks (Refused number place) s p = cc
   print_again has lacks (Fault number) s p = cc
   print_again has lacks Misused s p = cc
+
+  format_again : (check : Bool) (has : List ℕ → Type 0) (lacks : Type 0) (report : Report) → is_served report ≡ true → IsFormatReportOn check has lacks kept wrote cut report → IsFormatReportOn check has lacks still again later report
+  format_again true has lacks report s p = (p.0, stays [] p.1)
+  format_again false has lacks Done s p =
+      let j = p.judged in
+      record { source = p.source; is = p.is; judged = record { text = j.text; is = j.is; became = stays _ j.became } }
+  format_again false has lacks No s p = p
+  format_again false has lacks (Driven refused) s p = p
+  format_again false has lacks (Ran stats) s p = p
+  format_again false has lacks Explained s p = p
+  format_again false has lacks (Refused number place) s p = cc
+  format_again false has lacks (Fault number) s p = cc
+  format_again false has lacks Misused s p = p
 
   simulation_again : (plan : Plan) (system : System) (form : Form) (report : Report) → is_served report ≡ true → IsSimulationReport plan system form wrote cut report → IsSimulationReport plan system form again later report
   simulation_again plan system form Done s p = record { turns = p.turns; are = p.are; became = stays _ p.became }
@@ -178,6 +191,7 @@ module _ (wrote again : List ℕ → Type 0) (stays : (text : List ℕ) → wrot
 
   on_again : (what : Asked) (has : List ℕ → List ℕ → Type 0) (lacks : List ℕ → Type 0) (report : Report) → is_served report ≡ true → IsReportOn what has lacks kept wrote cut report → IsReportOn what has lacks still again later report
   on_again (asked.Print source) has lacks report s = print_again (has source.now) (lacks source.now) report s
+  on_again (asked.Format source check) has lacks report s = format_again check (has source.now) (lacks source.now) report s
   on_again (asked.Reference source options) has lacks report s = simulate_again has lacks source.now report s options
   on_again (asked.Run source options crew) has lacks report s = run_again has lacks source.now report s options crew.stats
   on_again (asked.Check source trace) has lacks report s = check_again has lacks source.now report s trace.now

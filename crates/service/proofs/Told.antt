@@ -1,6 +1,6 @@
 -- What is said on standard error.
 use Rattle.std.proofs.Common.{◌≡◌, ◌⊎◌, ◌∙◌, inl, inr, subst, sym, ℕ, List, refl}
-use Rattle.std.specs.Prelude.{Option}
+use Rattle.std.specs.Prelude.{Option, true, false}
 use Rattle.plans.specs.declared.plan.Plan.{Plan}
 use Rattle.task_seed.specs.Turning.{System}
 use Rattle.command_line.specs.declared.Asked.{Asked}
@@ -33,6 +33,8 @@ module _ {E : Type 0} (known : E → Option (List ℕ)) where
   asked_not_warned has lacks kept wrote cut old what (Refused number place) on = refl
   asked_not_warned has lacks kept wrote cut old what (Fault number) on = refl
   asked_not_warned has lacks kept wrote cut old (asked.Print source) Misused on = absurd on
+  asked_not_warned has lacks kept wrote cut old (asked.Format source true) Misused on = absurd on.0
+  asked_not_warned has lacks kept wrote cut old (asked.Format source false) Misused on = absurd on
   asked_not_warned has lacks kept wrote cut old (asked.Reference source options) Misused on = absurd (not_misused has lacks options source.now kept (λ plan system. IsSimulationReport plan system (form_for options) wrote cut) (λ plan system no. no) on)
   asked_not_warned has lacks kept wrote cut old (asked.Run source options crew) Misused on = absurd (not_misused has lacks options source.now kept (λ plan system. IsCrewReport plan system (form_for options) crew.stats kept wrote cut) (λ plan system no. no) on)
   asked_not_warned has lacks kept wrote cut old (asked.Check source trace) Misused (inl none) = absurd (no_plan_refused (has source.now) (lacks source.now) Misused none.0)

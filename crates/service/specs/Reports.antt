@@ -1,5 +1,5 @@
 -- When each report is given.
-use Rattle.std.specs.Prelude.{◌≡◌, ◌⊎◌, ℕ, true, List}
+use Rattle.std.specs.Prelude.{◌≡◌, ◌⊎◌, ℕ, Bool as Truth, true, false, List, []}
 use Rattle.clap.specs.declared.error.ErrorKind.TheVariants.{DisplayHelp, DisplayVersion}
 use Rattle.command_line.specs.declared.Asked.{Asked}
 use Rattle.command_line.specs.declared.Asked.TheVariants as asked
@@ -9,14 +9,21 @@ use Rattle.commands.specs.declared.report.Report.TheVariants.{Done, No, Driven, 
 use Rattle.commands.specs.Drawing.{IsDrawFileReport}
 use Rattle.commands.specs.Explained.{IsExplainReport, named}
 use Rattle.commands.specs.FileReports.{IsCheckFileReport, IsDriveFileReport, IsSimulateFileReport}
+use Rattle.commands.specs.Formatting.{IsFormatReport, IsLayoutReport}
 use Rattle.commands.specs.Hunting.{IsHuntFileReport}
 use Rattle.commands.specs.Reports.{IsPrintReport, is_served}
 use Rattle.commands.specs.Written.{SomeText}
 use Rattle.service.specs.Crews.{IsRunFileReport}
 
+-- the report of `format`: where the layout is only judged, nothing is written
+abbrev pub IsFormatReportOn : Truth → (List ℕ → Type 0) → Type 0 → Type 0 → (List ℕ → Type 0) → (List ℕ → ℕ → Type 0) → Report → Type 0
+IsFormatReportOn false has lacks kept wrote cut report = IsFormatReport has lacks kept wrote cut report
+IsFormatReportOn true has lacks kept wrote cut report = IsLayoutReport has lacks report × wrote []
+
 -- the report on what is asked for
 abbrev pub IsReportOn : Asked → (List ℕ → List ℕ → Type 0) → (List ℕ → Type 0) → Type 0 → (List ℕ → Type 0) → (List ℕ → ℕ → Type 0) → Report → Type 0
 IsReportOn (asked.Print source) has lacks = IsPrintReport (has source.now) (lacks source.now)
+IsReportOn (asked.Format source check) has lacks = IsFormatReportOn check (has source.now) (lacks source.now)
 IsReportOn (asked.Reference source options) has lacks = IsSimulateFileReport has lacks source.now options
 IsReportOn (asked.Run source options crew) has lacks = IsRunFileReport has lacks source.now options crew.stats
 IsReportOn (asked.Check source trace) has lacks = IsCheckFileReport has lacks source.now trace.now

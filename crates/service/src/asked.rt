@@ -2,7 +2,7 @@
 ghost use Rattle.std.specs.Prelude.{◌≡◌};
 ghost use Rattle.trace.specs.Went.{IsStopped, IsWritten};
 ghost use Rattle.service.specs.Crews.{IsRunFileReport};
-ghost use Rattle.service.specs.Reports.{IsReportOn};
+ghost use Rattle.service.specs.Reports.{IsFormatReportOn, IsReportOn};
 ghost use Rattle.service.specs.Subjects.{alone, subject_of, with_table};
 
 use crate::running::run_setup;
@@ -10,6 +10,7 @@ use command_line::{Asked, Crew, Options};
 use commands::Files;
 use commands::diagrams::draw_file;
 use commands::explaining::{Subject, explain_files};
+use commands::formatting::{format_file, judge_layout};
 use commands::hunting::hunt_file;
 use commands::over_files::{check_file, drive_file, form_for, print_file, simulate_file};
 use commands::reading::setup_in;
@@ -37,6 +38,7 @@ pub(crate) fn do_asked<F: Files, L: Looks + Sync, W: Write + Drop, R: Threads + 
 {
     match asked {
         Asked::Print { source } => print_file(alloc, source, files, out),
+        Asked::Format { source, check } => do_format(alloc, source, check, files, out),
         Asked::Reference { source, options } => simulate_file(alloc, source, options, files, out),
         Asked::Run {
             source,
@@ -75,6 +77,25 @@ pub(crate) fn do_asked<F: Files, L: Looks + Sync, W: Write + Drop, R: Threads + 
             options,
             ticks,
         } => draw_file(alloc, source, options, ticks, files, out),
+    }
+}
+
+// Writes the layout of the source in a file, or judges it.
+fn do_format<F: Files, W: Write>(
+    alloc: Global,
+    source: &str,
+    check: bool,
+    files: &F,
+    out: &mut Counted<W>,
+) -> Report
+    ensures { IsFormatReportOn check (F.has files.now source.now) (F.lacks files.now source.now)
+        (out.new ≡ out.old) (IsWritten W.contents out.old out.new)
+        (IsStopped W.contents out.old out.new) result }
+{
+    if check {
+        judge_layout(alloc, source, files)
+    } else {
+        format_file(alloc, source, files, out)
     }
 }
 
