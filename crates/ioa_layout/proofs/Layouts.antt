@@ -1,5 +1,6 @@
 -- What is laid out is a layout, and is read alike.
 use Rattle.std.proofs.Common.{◌≡◌, ◌+◌, ℕ, List, [], ◌∷◌, length, map, refl, sym, ◌∙◌, ap, subst}
+use Rattle.std.specs.Str.{IsAscii}
 use Rattle.ioa_tokens.specs.Bytes.{Text}
 use Rattle.ioa_tokens.specs.Tokens.{Tok, Placed}
 use Rattle.ioa_tokens.specs.Cutting.{Piece, Blank, Comment, Mark, Part, IsTokens, keep, placed_from}
@@ -9,6 +10,7 @@ use Rattle.ioa_layout.specs.Ink.{see, seen, Shows, tidy}
 use Rattle.ioa_layout.specs.Gaps.{AreAllGaps, laid}
 use Rattle.ioa_layout.specs.Fronts.{AreOf}
 use Rattle.ioa_layout.specs.Laid.{IsLayout, ReadsAlike}
+use Rattle.ioa_layout.proofs.Ascii.{layout_ascii}
 use Rattle.ioa_layout.proofs.Cut.{laid_shows, seen_tidy, AreInk}
 
 pub layout_is : (source text : Text) (shown : List Part) (gaps : List Gap) → AreOf source shown → AreAllGaps shown gaps → text ≡ laid shown gaps → IsLayout source text
@@ -64,8 +66,11 @@ shown_marks : (text : Text) (ink : List Part) (ts : List Placed) → Shows text 
 shown_marks text ink ts h k =
     ap (λ us. map (λ p. p.tok) us) (tokens_once text ts (placed_from 0 h.parts) k (shown_tokens text ink h).1) ∙ placed_marks 0 h.parts ∙ ap marks h.shown
 
-pub reads_alike : (source text : Text) → IsLayout source text → ReadsAlike source text
-reads_alike source text h = record {
-  read = shown_tokens text (map tidy h.ink) h.text_shows;
-  same = λ ts us k m. shown_marks text (map tidy h.ink) us h.text_shows m ∙ tidy_marks h.ink ∙ sym (shown_marks source h.ink ts h.source_shows k);
-}
+pub reads_alike : (source text : Text) → IsAscii source → IsLayout source text → ReadsAlike source text
+reads_alike source text ascii h =
+    let shown : text ≡ laid (map tidy (seen h.source_shows.parts)) h.gaps = h.whole ∙ ap (λ ps. laid (map tidy ps) h.gaps) (sym h.source_shows.shown) in
+    record {
+      ascii = subst (λ t. IsAscii t) (sym shown) (layout_ascii source h.source_shows.parts h.gaps h.source_shows.whole ascii);
+      read = shown_tokens text (map tidy h.ink) h.text_shows;
+      same = λ ts us k m. shown_marks text (map tidy h.ink) us h.text_shows m ∙ tidy_marks h.ink ∙ sym (shown_marks source h.ink ts h.source_shows k);
+    }

@@ -1,3 +1,4 @@
+pub mod Ascii
 pub mod Blanks
 pub mod Cut
 pub mod Fronts

@@ -1,5 +1,6 @@
 -- What a layout of a source is.
 use Rattle.std.specs.Prelude.{◌≡◌, List, map}
+use Rattle.std.specs.Str.{IsAscii}
 use Rattle.ioa_tokens.specs.Bytes.{Text}
 use Rattle.ioa_tokens.specs.Tokens.{Placed}
 use Rattle.ioa_tokens.specs.Cutting.{Part, IsTokens}
@@ -16,7 +17,8 @@ pub record IsLayout (source : Text) (text : Text) : Type 0 where
   pub set : AreAllGaps (map tidy ink) gaps
   pub whole : text ≡ laid (map tidy ink) gaps
 
--- Both are read as the same tokens, wherever these stand.
+-- The text is ASCII as the source is, and both are read as the same tokens, wherever these stand.
 pub record ReadsAlike (source : Text) (text : Text) : Type 0 where
+  pub ascii : IsAscii text
   pub read : (us : List Placed) × IsTokens text us
   pub same : (ts us : List Placed) → IsTokens source ts → IsTokens text us → map (λ p. p.tok) us ≡ map (λ p. p.tok) ts

@@ -24,4 +24,4 @@ returns-clause-tokens c =
     let gaps : AreAllGaps (parts_of seen) set = subst (λ xs. AreAllGaps (parts_of xs) set) c.as_slice-2.ensures.value c.in_ok-set.ensures in
     let whole : text ≡ laid (parts_of seen) set =
     c.in_ok-text.ensures ∙ ap (λ xs. laid (parts_of xs) c.as_slice-4.result.now) c.as_slice-3.ensures.value ∙ ap (λ gs. laid (parts_of seen) gs) c.as_slice-4.ensures.value in
-    reads_alike source text (layout_is source text (parts_of seen) set c.in_ok-seen.ensures gaps whole)
+    reads_alike source text c.in_ok-found.ensures.ok.0 (layout_is source text (parts_of seen) set c.in_ok-seen.ensures gaps whole)
