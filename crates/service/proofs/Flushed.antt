@@ -155,7 +155,7 @@ module _ (wrote again : List ℕ → Type 0) (stays : (text : List ℕ) → wrot
   story_again No s p = p
   story_again (Driven refused) s p = p
   story_again (Ran stats) s p = p
-  story_again Explained s p = p
+  story_again Explained s p = record { text = p.text; some = p.some; became = stays p.text p.became }
   story_again (Refused number place) s p = cc
   story_again (Fault number) s p = cc
   story_again Misused s p = p

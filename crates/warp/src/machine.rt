@@ -58,7 +58,10 @@ impl<'a, R: rt::Files + Input> MachineFiles<'a, R> {
         let Some(kept) = &self.kept else {
             return Ok(None);
         };
-        for file in kept.borrow().iter() {
+        let Ok(files) = kept.try_borrow() else {
+            return Ok(None);
+        };
+        for file in files.iter() {
             if file.name.as_str() == name && most <= file.most {
                 return Ok(Some(file.bytes.as_slice().to_vec(alloc)?));
             }
@@ -67,8 +70,11 @@ impl<'a, R: rt::Files + Input> MachineFiles<'a, R> {
     }
 
     fn keep(&self, alloc: Global, name: &str, most: u64, bytes: &[u8]) -> io::Result<()> {
-        if let Some(kept) = &self.kept {
-            kept.borrow_mut().push(Kept {
+        let Some(kept) = &self.kept else {
+            return Ok(());
+        };
+        if let Ok(mut files) = kept.try_borrow_mut() {
+            files.push(Kept {
                 name: String::from_str(alloc, name)?,
                 most,
                 bytes: bytes.to_vec(alloc)?,

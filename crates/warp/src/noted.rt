@@ -15,24 +15,25 @@ impl<'a, W: Write> Noted<'a, W> {
         Noted { writer, failure }
     }
 
-    fn note<T: Drop>(&self, done: io::Result<T>) -> io::Result<T> {
-        if let Err(error) = &done {
+    fn note<T>(&self, done: &io::Result<T>) {
+        if let Err(error) = done {
             if error.kind() != ErrorKind::Interrupted {
                 self.failure.set(Some(error.kind()));
             }
         }
-        done
     }
 }
 
 impl<'a, W: Write> Write for Noted<'a, W> {
     fn write(&mut self, piece: &[u8]) -> io::Result<usize> {
         let done = self.writer.write(piece);
-        self.note(done)
+        self.note(&done);
+        done
     }
 
     fn flush(&mut self) -> io::Result<()> {
         let done = self.writer.flush();
-        self.note(done)
+        self.note(&done);
+        done
     }
 }

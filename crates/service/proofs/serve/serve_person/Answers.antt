@@ -14,4 +14,4 @@ pub returns : goal.returns
 returns g c =
     let report = c.answer-report.result in
     let line = told g.E.Write.contents c.args.err.now c.answer-report.new.err c.tell.new.err report c.answer-report.ensures.warned c.tell.ensures.said c.tell.ensures.quiet in
-    record { status = (report, c.status.ensures, c.answer-report.ensures.report, inr (c.is_cut.ensures.no c.if-is_cut.false, c.tell.new.err, line, c.tell_why.ensures)) }
+    record { status = (report, c.status-2.ensures, c.answer-report.ensures.report, inr (c.is_cut.ensures.no c.if-is_cut.false, c.tell.new.err, line, c.tell_why.ensures)) }

@@ -1,0 +1,3 @@
+mod Sizes
+mod Dealt
+mod Numbers

@@ -1,0 +1,3 @@
+pub mod Partitions
+pub mod Groups
+pub mod Faults
