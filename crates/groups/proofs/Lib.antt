@@ -1,0 +1,14 @@
+pub mod Played
+pub mod Placed
+pub mod Joined
+pub mod Opened
+pub mod Depths
+pub mod Passed
+pub mod Moved
+pub mod Seated
+pub mod Least
+pub mod Starting
+pub mod Floors
+pub mod Dropped
+pub mod Indexed
+pub mod Kept

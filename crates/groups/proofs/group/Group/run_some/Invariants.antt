@@ -1,0 +1,10 @@
+use Rattle.std.proofs.Common.{◌≡◌}
+use Rattle.groups.specs.Moves.{IsAhead}
+use Rattle.groups.proofs.group.Group.run_some.Given as goal
+
+abbrev pub invariant-loop-count : goal.invariant-loop-count
+invariant-loop-count g l =
+    record {
+      ahead : IsAhead g.T.Turns.turn_of l.initial.self l.self l.count;
+      start : l.count ≡ 0 → l.self ≡ l.initial.self;
+    }

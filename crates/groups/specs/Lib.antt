@@ -1,0 +1,6 @@
+pub mod Tournament
+pub mod GroupView
+pub mod Crew
+pub mod Open
+pub mod Moves
+pub mod Dropping
