@@ -1,5 +1,5 @@
 -- The least key that a group has to do.
-use Rattle.std.proofs.Common.{◌≡◌, ℕ, ◌+◌, ◌<◌, ◌≤◌, ◌==◌, ◌⊎◌, inl, inr, Bool, true, false, cond, Option, None, Some, List, [], ◌∷◌, refl, ap, sym, subst, ◌∙◌, arith}
+use Rattle.std.proofs.Common.{◌≡◌, ℕ, ◌≤◌, ◌⊎◌, inl, inr, Bool, true, false, Option, Some, List, refl, ap, sym, subst, ◌∙◌, arith}
 use Rattle.std.specs.Prelude.{slice_get}
 use Rattle.std.proofs.lemmas.Bool.{eq-eqb, eqb-true}
 use Rattle.terms.specs.Datum.{Datum}
@@ -7,7 +7,6 @@ use Rattle.terms.specs.Named.{Named}
 use Rattle.event_keys.specs.declared.key.Bound.{Bound}
 use Rattle.event_keys.specs.declared.message.Sign.{Sign}
 use Rattle.event_keys.specs.declared.message.Sign.TheVariants.{Plus, Minus}
-use Rattle.event_keys.specs.declared.message.Signed.{Signed}
 use Rattle.event_keys.specs.Ranks.{rank_of_bound}
 use Rattle.antimessage.specs.Bags.{least_of as least_of_bag}
 use Rattle.antimessage.specs.Order.{IsInOrder}
@@ -20,7 +19,6 @@ use Rattle.virtual_time.specs.Groups.Leases.{IsFloor}
 use Rattle.virtual_time.proofs.Lists.{AllFrom-weaken}
 use Rattle.task_seed.specs.declared.setup.Setup.{Setup}
 use Rattle.task_seed.specs.declared.turns.Turn.{Turn}
-use Rattle.task_seed.specs.Machines.{end_rank}
 use Rattle.rollback.specs.ComponentView.{ComponentView, machine_of, next_key}
 use Rattle.rollback.specs.Flight.{in_flight}
 use Rattle.rollback.specs.Laws.{LeastIsGreatest, NoneIsBelowLeast}

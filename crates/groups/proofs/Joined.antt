@@ -1,11 +1,11 @@
 -- Bags that are posted to one another.
-use Rattle.std.proofs.Common.{◌≡◌, ℕ, Bool, true, false, true≢false, cond, Option, None, Some, List, [], ◌∷◌, refl, ap, sym, subst, ◌∙◌}
+use Rattle.std.proofs.Common.{◌≡◌, ℕ, Bool, true, false, true≢false, cond, None, Some, List, [], ◌∷◌, refl, ap, sym, ◌∙◌}
 use Rattle.terms.specs.Datum.{Datum}
 use Rattle.terms.specs.Named.{Named}
 use Rattle.virtual_time.specs.Machine.{Lawful, Machine}
 use Rattle.virtual_time.specs.Bags.{comes_first, insert}
 use Rattle.virtual_time.specs.Entries.{Entry, Input, Item, Own}
-use Rattle.virtual_time.specs.Records.{sent, sent_by, unsent}
+use Rattle.virtual_time.specs.Records.{sent_by, unsent}
 use Rattle.virtual_time.proofs.Lists.{first_chain, first_total}
 use Rattle.virtual_time.proofs.Delivered.{first_one}
 use Rattle.groups.specs.Open.{joined}

@@ -1,5 +1,5 @@
 -- What the members of a group keep when one of them has changed.
-use Rattle.std.proofs.Common.{◌≡◌, ℕ, ◌+◌, ◌<◌, ◌↔◌, Option, None, Some, List, length, refl, ap, sym, subst, ◌∙◌, arith}
+use Rattle.std.proofs.Common.{◌≡◌, ℕ, ◌↔◌, Option, None, Some, List, refl, ap, sym, subst, ◌∙◌, arith}
 use Rattle.std.specs.Prelude.{IfOk, IsErrOf, IsSomeAnd, OnErr, OnOk, Result, Ok, Err, slice_get, slice_set}
 use Rattle.std.proofs.lemmas.List.{length-set}
 use Rattle.event_keys.specs.declared.key.Bound.{Bound}
@@ -16,7 +16,7 @@ use Rattle.rollback.specs.ComponentView.{ComponentView, machine_of, next_key}
 use Rattle.rollback.specs.Stepped.{next_entry, stepped, with_coming}
 use Rattle.groups.specs.declared.seats.Seat.{Seat}
 use Rattle.groups.specs.Crew.{AreSeated, AreSound, AreValidMembers, MembersView, place_in}
-use Rattle.groups.specs.GroupView.{frame_of, key_of_next, least_next}
+use Rattle.groups.specs.GroupView.{frame_of, least_next}
 use Rattle.groups.specs.Open.{HasCome, HasFirst, IsDelivered, IsFirstDone, IsProcessed, NothingIsNext}
 use Rattle.groups.proofs.Least.{least_first, least_none, least_there}
 use Rattle.groups.proofs.Placed.{frames_put, own_same, places_same}

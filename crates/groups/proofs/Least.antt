@@ -1,10 +1,10 @@
 -- The least of the next keys.
-use Rattle.std.proofs.Common.{◌≡◌, ℕ, zero, suc, ◌+◌, ◌<◌, ◌≤◌, ◌^◌, Option, None, Some, List, [], ◌∷◌, refl, ap, sym, subst, ◌∙◌, arith}
-use Rattle.std.specs.Prelude.{min, slice_get}
+use Rattle.std.proofs.Common.{◌≡◌, ℕ, zero, suc, ◌≤◌, Option, Some, List, [], ◌∷◌, refl, ap, arith}
+use Rattle.std.specs.Prelude.{slice_get}
 use Rattle.task_seed.specs.declared.setup.Setup.{Setup}
 use Rattle.task_seed.specs.declared.turns.Turn.{Turn}
 use Rattle.task_seed.specs.Machines.{end_rank}
-use Rattle.rollback.specs.ComponentView.{ComponentView, machine_of}
+use Rattle.rollback.specs.ComponentView.{ComponentView}
 use Rattle.rollback.proofs.Sending.{end_is}
 use Rattle.groups.specs.GroupView.{key_of_next, least_next}
 use Rattle.groups.specs.Open.{IsFirst, NothingIsNext}

@@ -1,6 +1,6 @@
 -- What a group does by itself, as steps of the group alone.
-use Rattle.std.proofs.Common.{◌≡◌, ℕ, zero, suc, ◌==◌, ◌&&◌, Bool, true, false, true≢false, cond, Option, Some, List, [], ◌∷◌, ◌++◌, refl, ap, sym, subst, ◌∙◌}
-use Rattle.std.proofs.lemmas.Bool.{and_parts, eqb-true, ne_eqb, cases_eq, eq-eqb}
+use Rattle.std.proofs.Common.{◌≡◌, ℕ, zero, suc, ◌==◌, Bool, true, false, true≢false, Option, Some, List, [], ◌∷◌, ◌++◌, refl, ap, sym, subst, ◌∙◌}
+use Rattle.std.proofs.lemmas.Bool.{and_parts, eqb-true}
 use Rattle.terms.specs.Datum.{Datum}
 use Rattle.terms.specs.Named.{Named}
 use Rattle.event_keys.specs.declared.message.Sign.{Sign}
@@ -8,20 +8,19 @@ use Rattle.event_keys.specs.declared.message.Sign.TheVariants.{Plus, Minus}
 use Rattle.event_keys.specs.declared.message.Signed.{Signed}
 use Rattle.event_keys.specs.Ranks.{rank_of_bound}
 use Rattle.virtual_time.specs.Machine.{Lawful, Machine}
-use Rattle.virtual_time.specs.Entries.{Entry, Item}
 use Rattle.virtual_time.specs.Records.{next_of}
 use Rattle.virtual_time.specs.Reference.{reference_below}
-use Rattle.virtual_time.specs.Worlds.{Process, World}
-use Rattle.virtual_time.specs.Groups.Leases.{Does, alone}
+use Rattle.virtual_time.specs.Worlds.{Process}
+use Rattle.virtual_time.specs.Groups.Leases.{alone}
 use Rattle.virtual_time.proofs.Groups.Leased.{does_both}
 use Rattle.task_seed.specs.declared.setup.Setup.{Setup}
 use Rattle.task_seed.specs.declared.turns.Turn.{Turn}
 use Rattle.rollback.specs.ComponentView.{ComponentView, machine_of}
-use Rattle.rollback.specs.Flight.{goes, in_flight, is_sign, item_of}
+use Rattle.rollback.specs.Flight.{goes, in_flight, is_sign}
 use Rattle.groups.specs.Crew.{AreSound, MembersView}
-use Rattle.groups.specs.GroupView.{AreMembers, GroupView, frames, history_of, is_member, lease_of}
+use Rattle.groups.specs.GroupView.{AreMembers, GroupView, frames, is_member, lease_of}
 use Rattle.groups.specs.Moves.{Delivers, IsAhead, IsSettled, IsStepped, KeepsGroup, Leads, MovesBy, Processes}
-use Rattle.groups.specs.Open.{AllInside, AllOutside, IsPassed, IsProcessed, joined, open_world}
+use Rattle.groups.specs.Open.{AllInside, AllOutside, IsPassed, IsProcessed, open_world}
 use Rattle.groups.proofs.Passed.{its_frames, its_next, its_step, outside_same}
 use Rattle.groups.proofs.Placed.{history_there, member_there, members_same}
 

@@ -1,6 +1,6 @@
 -- What a member of a group does is a step of its open world.
-use Rattle.std.proofs.Common.{◌≡◌, ℕ, ◌<◌, ◌+◌, ◌==◌, ◌&&◌, ◌⊎◌, inl, inr, Bool, true, false, true≢false, cond, Option, None, Some, List, [], ◌∷◌, ◌++◌, refl, ap, sym, subst, ◌∙◌, arith}
-use Rattle.std.specs.Prelude.{length, slice_get, slice_set}
+use Rattle.std.proofs.Common.{◌≡◌, ℕ, ◌<◌, ◌==◌, ◌⊎◌, inl, inr, Bool, true, false, true≢false, cond, Some, List, [], ◌∷◌, ◌++◌, refl, ap, sym, subst, ◌∙◌, arith}
+use Rattle.std.specs.Prelude.{slice_get, slice_set}
 use Rattle.std.proofs.lemmas.Bool.{and_parts, eq-eqb, ne_eqb, cases_eq, eqb-true}
 use Rattle.terms.specs.Datum.{Datum}
 use Rattle.terms.specs.Named.{Named}
@@ -13,7 +13,7 @@ use Rattle.antimessage.specs.Order.{Fits, IsInOrder}
 use Rattle.virtual_time.specs.Machine.{Lawful, Machine}
 use Rattle.virtual_time.specs.Bags.{hit, remove, times}
 use Rattle.virtual_time.specs.Entries.{Entry, Item}
-use Rattle.virtual_time.specs.Records.{Record, after_entry, antimessage_comes, back_by_antimessage, back_by_message, message_comes, next_of, sent_by, unsent}
+use Rattle.virtual_time.specs.Records.{after_entry, antimessage_comes, back_by_antimessage, back_by_message, message_comes, next_of, sent_by, unsent}
 use Rattle.virtual_time.specs.Reference.{reference_below}
 use Rattle.virtual_time.specs.Worlds.{Commit, DeliverAntimessage, DeliverMessage, Meet, Process, RollBack, Step, World, deliver_antimessage, deliver_message, process, process_entry, put_back, record_of, same, taken_at}
 use Rattle.virtual_time.specs.Groups.Leases.{Does}
@@ -25,8 +25,7 @@ use Rattle.rollback.specs.ComponentView.{ComponentView}
 use Rattle.rollback.specs.Post.{IsPosted}
 use Rattle.rollback.proofs.Flight.{insert_elsewhere, insert_there}
 use Rattle.groups.specs.Crew.{AreApart, MembersView}
-use Rattle.groups.specs.GroupView.{AreMembers, frame_of, frames, history_of, is_member}
-use Rattle.groups.specs.Moves.{Delivers}
+use Rattle.groups.specs.GroupView.{AreMembers, frame_of, history_of, is_member}
 use Rattle.groups.specs.Open.{joined, open_world}
 use Rattle.groups.proofs.Joined.{none_to_self, sent_joined, unsent_joined}
 use Rattle.groups.proofs.Placed.{frames_put, history_put, history_there, member_there, members_same}

@@ -1,15 +1,14 @@
 -- What is on its way comes to its receivers, one after the other.
-use Rattle.std.proofs.Common.{◌≡◌, ℕ, suc, ◌<◌, ◌+◌, Bool, true, false, Option, None, Some, List, [], ◌∷◌, ◌++◌, refl, ap, sym, subst, ◌∙◌, arith}
-use Rattle.std.specs.Prelude.{length, slice_get, slice_set}
+use Rattle.std.proofs.Common.{◌≡◌, ℕ, suc, ◌<◌, ◌+◌, true, false, Option, None, Some, List, [], ◌∷◌, ◌++◌, refl, ap, sym, subst, ◌∙◌, arith}
+use Rattle.std.specs.Prelude.{length, slice_set}
 use Rattle.terms.specs.Datum.{Datum}
 use Rattle.terms.specs.Named.{Named}
 use Rattle.event_keys.specs.declared.message.Sign.{Sign}
 use Rattle.event_keys.specs.declared.message.Sign.TheVariants.{Plus, Minus}
 use Rattle.event_keys.specs.declared.message.Signed.{Signed}
-use Rattle.event_keys.specs.declared.key.Bound.{Bound}
 use Rattle.raw_events.specs.Around.{head, tail}
 use Rattle.antimessage.specs.Bags.{insert as insert_one, insert_all}
-use Rattle.antimessage.specs.Counts.{Each, signed_cmp}
+use Rattle.antimessage.specs.Counts.{signed_cmp}
 use Rattle.antimessage.proofs.Sorted.{each_inserted}
 use Rattle.antimessage.specs.Order.{Fits, IsInOrder}
 use Rattle.virtual_time.specs.Machine.{Lawful, Machine}
@@ -24,14 +23,14 @@ use Rattle.task_seed.specs.Setups.{system}
 use Rattle.rollback.specs.ComponentView.{ComponentView, back_by, comes, machine_of, processed, sent_next}
 use Rattle.rollback.specs.Flight.{item_of}
 use Rattle.rollback.specs.Post.{IsPosted}
-use Rattle.rollback.specs.Stepped.{IsNextSent, IsUnsent, next_entry, stepped, taken_back, with_coming}
+use Rattle.rollback.specs.Stepped.{stepped, with_coming}
 use Rattle.groups.specs.Crew.{AreApart, AreOf, MembersView}
-use Rattle.groups.specs.GroupView.{AreMembers, frames, is_member, key_of_next, least_next}
-use Rattle.groups.specs.Moves.{Delivers, Processes}
+use Rattle.groups.specs.GroupView.{AreMembers, frames, is_member}
+use Rattle.groups.specs.Moves.{Delivers}
 use Rattle.groups.specs.Open.{AllInside, AllOutside, IsDelivered, IsPassed, IsProcessed, depth_of, open_world}
 use Rattle.groups.proofs.Depths.{come_depth, depth_put}
 use Rattle.groups.proofs.Opened.{antimessage_does, deliveries_both, left_open, message_does, process_does}
-use Rattle.groups.proofs.Placed.{frames_put, member_there, members_same, own_same, own_there}
+use Rattle.groups.proofs.Placed.{frames_put, members_same, own_there}
 
 pub split : (x : Signed) (xs rest : List Signed) → Some x ≡ head xs → rest ≡ tail xs → xs ≡ x ∷ rest
 split x [] rest e left = cc

@@ -1,11 +1,10 @@
 -- One component among the members of a group, by its place and by its number.
-use Rattle.std.proofs.Common.{◌≡◌, ℕ, zero, suc, ◌+◌, ◌==◌, ◌||◌, ◌⊎◌, inl, inr, Bool, true, false, true≢false, cond, Option, None, Some, List, [], ◌∷◌, refl, ap, sym, subst, ◌∙◌, arith}
+use Rattle.std.proofs.Common.{◌≡◌, ℕ, zero, suc, ◌==◌, ◌⊎◌, inl, inr, true, true≢false, cond, None, Some, List, [], ◌∷◌, refl, ap, sym, subst, ◌∙◌, arith}
 use Rattle.std.specs.Prelude.{map, slice_get, slice_set}
 use Rattle.std.proofs.lemmas.Bool.{eq-eqb, ne_eqb, cases_eq, eqb-true, or_cases, or_left, or_right}
 use Rattle.terms.specs.Datum.{Datum}
 use Rattle.terms.specs.Named.{Named}
 use Rattle.virtual_time.specs.Machine.{Machine}
-use Rattle.virtual_time.specs.Records.{Record}
 use Rattle.event_keys.specs.declared.key.Bound.{Bound}
 use Rattle.rollback.specs.ComponentView.{ComponentView}
 use Rattle.groups.specs.Crew.{AreApart, AreOf, ArePlaced, place_in}

@@ -1,10 +1,9 @@
 -- Components and their seats in the tournament.
-use Rattle.std.proofs.Common.{◌≡◌, ℕ, zero, suc, ◌+◌, ◌*◌, ◌<◌, ◌≤◌, ◌^◌, ◌⊎◌, inl, inr, Bool, true, false, Option, None, Some, List, [], ◌∷◌, length, refl, ap, sym, subst, ◌∙◌, arith}
-use Rattle.std.specs.Prelude.{nat_lt, slice_get, slice_set, slice_index_or, replicate}
+use Rattle.std.proofs.Common.{◌≡◌, ℕ, zero, suc, ◌+◌, ◌*◌, ◌<◌, ◌≤◌, ◌^◌, ◌⊎◌, inl, inr, Bool, true, false, Option, Some, List, [], ◌∷◌, length, refl, ap, sym, subst, ◌∙◌, arith}
+use Rattle.std.specs.Prelude.{nat_lt, slice_get, slice_set, replicate}
 use Rattle.std.proofs.lemmas.Bool.{cases_eq, cases_lt, lt-ltb, le-ltb, ltb-true}
 use Rattle.std.proofs.lemmas.List.{length-set}
-use Rattle.std.proofs.lemmas.Option.{get_or_from_slice_get, slice_get-get_or, slice_get_past, slice_get_within}
-use Rattle.event_keys.specs.declared.key.Bound.{Bound}
+use Rattle.std.proofs.lemmas.Option.{get_or_from_slice_get, slice_get_within}
 use Rattle.event_keys.specs.declared.key.Bound.TheVariants.{At, End}
 use Rattle.event_keys.specs.declared.key.Key.{Key}
 use Rattle.event_keys.specs.Ranks.{rank, rank_of_bound}
@@ -17,7 +16,7 @@ use Rattle.groups.specs.GroupView.{is_member, key_of_next}
 use Rattle.groups.specs.Open.{IsFirst, NothingIsNext}
 use Rattle.groups.specs.Tournament.{IsTournament, empty, key_at, node}
 use Rattle.groups.proofs.Placed.{member_at, member_there, set_other}
-use Rattle.groups.proofs.Played.{IsOne, all_empty, root_low, root_reached}
+use Rattle.groups.proofs.Played.{all_empty, root_low, root_reached}
 
 pub there_within : {X : Type 0} (xs : List X) (i : ℕ) → i < length xs → (x : X) × (slice_get xs i ≡ Some x)
 there_within [] i h = absurd (omega (arith, h))

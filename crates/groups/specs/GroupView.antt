@@ -1,5 +1,5 @@
 -- A group of components as its callers see it, and the lease of the theory that it is.
-use Rattle.std.specs.Prelude.{◌≡◌, ℕ, ◌==◌, ◌||◌, min, cond, Option, nat_lt, Bool, true, false, List, [], ◌∷◌, map, filter, length, slice_index_or}
+use Rattle.std.specs.Prelude.{◌≡◌, ℕ, ◌==◌, ◌||◌, min, cond, Option, nat_lt, Bool, false, List, [], ◌∷◌, map, filter, length, slice_index_or}
 use Rattle.std.specs.List.{range_with_len}
 use Rattle.terms.specs.Datum.{Datum}
 use Rattle.terms.specs.Named.{Named}
@@ -17,7 +17,7 @@ use Rattle.task_seed.specs.declared.setup.Setup.{Setup}
 use Rattle.task_seed.specs.declared.turns.Turn.{Turn}
 use Rattle.task_seed.specs.Setups.{plan_of}
 use Rattle.rollback.specs.Flight.{in_flight}
-use Rattle.rollback.specs.ComponentView.{ComponentView, lowest_bound, machine_of, next_key, start_held, start_record}
+use Rattle.rollback.specs.ComponentView.{ComponentView, machine_of, next_key, start_held, start_record}
 use Rattle.rollback.specs.Stepped.{next_entry}
 
 -- a group: its number, the setup and the bound of the base of its components, these in order of their numbers, the floor of its last

@@ -2,7 +2,7 @@ use Rattle.std.proofs.Common.{◌≡◌, ◌+◌, ◌<◌, Some, suc, length, re
 use Rattle.std.specs.Prelude.{slice_get, slice_set}
 use Rattle.std.proofs.lemmas.List.{length-set}
 use Rattle.groups.specs.Crew.{AreSeatedBut}
-use Rattle.groups.specs.Dropping.{cut_all, cut_to}
+use Rattle.groups.specs.Dropping.{cut_to}
 use Rattle.groups.proofs.Dropped.{AreGivenTo, all_given, cut_end, cut_first, cut_more, cut_there, one_given}
 use Rattle.groups.proofs.Seated.{others_seated, there_within}
 use Rattle.groups.proofs.dropping.drop_all.Goals as goal

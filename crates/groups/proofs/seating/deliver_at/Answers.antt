@@ -1,4 +1,3 @@
-use Rattle.task_seed.specs.Setups.{system}
 use Rattle.groups.proofs.Indexed.{come_at, count_at, quiet_at}
 use Rattle.groups.proofs.seating.deliver_at.Goals as goal
 

@@ -1,5 +1,3 @@
-use Rattle.std.proofs.Common.{◌≡◌, Some, ap, subst, ◌∙◌}
-use Rattle.std.specs.Prelude.{OnOk, Result, Ok, Err, slice_get}
 use Rattle.groups.proofs.Indexed.{stepped_at}
 use Rattle.groups.proofs.seating.process_at.Goals as goal
 

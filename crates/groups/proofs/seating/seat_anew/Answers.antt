@@ -1,7 +1,6 @@
-use Rattle.std.proofs.Common.{◌≡◌, ◌+◌, sym, subst, length, ◌∙◌}
+use Rattle.std.proofs.Common.{◌≡◌, sym, subst, ◌∙◌}
 use Rattle.std.proofs.lemmas.Option.{get_or_from_slice_get}
 use Rattle.groups.specs.Crew.{IsSeatOf}
-use Rattle.groups.specs.Tournament.{node}
 use Rattle.groups.proofs.Seated.{one_seated}
 use Rattle.groups.proofs.seating.seat_anew.Goals as goal
 

@@ -1,4 +1,4 @@
-use Rattle.std.proofs.Common.{ℕ, ◌≡◌, ◌≤◌, subst, ap, ◌∙◌}
+use Rattle.std.proofs.Common.{ℕ, ◌≤◌, subst, ap}
 use Rattle.event_keys.specs.Ranks.{rank_of_bound}
 use Rattle.virtual_time.specs.Groups.Leases.{IsFloor}
 use Rattle.virtual_time.specs.Machine.{Lawful}

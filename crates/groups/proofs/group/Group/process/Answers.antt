@@ -1,4 +1,4 @@
-use Rattle.std.proofs.Common.{◌≡◌, subst}
+use Rattle.std.proofs.Common.{subst}
 use Rattle.virtual_time.specs.Machine.{Lawful}
 use Rattle.rollback.specs.ComponentView.{machine_of}
 use Rattle.groups.specs.GroupView.{GroupView}

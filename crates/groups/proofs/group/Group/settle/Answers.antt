@@ -1,4 +1,4 @@
-use Rattle.std.proofs.Common.{◌≡◌, subst}
+use Rattle.std.proofs.Common.{subst}
 use Rattle.groups.specs.GroupView.{GroupView}
 use Rattle.groups.specs.Moves.{IsSettled}
 use Rattle.groups.proofs.Moved.{settled, with}
