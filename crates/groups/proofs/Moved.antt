@@ -120,6 +120,7 @@ module _ {T : Type 0} (turn_of : T → ℕ → ℕ → Option Turn) where
             (record {
               steps = later.steps;
               deliveries = later.deliveries;
+              unmet = later.unmet;
               does = does_both (at old) group old.number (Process p.c.number ∷ []) later.steps (open_world (at old) (members_in old) old.tray old.out) (open_world (at old) mid sent old.out) (open_world (at old) v [] out)
                   (its_step turn_of (members_in old) mid law sound.place sound.apart sound.own old.tray sent old.out p group old.number mine) later.does;
             }))

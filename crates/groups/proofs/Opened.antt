@@ -17,6 +17,7 @@ use Rattle.virtual_time.specs.Records.{after_entry, antimessage_comes, back_by_a
 use Rattle.virtual_time.specs.Reference.{reference_below}
 use Rattle.virtual_time.specs.Worlds.{Commit, DeliverAntimessage, DeliverMessage, Meet, Process, RollBack, Step, World, deliver_antimessage, deliver_message, process, process_entry, put_back, record_of, same, taken_at}
 use Rattle.virtual_time.specs.Groups.Leases.{Does}
+use Rattle.virtual_time.specs.Groups.Singles.{MeetsNothing}
 use Rattle.virtual_time.specs.Groups.WindowCalls.{AreDeliveries}
 use Rattle.task_seed.specs.Turning.{System}
 use Rattle.task_seed.specs.Machines.{machine}
@@ -249,3 +250,13 @@ module _ {S A : Type 0} (m : Machine S A) where
   deliveries_both (Process i ∷ ss) ts h k = absurd h
   deliveries_both (RollBack i ∷ ss) ts h k = absurd h
   deliveries_both (Commit b ∷ ss) ts h k = absurd h
+
+  -- and no meeting is among them
+  pub unmet_both : (ss ts : List (Step A)) → MeetsNothing ss → MeetsNothing ts → MeetsNothing (ss ++ ts)
+  unmet_both [] ts h k = k
+  unmet_both (DeliverMessage i x ∷ ss) ts h k = unmet_both ss ts h k
+  unmet_both (DeliverAntimessage i x ∷ ss) ts h k = unmet_both ss ts h k
+  unmet_both (Meet i x ∷ ss) ts h k = absurd h
+  unmet_both (Process i ∷ ss) ts h k = unmet_both ss ts h k
+  unmet_both (RollBack i ∷ ss) ts h k = unmet_both ss ts h k
+  unmet_both (Commit b ∷ ss) ts h k = unmet_both ss ts h k

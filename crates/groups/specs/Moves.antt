@@ -7,6 +7,7 @@ use Rattle.virtual_time.specs.Entries.{Entry, entry_key}
 use Rattle.virtual_time.specs.Records.{next_of}
 use Rattle.virtual_time.specs.Worlds.{Process, Step, World}
 use Rattle.virtual_time.specs.Groups.Leases.{Does, alone}
+use Rattle.virtual_time.specs.Groups.Singles.{MeetsNothing}
 use Rattle.virtual_time.specs.Groups.WindowCalls.{AreDeliveries}
 use Rattle.task_seed.specs.declared.setup.Setup.{Setup}
 use Rattle.task_seed.specs.declared.turns.Turn.{Turn}
@@ -25,12 +26,14 @@ module _ {S A : Type 0} (m : Machine S A) (group : ℕ → ℕ) (g : ℕ) where
   pub record Delivers (u v : World S A) : Type 0 where
     pub steps : List (Step A)
     pub deliveries : AreDeliveries steps
+    pub unmet : MeetsNothing steps
     pub does : Does m group g u steps v
 
   -- component i of them processes an entry, and then some deliveries to them lead on
   pub record Processes (i : ℕ) (u v : World S A) : Type 0 where
     pub steps : List (Step A)
     pub deliveries : AreDeliveries steps
+    pub unmet : MeetsNothing steps
     pub does : Does m group g u (Process i ∷ steps) v
 
 -- of a group whose turns are read by turn_of
