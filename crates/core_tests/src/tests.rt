@@ -3,6 +3,7 @@
 mod bags;
 mod bounds;
 mod keys;
+mod layouts;
 mod nodes;
 mod seats;
 mod shared_actions;

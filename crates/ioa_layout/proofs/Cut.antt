@@ -10,24 +10,24 @@ use Rattle.ioa_tokens.specs.Tokens.{Tok}
 use Rattle.ioa_tokens.specs.Cutting.{Piece, Blank, Comment, Mark, Part, IsPiece, IsCut, ends, text_of}
 use Rattle.ioa_layout.specs.declared.gap.Gap.{Gap}
 use Rattle.ioa_layout.specs.declared.gap.Gap.TheVariants as gap
-use Rattle.ioa_layout.specs.Ink.{see, seen, Shows, tidy, trimmed}
+use Rattle.ioa_layout.specs.Ink.{see, seen, tidy, trimmed}
 use Rattle.ioa_layout.specs.Gaps.{blanks, gap_text, AreGaps, AreAllGaps, following, laid, room_after}
 use Rattle.ioa_layout.proofs.Tokens.{token_is_some, free_ends}
 
-abbrev blank : ℕ → Part
+abbrev pub blank : ℕ → Part
 blank b = record { piece = Blank; text = b ∷ [] }
 
-abbrev blank_parts : Text → List Part
+abbrev pub blank_parts : Text → List Part
 blank_parts [] = []
 blank_parts (b ∷ bs) = blank b ∷ blank_parts bs
 
 -- the parts of a layout behind the first
-abbrev parts_after : List Part → List Gap → List Part
+abbrev pub parts_after : List Part → List Gap → List Part
 parts_after [] gs = blank 10 ∷ []
 parts_after (q ∷ qs) [] = blank 10 ∷ []
 parts_after (q ∷ qs) (g ∷ gs) = blank_parts (gap_text g) ++ q ∷ parts_after qs gs
 
-abbrev parts_laid : List Part → List Gap → List Part
+abbrev pub parts_laid : List Part → List Gap → List Part
 parts_laid [] gs = blank 10 ∷ []
 parts_laid (p ∷ ps) gs = p ∷ parts_after ps gs
 
@@ -42,7 +42,7 @@ text_after [] gs = refl
 text_after (q ∷ qs) [] = refl
 text_after (q ∷ qs) (g ∷ gs) = text_blank (gap_text g) (q ∷ parts_after qs gs) ∙ ap (λ t. gap_text g ++ (q.text ++ t)) (text_after qs gs)
 
-text_laid : (ps : List Part) (gs : List Gap) → text_of (parts_laid ps gs) ≡ laid ps gs
+pub text_laid : (ps : List Part) (gs : List Gap) → text_of (parts_laid ps gs) ≡ laid ps gs
 text_laid [] gs = refl
 text_laid (p ∷ ps) gs = ap (λ t. p.text ++ t) (text_after ps gs)
 
@@ -147,17 +147,13 @@ cut_after room p (q ∷ qs) (g ∷ gs) h k =
       ending = gap_ends p q g (parts_after qs gs) h.0.is k.0.apart;
     }
 
-cut_laid : (ps : List Part) (gs : List Gap) → AreInk ps → AreAllGaps ps gs → IsCut (parts_laid ps gs) []
+pub cut_laid : (ps : List Part) (gs : List Gap) → AreInk ps → AreAllGaps ps gs → IsCut (parts_laid ps gs) []
 cut_laid [] gs h k = ((10, refl, refl), blank_ends [], tt)
 cut_laid (p ∷ ps) gs h k = let later = cut_after (100 - length p.text) p ps gs h.1 k in (h.0.is, later.ending, later.cut)
 
-seen_laid : (ps : List Part) (gs : List Gap) → AreInk ps → AreAllGaps ps gs → seen (parts_laid ps gs) ≡ ps
+pub seen_laid : (ps : List Part) (gs : List Gap) → AreInk ps → AreAllGaps ps gs → seen (parts_laid ps gs) ≡ ps
 seen_laid [] gs h k = refl
 seen_laid (p ∷ ps) gs h k = see_ink p.piece p (seen (parts_after ps gs)) h.0.visible ∙ ap (λ t. p ∷ t) (seen_after (100 - length p.text) p ps gs h.1 k)
-
--- what was laid out is shown, and nothing else
-pub laid_shows : (ps : List Part) (gs : List Gap) → AreInk ps → AreAllGaps ps gs → Shows (laid ps gs) ps
-laid_shows ps gs h k = record { parts = parts_laid ps gs; whole = text_laid ps gs; cut = cut_laid ps gs h k; shown = seen_laid ps gs h k }
 
 -- ---- a trimmed comment is one
 

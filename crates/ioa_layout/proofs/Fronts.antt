@@ -1,6 +1,6 @@
 -- The first part of some bytes, found from their front.
 use Rattle.std.proofs.Common.{◌≡◌, ◌<◌, ◌≤◌, ◌+◌, ◌-◌, ℕ, List, [], ◌∷◌, ◌++◌, length, length-append, map, min, take, Bool, true, false, refl, sym, ◌∙◌, ap, subst, arith, append-nil}
-use Rattle.std.specs.Prelude.{◌==◌, not, slice_index}
+use Rattle.std.specs.Prelude.{◌||◌, ◌==◌, not, slice_index}
 use Rattle.std.specs.List.{list_all, prefix_len}
 use Rattle.std.proofs.lemmas.Bool.{and_parts, not-true, both_ways}
 use Rattle.std.proofs.lemmas.List.{take_at}
@@ -8,8 +8,10 @@ use Rattle.ioa_tokens.specs.Bytes.{Text, is_blank, is_in_line, stops}
 use Rattle.ioa_tokens.specs.Tokens.{Tok, Placed}
 use Rattle.ioa_tokens.specs.Cutting.{Piece, Blank, Comment, Mark, Part, IsPiece, IsCut, ends, text_of, keep, placed_from}
 use Rattle.ioa_tokens.proofs.Fronts.{prefix_exact}
-use Rattle.ioa_layout.specs.Ink.{see, tidy, tidy_comment, is_in_token}
-use Rattle.ioa_layout.specs.Fronts.{IsFront, IsRest, most_len, token_len}
+use Rattle.ioa_layout.specs.declared.item.Item.{Item}
+use Rattle.ioa_layout.specs.Ink.{piece_of, see, tidy, tidy_comment, is_in_token}
+use Rattle.ioa_layout.specs.Fronts.{EndsLines, IsFront, IsRest, most_len, token_len}
+use Rattle.ioa_layout.specs.Lines.{flags_of, is_below, is_feed, note_alone}
 use Rattle.ioa_layout.proofs.Tokens.{token_is_in, token_is_some}
 
 first_in : (text rest : Text) → 0 < length text → list_all is_in_token text ≡ true → is_in_token (slice_index (text ++ rest) 0) ≡ true
@@ -183,3 +185,45 @@ none_at (Mark t) text bytes at ps h n is e k = cc
 -- there is no token where none is left
 pub no_token : (bytes : Text) (at : ℕ) (p : Part) (ps : List Part) → is_blank (slice_index bytes 0) ≡ false → (slice_index bytes 0 ≡ 37 → ⊥) → IsRest bytes at [] (p ∷ ps) → ⊥
 no_token bytes at p ps h n rest = none_at p.piece p.text bytes at ps h n rest.cut.0 rest.whole rest.kept
+
+-- ---- lines
+
+feed_first : (b : ℕ) (text rest bytes : Text) → text ≡ b ∷ [] → text ++ rest ≡ bytes → is_feed text ≡ (slice_index bytes 0 == 10)
+feed_first b text rest bytes h e = ap is_feed h ∙ ap (λ x. slice_index x 0 == 10) (ap (λ x. x ++ rest) (sym h) ∙ e)
+
+blank_lines : (q : Piece) (text bytes : Text) (ps : List Part) (ended after : Bool) → is_blank (slice_index bytes 0) ≡ true → IsPiece q text → text ++ text_of ps ≡ bytes
+    → after ≡ (ended || slice_index bytes 0 == 10) → EndsLines (record { piece = q; text = text }) ended [] after
+blank_lines Blank text bytes ps ended after h is e k = record { flags_are = refl; after_is = k ∙ ap (λ x. ended || x) (sym (feed_first is.0 text (text_of ps) bytes is.1 e)) }
+blank_lines Comment text bytes ps ended after h is e k = absurd (not_blank_there (slice_index bytes 0) (comment_first text (text_of ps) bytes is e) h)
+blank_lines (Mark t) text bytes ps ended after h is e k = absurd (both_ways (is_blank (slice_index bytes 0)) (no_blank_in (slice_index bytes 0) (token_first t text (text_of ps) bytes is e)) h)
+
+pub blank_ends : (bytes : Text) (at : ℕ) (left : List Placed) (p : Part) (ps : List Part) (ended after : Bool) → is_blank (slice_index bytes 0) ≡ true → IsRest bytes at left (p ∷ ps)
+    → after ≡ (ended || slice_index bytes 0 == 10) → EndsLines p ended [] after
+blank_ends bytes at left p ps ended after h rest k = blank_lines p.piece p.text bytes ps ended after h rest.cut.0 rest.whole k
+
+comment_lines : (q : Piece) (text bytes : Text) (ps : List Part) (ended : Bool) → slice_index bytes 0 ≡ 37 → IsPiece q text → text ++ text_of ps ≡ bytes
+    → EndsLines (record { piece = q; text = text }) ended (ended ∷ []) true
+comment_lines Blank text bytes ps ended h is e = absurd (not_blank_there (slice_index bytes 0) h (blank_first text (text_of ps) bytes is e))
+comment_lines Comment text bytes ps ended h is e = record { flags_are = refl; after_is = refl }
+comment_lines (Mark t) text bytes ps ended h is e =
+    absurd (both_ways (slice_index bytes 0 == 37) (no_comment_in (slice_index bytes 0) (token_first t text (text_of ps) bytes is e)) (ap (λ b. b == 37) h))
+
+pub comment_ends : (bytes : Text) (at : ℕ) (left : List Placed) (p : Part) (ps : List Part) (ended : Bool) → slice_index bytes 0 ≡ 37 → IsRest bytes at left (p ∷ ps)
+    → EndsLines p ended (ended ∷ []) true
+comment_ends bytes at left p ps ended h rest = comment_lines p.piece p.text bytes ps ended h rest.cut.0 rest.whole
+
+token_lines : (q : Piece) (text bytes : Text) (ps : List Part) (ended : Bool) → is_blank (slice_index bytes 0) ≡ false → (slice_index bytes 0 ≡ 37 → ⊥) → IsPiece q text → text ++ text_of ps ≡ bytes
+    → EndsLines (record { piece = q; text = text }) ended [] false
+token_lines Blank text bytes ps ended h n is e = absurd (both_ways (is_blank (slice_index bytes 0)) h (blank_first text (text_of ps) bytes is e))
+token_lines Comment text bytes ps ended h n is e = absurd (n (comment_first text (text_of ps) bytes is e))
+token_lines (Mark t) text bytes ps ended h n is e = record { flags_are = refl; after_is = refl }
+
+pub token_ends : (bytes : Text) (at : ℕ) (left : List Placed) (p : Part) (ps : List Part) (ended : Bool) → is_blank (slice_index bytes 0) ≡ false → (slice_index bytes 0 ≡ 37 → ⊥)
+    → IsRest bytes at left (p ∷ ps) → EndsLines p ended [] false
+token_ends bytes at left p ps ended h n rest = token_lines p.piece p.text bytes ps ended h n rest.cut.0 rest.whole
+
+-- the flag of the item of a comment
+pub comment_flags : (item : Item) (ended : Bool) (p : Part) → is_below item.below ≡ ended → piece_of item.ink ≡ Comment → EndsLines p ended (ended ∷ []) true → EndsLines p ended (flags_of (item ∷ [])) true
+comment_flags item ended p h q e =
+    let flags : note_alone (piece_of item.ink) (is_below item.below) [] ≡ ended ∷ [] = ap (λ x. note_alone x (is_below item.below) []) q ∙ ap (λ b. b ∷ []) h in
+    record { flags_are = flags ∙ e.flags_are; after_is = e.after_is }

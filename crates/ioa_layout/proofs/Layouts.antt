@@ -1,32 +1,38 @@
 -- What is laid out is a layout, and is read alike.
-use Rattle.std.proofs.Common.{◌≡◌, ◌+◌, ℕ, List, [], ◌∷◌, length, map, refl, sym, ◌∙◌, ap, subst}
+use Rattle.std.proofs.Common.{◌≡◌, ◌+◌, ℕ, List, [], ◌∷◌, length, map, true, refl, sym, ◌∙◌, ap, subst}
 use Rattle.std.specs.Str.{IsAscii}
 use Rattle.ioa_tokens.specs.Bytes.{Text}
 use Rattle.ioa_tokens.specs.Tokens.{Tok, Placed}
 use Rattle.ioa_tokens.specs.Cutting.{Piece, Blank, Comment, Mark, Part, IsTokens, keep, placed_from}
 use Rattle.ioa_tokens.proofs.Cuts.{tokens_once}
 use Rattle.ioa_layout.specs.declared.gap.Gap.{Gap}
-use Rattle.ioa_layout.specs.Ink.{see, seen, Shows, tidy}
+use Rattle.ioa_layout.specs.Ink.{parts_of, see, seen, Shows, tidy}
+use Rattle.ioa_layout.specs.declared.item.Item.{Item}
 use Rattle.ioa_layout.specs.Gaps.{AreAllGaps, laid}
+use Rattle.ioa_layout.specs.Lines.{alone, flags_of, StandAll}
 use Rattle.ioa_layout.specs.Fronts.{AreOf}
 use Rattle.ioa_layout.specs.Laid.{IsLayout, ReadsAlike}
 use Rattle.ioa_layout.proofs.Ascii.{layout_ascii}
-use Rattle.ioa_layout.proofs.Cut.{laid_shows, seen_tidy, AreInk}
+use Rattle.ioa_layout.proofs.Alone.{alone_laid, below_in}
+use Rattle.ioa_layout.proofs.Cut.{AreInk, cut_laid, parts_laid, seen_laid, seen_tidy, text_laid}
 
-pub layout_is : (source text : Text) (shown : List Part) (gaps : List Gap) → AreOf source shown → AreAllGaps shown gaps → text ≡ laid shown gaps → IsLayout source text
-layout_is source text shown gaps h k e =
-    let ink = map tidy h.0 in
-    let same : shown ≡ ink = h.1.1 in
+pub layout_is : (source text : Text) (items : List Item) (gaps : List Gap) → AreOf source (parts_of items) (flags_of items) → AreAllGaps (parts_of items) gaps → StandAll items gaps
+    → text ≡ laid (parts_of items) gaps → IsLayout source text
+layout_is source text items gaps h k s e =
+    let ink = map tidy h.ink in
+    let same : parts_of items ≡ ink = h.shown_are in
     let set : AreAllGaps ink gaps = subst (λ ps. AreAllGaps ps gaps) same k in
     let whole : text ≡ laid ink gaps = e ∙ ap (λ ps. laid ps gaps) same in
-    let visible : AreInk ink = subst (λ ps. AreInk (map tidy ps)) h.1.0.shown (seen_tidy h.1.0.parts [] h.1.0.cut) in
+    let visible : AreInk ink = subst (λ ps. AreInk (map tidy ps)) h.shows.shown (seen_tidy h.shows.parts [] h.shows.cut) in
+    let below = below_in h.shows.parts true true items (λ x. x) (same ∙ ap (λ ps. map tidy ps) (sym h.shows.shown)) h.flags_are in
     record {
-      ink = h.0;
+      ink = h.ink;
       gaps = gaps;
-      source_shows = h.1.0;
-      text_shows = subst (λ t. Shows t ink) (sym whole) (laid_shows ink gaps visible set);
+      source_shows = h.shows;
+      text_shows = record { parts = parts_laid ink gaps; whole = text_laid ink gaps ∙ sym whole; cut = cut_laid ink gaps visible set; shown = seen_laid ink gaps visible set };
       set = set;
       whole = whole;
+      stay = ap (λ ps. alone true (parts_laid ps gaps)) (sym same) ∙ alone_laid items gaps k s below ∙ h.flags_are;
     }
 
 -- the tokens of parts

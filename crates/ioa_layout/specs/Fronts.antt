@@ -1,11 +1,12 @@
 -- How the tokens and comments of a source are found, from the front.
-use Rattle.std.specs.Prelude.{◌≡◌, ◌+◌, ◌-◌, ℕ, min, List, [], ◌∷◌, length, map, Option, None, Some}
+use Rattle.std.specs.Prelude.{◌≡◌, ◌+◌, ◌-◌, ℕ, min, Bool, true, List, [], ◌∷◌, length, map, Option, None, Some}
 use Rattle.std.specs.List.{prefix_len}
 use Rattle.ioa_tokens.specs.Bytes.{Text}
 use Rattle.ioa_tokens.specs.Tokens.{Placed}
 use Rattle.ioa_tokens.specs.Cutting.{Part, IsCut, text_of, placed_from}
 use Rattle.ioa_layout.specs.declared.item.Item.{Item}
 use Rattle.ioa_layout.specs.Ink.{Shows, see, tidy, part_of, is_in_token}
+use Rattle.ioa_layout.specs.Lines.{alone, ended_after, note_alone}
 
 -- how far the next token is, or the end
 abbrev pub most_len : List Placed → ℕ → ℕ → ℕ
@@ -32,6 +33,14 @@ pub record IsFront (at : ℕ) (p : Part) (ps : List Part) (shown : List Part) (l
   pub len_is : len ≡ length p.text
   pub left_is : left ≡ placed_from (at + length p.text) ps
 
--- These are the tokens and the comments of the source.
-abbrev pub AreOf : Text → List Part → Type 0
-AreOf source shown = (ink : List Part) × (Shows source ink × (shown ≡ map tidy ink))
+-- What the first part does to lines: the flag of a comment, and whether a line has ended behind the part.
+pub record EndsLines (p : Part) (ended : Bool) (flags : List Bool) (after : Bool) : Type 0 where
+  pub flags_are : flags ≡ note_alone p.piece ended []
+  pub after_is : after ≡ ended_after p.piece p.text ended
+
+-- These are the tokens and the comments of the source, and of each comment whether it stands in a line of its own.
+pub record AreOf (source : Text) (shown : List Part) (flags : List Bool) : Type 0 where
+  pub ink : List Part
+  pub shows : Shows source ink
+  pub shown_are : shown ≡ map tidy ink
+  pub flags_are : flags ≡ alone true shows.parts

@@ -1,5 +1,5 @@
 -- What stands between two neighbours in a layout.
-use Rattle.std.specs.Prelude.{◌≡◌, ◌≤◌, ◌-◌, ◌⊎◌, ◌==◌, ◌&&◌, not, ℕ, zero, suc, Bool, true, false, List, [], ◌∷◌, ◌++◌, length, if◌then◌else◌}
+use Rattle.std.specs.Prelude.{◌≡◌, ◌≤◌, ◌-◌, ◌*◌, ◌⊎◌, ◌==◌, ◌&&◌, not, ℕ, zero, suc, Bool, true, false, List, [], ◌∷◌, ◌++◌, length, if◌then◌else◌}
 use Rattle.ioa_tokens.specs.Bytes.{Text, is_word_byte}
 use Rattle.ioa_tokens.specs.declared.word.Word.{Word}
 use Rattle.ioa_tokens.specs.declared.word.Word.TheVariants as w
@@ -45,6 +45,27 @@ token_begins (Key word) = begins_line word
 token_begins (Name s) = false
 token_begins (Num n) = false
 
+-- how deep a section, a declaration or a clause stands
+abbrev pub level : Word → ℕ
+level w.Type = 0
+level w.Automaton = 0
+level w.Input = 2
+level w.Output = 2
+level w.Internal = 2
+level w.Pre = 3
+level w.Eff = 3
+level w = 1
+
+abbrev pub token_level : Tok → ℕ
+token_level (Key word) = level word
+token_level (Name s) = 0
+token_level (Num n) = 0
+
+abbrev pub level_of : Piece → ℕ
+level_of (Mark t) = token_level t
+level_of Comment = 0
+level_of Blank = 0
+
 abbrev pub begins : Piece → Bool
 begins (Mark t) = token_begins t
 begins Comment = false
@@ -68,10 +89,11 @@ is_comment (Mark t) = false
 is_comment Blank = false
 
 -- The gap may stand between the two, where so many columns are left before it: the first ends there; a section, a
--- declaration and a clause begin a line; and what isn't the first of its line, nor a comment, ends within 100 columns.
+-- declaration and a clause begin a line, with two blanks for each level; and what isn't the first of its line, nor a
+-- comment, ends within 100 columns.
 pub record IsGap (room : ℕ) (p : Part) (g : Gap) (q : Part) : Type 0 where
   pub apart : ends p.piece (gap_text g ++ q.text) ≡ true
-  pub begun : begins q.piece ≡ true → is_line g ≡ true
+  pub begun : begins q.piece ≡ true → (is_line g ≡ true) × (indent_of g ≡ 2 * level_of q.piece)
   pub within : is_comment q.piece ≡ true ⊎ (is_line g ≡ true ⊎ length q.text ≤ room_after g room)
   pub low : indent_of g ≤ 60
 

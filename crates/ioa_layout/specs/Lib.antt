@@ -2,3 +2,4 @@ pub mod Fronts
 pub mod Gaps
 pub mod Ink
 pub mod Laid
+pub mod Lines

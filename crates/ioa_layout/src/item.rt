@@ -13,6 +13,8 @@ pub(crate) enum Ink<'a> {
 #[derive(Clone, Copy, PartialEq, Eq)]
 pub(crate) enum Below {
     SameLine,
+    /// Where a comment or the begin of the text ends its line.
+    LineEnds,
     NextLine,
     /// There are blank lines between.
     Further,

@@ -1,6 +1,7 @@
 //! How two neighbours hold together.
 ghost use Rattle.std.specs.Prelude.{◌≡◌};
 ghost use Rattle.ioa_tokens.specs.Layout.{begins_line};
+ghost use Rattle.ioa_layout.specs.Gaps.{level};
 
 use crate::item::{Ink, Item, word_at};
 use ioa_tokens::{Kind, Word};
@@ -16,7 +17,9 @@ pub(crate) enum Joint {
     Comment,
     /// A statement begins, or one item of a list of them.
     Statement,
-    /// The next part of a list or of a condition begins.
+    /// `or` follows.
+    Alternative,
+    /// The next part of a list or of a conjunction begins.
     Part,
     Space,
     /// A blank at which no line is broken, unless nothing else helps.
@@ -34,6 +37,18 @@ pub(crate) fn begins_line(word: Word) -> bool
         Word::Internal | Word::States | Word::Transitions | Word::Pre | Word::Eff => true,
         Word::Tasks | Word::Components | Word::Hidden => true,
         _ => false,
+    }
+}
+
+/// How deep a section, a declaration or a clause stands.
+pub(crate) fn level(word: Word) -> usize
+    ensures { result ≡ level word }
+{
+    match word {
+        Word::Type | Word::Automaton => 0,
+        Word::Input | Word::Output | Word::Internal => 2,
+        Word::Pre | Word::Eff => 3,
+        _ => 1,
     }
 }
 
@@ -146,7 +161,8 @@ pub(crate) fn joint_at(items: &[Item<'_>], at: usize) -> Joint {
         (Some(Word::States | Word::Components), _) => Joint::Statement,
         (Some(Word::CloseBrace), Some(Word::OpenBrace)) => Joint::Statement,
         (Some(Word::Comma), _) => Joint::Part,
-        (_, Some(Word::And | Word::Or)) => Joint::Part,
+        (_, Some(Word::Or)) => Joint::Alternative,
+        (_, Some(Word::And)) => Joint::Part,
         (_, Some(Word::Then | Word::Do | Word::Assign | Word::OpenBrace)) => Joint::Bound,
         (Some(word), _) if holds_next(word) => Joint::Bound,
         _ => Joint::Space,

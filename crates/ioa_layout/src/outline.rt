@@ -1,11 +1,12 @@
 //! Where lines begin, and how far they are indented.
 ghost use Rattle.std.specs.Prelude.{◌≡◌, ◌-◌, IfOk, length};
-ghost use Rattle.ioa_layout.specs.Ink.{part_of, parts_of};
+ghost use Rattle.ioa_layout.specs.Ink.{part_of, parts_of, piece_of};
+ghost use Rattle.ioa_layout.specs.Lines.{Stand, StandAll};
 ghost use Rattle.ioa_layout.specs.Gaps.{AreAllGaps, AreGaps};
 
 use crate::gap::{Gap, Line, MOST_COLUMNS, MOST_INDENT};
 use crate::item::{Below, Item, word_at};
-use crate::joint::{Joint, begins_line, ends_branch, joint_at};
+use crate::joint::{Joint, begins_line, ends_branch, joint_at, level};
 use crate::reach::{Reach, reach_from};
 use crate::settling::settled;
 use ioa_tokens::Word;
@@ -15,26 +16,15 @@ use terms::NoMemory;
 // The blanks of a level.
 const LEVEL: usize = 2;
 
-// What a section lists.
-#[derive(Clone, Copy, PartialEq, Eq)]
-enum Listed {
-    Nothing,
-    Statements,
-    // With a comma between two of them.
-    Variables,
-    Components,
-}
-
 // A section, a declaration or a clause of a transition.
 #[derive(Clone, Copy)]
 struct Section {
-    // The indent of its word.
-    word: usize,
     // The indent of what follows its word.
     body: usize,
     // How much further what continues a line of it is indented.
     further: usize,
-    lists: Listed,
+    // A comma stands between two of its items.
+    commas: bool,
 }
 
 // An `if` or a `for` that is open.
@@ -62,24 +52,23 @@ struct Outline {
     last: Option<Word>,
     // What stands directly before is no comment.
     follows_token: bool,
+    // A block of several lines has ended, and nothing but `;` has come since.
+    ended: bool,
 }
 
 fn section_of(word: Word) -> Section {
-    let (indent, body, further, lists) = match word {
-        Word::Type => (0, 2, 0, Listed::Nothing),
-        Word::Automaton => (0, 4, 0, Listed::Nothing),
-        Word::Input | Word::Output | Word::Internal => (4, 8, 0, Listed::Nothing),
-        Word::Pre => (6, 10, 0, Listed::Nothing),
-        Word::Eff => (6, 10, 4, Listed::Statements),
-        Word::States => (2, 4, 4, Listed::Variables),
-        Word::Components => (2, 4, 4, Listed::Components),
-        _ => (2, 4, 0, Listed::Nothing),
+    let (body, further) = match word {
+        Word::Type => (2, 0),
+        Word::Input | Word::Output | Word::Internal => (8, 0),
+        Word::Pre => (10, 0),
+        Word::Eff => (10, 4),
+        Word::States | Word::Components => (4, 4),
+        _ => (4, 0),
     };
     Section {
-        word: indent,
         body,
         further,
-        lists,
+        commas: word == Word::States,
     }
 }
 
@@ -92,6 +81,7 @@ impl Outline {
             each: false,
             last: None,
             follows_token: false,
+            ended: false,
         }
     }
 
@@ -116,7 +106,7 @@ impl Outline {
             return false;
         }
         match self.last {
-            Some(Word::Comma) => self.section.lists == Listed::Variables,
+            Some(Word::Comma) => self.section.commas,
             Some(Word::Semicolon | Word::Then | Word::Else | Word::Do) => true,
             Some(Word::States | Word::Components | Word::Eff) => true,
             _ => false,
@@ -126,7 +116,7 @@ impl Outline {
     // The indent of a line that begins with such a word, or with another token.
     fn indent_of(&self, word: Option<Word>) -> usize {
         match word {
-            Some(word) if begins_line(word) => section_of(word).word,
+            Some(word) if begins_line(word) => level(word).saturating_mul(LEVEL),
             Some(word) if ends_branch(word) => self.level().saturating_sub(LEVEL),
             Some(Word::OpenBrace) => self.section.body,
             _ if self.begins_item() => self.level(),
@@ -169,13 +159,13 @@ impl Outline {
         };
         match (joint, self.last) {
             (Joint::Section | Joint::Comment, _) => true,
-            (Joint::Branch, _) => self.is_broken(),
+            (Joint::Branch, _) => kept || self.is_broken(),
             (Joint::Statement, Some(Word::Then | Word::Else | Word::Do)) => {
                 kept || self.begins_below()
             }
             (Joint::Statement, Some(Word::States | Word::Components)) => true,
-            (Joint::Statement, _) => kept || self.each_item() || !fits,
-            (Joint::Part, _) => kept || self.begins_item() || !fits,
+            (Joint::Statement, _) => kept || self.each_item() || self.ended || !fits,
+            (Joint::Alternative | Joint::Part, _) => kept || self.begins_item() || !fits,
             (Joint::Space, _) => !fits,
             (Joint::Bound | Joint::Touch, _) => false,
         }
@@ -234,6 +224,11 @@ impl Outline {
         if item.is_comment() {
             return Ok(());
         }
+        self.ended = match item.word() {
+            Some(Word::Fi | Word::Od) => self.is_broken(),
+            Some(Word::Semicolon) => self.ended,
+            _ => false,
+        };
         if let Some(word) = item.word() {
             self.pass_word(items, at, word, room)?;
         }
@@ -274,16 +269,15 @@ impl Outline {
         Ok(())
     }
 
-    // Opens a block that has so many columns.
+    // Opens a block, from which so many columns are left.
     fn open(&mut self, all: Reach, room: usize) -> Result<(), NoMemory> {
-        Ok(
-            self.blocks.push(Block {
-                broken: all.broken || all.width > room,
-                entered: false,
-                below: false,
-                each: false,
-            })?,
-        )
+        let block = Block {
+            broken: all.broken || all.width > room,
+            entered: false,
+            below: false,
+            each: false,
+        };
+        Ok(self.blocks.push(block)?)
     }
 
     // Begins a section.
@@ -330,7 +324,8 @@ fn next_token(items: &[Item<'_>], from: usize) -> usize {
 
 /// What stands before each item but the first.
 pub(crate) fn gaps(alloc: Global, items: &[Item<'_>]) -> Result<Vec<Gap>, NoMemory>
-    ensures { IfOk result (λ gaps. AreAllGaps (parts_of items.now) gaps.items) }
+    ensures gaps { IfOk result (λ gaps. AreAllGaps (parts_of items.now) gaps.items) }
+    ensures lines { IfOk result (λ gaps. StandAll items.now gaps.items) }
 {
     let Some((first, others)) = items.split_first() else {
         return Ok(Vec::new(alloc));
@@ -348,8 +343,9 @@ fn set_others(
     others: &[Item<'_>],
     mut outline: Outline,
 ) -> Result<Vec<Gap>, NoMemory>
-    ensures { IfOk result (λ gaps. AreGaps (100 - length first.now.text.now) (part_of first.now)
-        (parts_of others.now) gaps.items) }
+    ensures gaps { IfOk result (λ gaps. AreGaps (100 - length first.now.text.now)
+        (part_of first.now) (parts_of others.now) gaps.items) }
+    ensures lines { IfOk result (λ gaps. Stand (piece_of first.now.ink) others.now gaps.items) }
 {
     let mut gaps = Vec::new(alloc);
     let mut before = *first;

@@ -1,11 +1,12 @@
 //! From bytes and their tokens to items.
-ghost use Rattle.std.specs.Prelude.{◌≡◌, ◌≤◌, ◌<◌, ◌++◌, ◌∷◌, IfOk, OnOk, List, drop, length, take};
+ghost use Rattle.std.specs.Prelude.{◌≡◌, ◌≤◌, ◌<◌, ◌==◌, ◌||◌, ◌++◌, ◌∷◌, IfOk, OnOk, List, drop, length, take};
 ghost use Rattle.std.specs.List.{prefix_len};
 ghost use Rattle.ioa_tokens.specs.Bytes.{is_blank, is_in_line};
 ghost use Rattle.ioa_tokens.specs.Tokens.{placed};
 ghost use Rattle.ioa_tokens.specs.Cutting.{IsTokens, Part};
 ghost use Rattle.ioa_layout.specs.Ink.{is_in_token, part_of, parts_of, tidy_comment};
-ghost use Rattle.ioa_layout.specs.Fronts.{AreOf, IsFront, IsRest, most_len, shown_by, token_len};
+ghost use Rattle.ioa_layout.specs.Lines.{flags_by, flags_of, is_below};
+ghost use Rattle.ioa_layout.specs.Fronts.{AreOf, EndsLines, IsFront, IsRest, most_len, shown_by, token_len};
 
 use crate::item::{Below, Ink, Item};
 use ioa_tokens::Token;
@@ -38,17 +39,26 @@ fn word_len(bytes: &[u8]) -> usize
     bytes.iter().take_while(|byte| is_in_token(**byte)).count()
 }
 
-// Where something stands, if one more line ends before it.
-fn lower(below: Below) -> Below {
+// Where something stands behind a blank.
+fn below_after(blank: u8, below: Below) -> Below
+    ensures { is_below result ≡ (is_below below || blank == 10) }
+{
+    if blank != b'\n' {
+        return below;
+    }
     match below {
         Below::SameLine => Below::NextLine,
-        _ => Below::Further,
+        Below::LineEnds => Below::NextLine,
+        Below::NextLine => Below::Further,
+        Below::Further => Below::Further,
     }
 }
 
 // The comment at the front.
 fn comment<'a>(bytes: &'a [u8], below: Below) -> Item<'a>
-    ensures { part_of result ≡ tidy_comment (take (prefix_len is_in_line bytes.now) bytes.now) }
+    ensures part { part_of result
+        ≡ tidy_comment (take (prefix_len is_in_line bytes.now) bytes.now) }
+    ensures below { result.below ≡ below }
 {
     let (line, _) = bytes.split_at(line_len(bytes));
     Item {
@@ -76,28 +86,31 @@ fn token_len(bytes: &[u8], others: &[Token<'_>], at: usize) -> usize
     word_len(bytes).min(most_len(others, at, bytes.len()))
 }
 
-// What begins the bytes at a place, where the tokens are left: an item, or a blank; its length; and how many tokens it
-// is.
+// What begins the bytes at a place, where the tokens are left: an item, or a blank; its length; how many tokens it is;
+// and where what follows stands.
 fn found_at<'a>(
     bytes: &'a [u8],
     left: &[Token<'a>],
     at: usize,
     below: Below,
-) -> (Option<Item<'a>>, usize, usize)
+) -> (Option<Item<'a>>, usize, usize, Below)
     requires { 0 < length bytes.now }
     ensures found { (p : Part) (ps : List Part) → IsRest bytes.now at (placed left.now) (p ∷ ps)
         → IsFront at p ps (shown_by result.0) result.1 (placed (drop result.2 left.now)) }
+    ensures lines { (p : Part) (ps : List Part) → IsRest bytes.now at (placed left.now) (p ∷ ps)
+        → EndsLines p (is_below below) (flags_by result.0) (is_below result.3) }
     ensures within { result.2 ≤ length left.now }
 {
     let first = bytes[0];
     if is_blank(first) {
-        return (None, 1, 0);
+        return (None, 1, 0, below_after(first, below));
     }
     if first == b'%' {
-        return (Some(comment(bytes, below)), line_len(bytes), 0);
+        let line = comment(bytes, below);
+        return (Some(line), line_len(bytes), 0, Below::LineEnds);
     }
     let Some((token, others)) = left.split_first() else {
-        return (None, 1, 0);
+        return (None, 1, 0, below);
     };
     let len = token_len(bytes, others, at);
     let (text, _) = bytes.split_at(len);
@@ -106,22 +119,15 @@ fn found_at<'a>(
         text,
         below,
     };
-    (Some(item), len, 1)
-}
-
-// Where what follows stands, behind an item or behind a blank.
-fn below_after(item: Option<Item<'_>>, blank: u8, below: Below) -> Below {
-    match item {
-        Some(_) => Below::SameLine,
-        None if blank == b'\n' => lower(below),
-        None => below,
-    }
+    (Some(item), len, 1, Below::SameLine)
 }
 
 // Keeps the item, if there is one.
 fn keep<'a>(items: &mut Vec<Item<'a>>, item: Option<Item<'a>>) -> Result<(), NoMemory>
-    ensures { OnOk result (parts_of items.new.items
+    ensures shown { OnOk result (parts_of items.new.items
         ≡ parts_of items.old.items ++ shown_by item.entry) }
+    ensures lines { OnOk result (flags_of items.new.items
+        ≡ flags_of items.old.items ++ flags_by item.entry) }
 {
     if let Some(item) = item {
         items.push(item)?;
@@ -136,18 +142,18 @@ pub(crate) fn items<'a>(
     tokens: &[Token<'a>],
 ) -> Result<Vec<Item<'a>>, NoMemory>
     requires { IsTokens source.now (placed tokens.now) }
-    ensures { IfOk result (λ items. AreOf source.now (parts_of items.items)) }
+    ensures { IfOk result (λ items. AreOf source.now (parts_of items.items) (flags_of items.items)) }
 {
     let mut items = Vec::new(alloc);
-    let mut below = Below::SameLine;
+    let mut below = Below::LineEnds;
     let mut at = 0;
     let mut read = 0;
     while at < source.len() {
         let (_, rest) = source.split_at(at);
         let (_, left) = tokens.split_at(read);
-        let (item, len, count) = found_at(rest, left, at, below);
+        let (item, len, count, next) = found_at(rest, left, at, below);
         keep(&mut items, item)?;
-        below = below_after(item, rest[0], below);
+        below = next;
         read += count;
         at += len;
     }

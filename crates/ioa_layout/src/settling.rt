@@ -1,14 +1,15 @@
 //! Gaps that may stand between two neighbours.
-ghost use Rattle.std.specs.Prelude.{◌≡◌, ◌≤◌, ◌++◌, ◌⊎◌, true, length};
-ghost use Rattle.ioa_tokens.specs.Bytes.{is_word_byte};
+ghost use Rattle.std.specs.Prelude.{◌≡◌, ◌≤◌, ◌*◌, ◌++◌, ◌⊎◌, true, false, IfNone, IfSome, length};
+ghost use Rattle.ioa_tokens.specs.Bytes.{Text, is_word_byte};
 ghost use Rattle.ioa_tokens.specs.Tokens.{Tok};
 ghost use Rattle.ioa_tokens.specs.Cutting.{Mark, ends};
 ghost use Rattle.ioa_layout.specs.Ink.{part_of, piece_of};
-ghost use Rattle.ioa_layout.specs.Gaps.{IsGap, begins, ends_itself, gap_text, indent_of, is_comment, is_free, is_line, room_after};
+ghost use Rattle.ioa_layout.specs.Lines.{is_below};
+ghost use Rattle.ioa_layout.specs.Gaps.{IsGap, begins, ends_itself, gap_text, indent_of, is_comment, is_free, is_line, level_of, room_after};
 
 use crate::gap::{Gap, Line, MOST_INDENT};
-use crate::item::{Ink, Item};
-use crate::joint::begins_line;
+use crate::item::{Below, Ink, Item};
+use crate::joint::{begins_line, level};
 use ioa_tokens::{Kind, Word};
 
 // The byte goes on with a name, a reserved word or a number.
@@ -56,12 +57,15 @@ fn may_touch(before: Ink<'_>, next: &[u8]) -> bool
     }
 }
 
-fn begins(ink: Ink<'_>) -> bool
-    ensures { result ≡ begins (piece_of ink.entry) }
+// The indent of a line that begins with it, where it has to begin one.
+fn begun_at(ink: Ink<'_>) -> Option<usize>
+    ensures none { IfNone result (begins (piece_of ink.entry) ≡ false) }
+    ensures some { IfSome result (λ indent. indent ≡ 2 * level_of (piece_of ink.entry)) }
+    ensures low { IfSome result (λ indent. indent ≤ 60) }
 {
     match ink {
-        Ink::Token(Kind::Word(word)) => begins_line(word),
-        _ => false,
+        Ink::Token(Kind::Word(word)) if begins_line(word) => Some(2 * level(word)),
+        _ => None,
     }
 }
 
@@ -86,11 +90,31 @@ fn keeps_apart(gap: Gap, before: Ink<'_>, next: &[u8]) -> bool
     }
 }
 
-// What has to begin a line begins one.
+// What has to begin a line begins one, at its level.
 fn begins_well(gap: Gap, ink: Ink<'_>) -> bool
-    ensures { result ≡ true → begins (piece_of ink.entry) ≡ true → is_line gap ≡ true }
+    ensures { result ≡ true → begins (piece_of ink.entry) ≡ true
+        → (is_line gap ≡ true) × (indent_of gap ≡ 2 * level_of (piece_of ink.entry)) }
 {
-    gap.is_line() || !begins(ink)
+    let Some(indent) = begun_at(ink) else {
+        return true;
+    };
+    match gap {
+        Gap::Line(line) => line.indent == indent,
+        Gap::Nothing => false,
+        Gap::Space => false,
+        Gap::Margin => false,
+    }
+}
+
+// The indent of a line before the item: its own level's, or the one that is wanted.
+fn line_indent(ink: Ink<'_>, wanted: usize) -> usize
+    ensures begun { begins (piece_of ink.entry) ≡ true → result ≡ 2 * level_of (piece_of ink.entry) }
+    ensures low { result ≤ 60 }
+{
+    match begun_at(ink) {
+        Some(indent) => indent,
+        None => wanted.min(MOST_INDENT),
+    }
 }
 
 // The item ends within the columns, where so many are left before the gap, or it may pass them.
@@ -126,7 +150,50 @@ fn may_stand(gap: Gap, before: &Item<'_>, item: &Item<'_>, room: usize) -> bool
     apart && begun && within && low
 }
 
-/// The gap that is wanted before an item, if it may stand there: else a blank, or the end of a line and such an indent.
+fn is_below(below: Below) -> bool
+    ensures { result ≡ is_below below }
+{
+    match below {
+        Below::SameLine => false,
+        Below::LineEnds => true,
+        Below::NextLine => true,
+        Below::Further => true,
+    }
+}
+
+// The line that is wanted, or one with such an indent.
+fn line_of(wanted: Gap, indent: usize) -> Line
+    ensures { result.indent ≤ 60 }
+{
+    match wanted {
+        Gap::Line(line) => Line {
+            apart: line.apart,
+            indent: line.indent.min(MOST_INDENT),
+        },
+        _ => Line {
+            apart: false,
+            indent: indent.min(MOST_INDENT),
+        },
+    }
+}
+
+// The gap before a comment: a line where it stands in a line of its own, or behind another comment.
+fn comment_gap(wanted: Gap, indent: usize, before: Ink<'_>, below: Below) -> Gap
+    ensures apart { (rest : Text) → ends (piece_of before.entry) (gap_text result ++ rest) ≡ true }
+    ensures lines { is_comment (piece_of before.entry) ≡ false → is_line result ≡ is_below below }
+    ensures low { indent_of result ≤ 60 }
+{
+    if is_comment(before) {
+        return Gap::Line(line_of(wanted, indent));
+    }
+    if is_below(below) {
+        return Gap::Line(line_of(wanted, indent));
+    }
+    Gap::Margin
+}
+
+/// The gap that is wanted before an item, if it may stand there: else a blank, or the end of a line and such an indent. A
+/// comment in a line of its own stays in one.
 pub(crate) fn settled(
     wanted: Gap,
     indent: usize,
@@ -134,8 +201,13 @@ pub(crate) fn settled(
     item: &Item<'_>,
     room: usize,
 ) -> Gap
-    ensures { IsGap room (part_of before.now) result (part_of item.now) }
+    ensures gap { IsGap room (part_of before.now) result (part_of item.now) }
+    ensures lines { is_comment (piece_of item.now.ink) ≡ true
+        → is_comment (piece_of before.now.ink) ≡ false → is_line result ≡ is_below item.now.below }
 {
+    if is_comment(item.ink) {
+        return comment_gap(wanted, indent, before.ink, item.below);
+    }
     if may_stand(wanted, before, item, room) {
         return wanted;
     }
@@ -144,6 +216,6 @@ pub(crate) fn settled(
     }
     Gap::Line(Line {
         apart: false,
-        indent: indent.min(MOST_INDENT),
+        indent: line_indent(item.ink, indent),
     })
 }
