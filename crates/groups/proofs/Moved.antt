@@ -11,7 +11,7 @@ use Rattle.virtual_time.specs.Machine.{Lawful, Machine}
 use Rattle.virtual_time.specs.Records.{next_of}
 use Rattle.virtual_time.specs.Reference.{reference_below}
 use Rattle.virtual_time.specs.Worlds.{Process}
-use Rattle.virtual_time.specs.Groups.Leases.{alone}
+use Rattle.virtual_time.specs.Groups.Leases.{Does, alone}
 use Rattle.virtual_time.proofs.Groups.Leased.{does_both}
 use Rattle.task_seed.specs.declared.setup.Setup.{Setup}
 use Rattle.task_seed.specs.declared.turns.Turn.{Turn}
@@ -19,7 +19,7 @@ use Rattle.rollback.specs.ComponentView.{ComponentView, machine_of}
 use Rattle.rollback.specs.Flight.{goes, in_flight, is_sign}
 use Rattle.groups.specs.Crew.{AreSound, MembersView}
 use Rattle.groups.specs.GroupView.{AreMembers, GroupView, frames, is_member, lease_of}
-use Rattle.groups.specs.Moves.{Delivers, IsAhead, IsSettled, IsStepped, KeepsGroup, Leads, MovesBy, Processes}
+use Rattle.groups.specs.Moves.{AreLeastFirst, Delivers, IsAhead, IsSettled, IsStepped, KeepsGroup, Leads, MovesBy, Processes}
 use Rattle.groups.specs.Open.{AllInside, AllOutside, IsPassed, IsProcessed, open_world}
 use Rattle.groups.proofs.Passed.{its_frames, its_next, its_step, outside_same}
 use Rattle.groups.proofs.Placed.{history_there, member_there, members_same}
@@ -119,12 +119,14 @@ module _ {T : Type 0} (turn_of : T → ℕ → ℕ → Option Turn) where
             (subst (λ u. Processes (at old) group old.number p.c.number u (open_world (at old) v [] out)) (sym (alone_is (at old) old inside group old.number mine))
             (record {
               steps = later.steps;
-              deliveries = later.deliveries;
-              unmet = later.unmet;
+              deliveries = subst (λ x. AreLeastFirst (at old) group old.number x later.steps) first.1 later.deliveries;
               does = does_both (at old) group old.number (Process p.c.number ∷ []) later.steps (open_world (at old) (members_in old) old.tray old.out) (open_world (at old) mid sent old.out) (open_world (at old) v [] out)
-                  (its_step turn_of (members_in old) mid law sound.place sound.apart sound.own old.tray sent old.out p group old.number mine) later.does;
+                  first later.does;
             }))
           where
+            first : Does (at old) group old.number (open_world (at old) (members_in old) old.tray old.out) (Process p.c.number ∷ []) (open_world (at old) mid sent old.out)
+            first = its_step turn_of (members_in old) mid law sound.place sound.apart sound.own old.tray sent old.out p group old.number mine
+
             later : Delivers (at old) group old.number (open_world (at old) mid sent old.out) (open_world (at old) v [] out)
             later =
                 subst (λ ys. Delivers (at old) group old.number (open_world (at old) mid sent old.out) (open_world (at old) v ys out)) empty

@@ -17,16 +17,16 @@ use Rattle.virtual_time.specs.Records.{after_entry, antimessage_comes, back_by_a
 use Rattle.virtual_time.specs.Reference.{reference_below}
 use Rattle.virtual_time.specs.Worlds.{Commit, DeliverAntimessage, DeliverMessage, Meet, Process, RollBack, Step, World, deliver_antimessage, deliver_message, process, process_entry, put_back, record_of, same, taken_at}
 use Rattle.virtual_time.specs.Groups.Leases.{Does}
-use Rattle.virtual_time.specs.Groups.Singles.{MeetsNothing}
-use Rattle.virtual_time.specs.Groups.WindowCalls.{AreDeliveries}
 use Rattle.task_seed.specs.Turning.{System}
 use Rattle.task_seed.specs.Machines.{machine}
 use Rattle.rollback.specs.Flight.{goes, in_flight, is_sign, item_of}
 use Rattle.rollback.specs.ComponentView.{ComponentView}
+use Rattle.rollback.specs.Laws.{NoneIsBelowLeast}
 use Rattle.rollback.specs.Post.{IsPosted}
 use Rattle.rollback.proofs.Flight.{insert_elsewhere, insert_there}
 use Rattle.groups.specs.Crew.{AreApart, MembersView}
 use Rattle.groups.specs.GroupView.{AreMembers, frame_of, history_of, is_member}
+use Rattle.groups.specs.Moves.{AreLeastFirst, IsLeastIn}
 use Rattle.groups.specs.Open.{joined, open_world}
 use Rattle.groups.proofs.Joined.{none_to_self, sent_joined, unsent_joined}
 use Rattle.groups.proofs.Placed.{frames_put, history_put, history_there, member_there, members_same}
@@ -240,23 +240,20 @@ module _ (s : System) (law : Lawful (machine s)) where
           go true e = rw (e, here Plus j e, here Minus j e) refl
           go false e = rw (e, waiting Plus j, waiting Minus j) refl
 
-module _ {S A : Type 0} (m : Machine S A) where
+module _ {S A : Type 0} (m : Machine S A) (group : ℕ → ℕ) (g : ℕ) where
   -- deliveries one after the other
-  pub deliveries_both : (ss ts : List (Step A)) → AreDeliveries ss → AreDeliveries ts → AreDeliveries (ss ++ ts)
-  deliveries_both [] ts h k = k
-  deliveries_both (DeliverMessage i x ∷ ss) ts h k = deliveries_both ss ts h k
-  deliveries_both (DeliverAntimessage i x ∷ ss) ts h k = deliveries_both ss ts h k
-  deliveries_both (Meet i x ∷ ss) ts h k = deliveries_both ss ts h k
-  deliveries_both (Process i ∷ ss) ts h k = absurd h
-  deliveries_both (RollBack i ∷ ss) ts h k = absurd h
-  deliveries_both (Commit b ∷ ss) ts h k = absurd h
+  pub least_both : (ss ts : List (Step A)) (u w : World S A) → AreLeastFirst m group g u ss → Does m group g u ss w → AreLeastFirst m group g w ts → AreLeastFirst m group g u (ss ++ ts)
+  least_both [] ts u w h d k = subst (λ x. AreLeastFirst m group g x ts) d k
+  least_both (DeliverMessage i x ∷ ss) ts u w h d k = (h.0, least_both ss ts (deliver_message m i x u) w h.1 d.2 k)
+  least_both (DeliverAntimessage i x ∷ ss) ts u w h d k = (h.0, least_both ss ts (deliver_antimessage m i x u) w h.1 d.2 k)
+  least_both (Meet i x ∷ ss) ts u w h d k = absurd h
+  least_both (Process i ∷ ss) ts u w h d k = absurd h
+  least_both (RollBack i ∷ ss) ts u w h d k = absurd h
+  least_both (Commit b ∷ ss) ts u w h d k = absurd h
 
-  -- and no meeting is among them
-  pub unmet_both : (ss ts : List (Step A)) → MeetsNothing ss → MeetsNothing ts → MeetsNothing (ss ++ ts)
-  unmet_both [] ts h k = k
-  unmet_both (DeliverMessage i x ∷ ss) ts h k = unmet_both ss ts h k
-  unmet_both (DeliverAntimessage i x ∷ ss) ts h k = unmet_both ss ts h k
-  unmet_both (Meet i x ∷ ss) ts h k = absurd h
-  unmet_both (Process i ∷ ss) ts h k = unmet_both ss ts h k
-  unmet_both (RollBack i ∷ ss) ts h k = unmet_both ss ts h k
-  unmet_both (Commit b ∷ ss) ts h k = unmet_both ss ts h k
+-- what is on its way has no lesser key than its first
+pub least_open : {P : Type 0} (m : Machine (List Datum) Named) (old : MembersView P) (x : Signed) (rest out : List Signed) → NoneIsBelowLeast → IsInOrder (x ∷ rest) → (group : ℕ → ℕ) (g : ℕ) → AreMembers group g old.components
+    → IsLeastIn group g (open_world m old (x ∷ rest) out) (item_of x)
+least_open m old x rest out law order group g mine j own =
+    let inside : is_member old.components j ≡ true = sym (mine j) ∙ eq-eqb (group j) g own in
+    rw inside (law Plus j (x ∷ rest) order, law Minus j (x ∷ rest) order)

@@ -22,6 +22,7 @@ use Rattle.task_seed.specs.declared.turns.Turn.{Turn}
 use Rattle.task_seed.specs.Setups.{system}
 use Rattle.rollback.specs.ComponentView.{ComponentView, back_by, comes, machine_of, processed, sent_next}
 use Rattle.rollback.specs.Flight.{item_of}
+use Rattle.rollback.specs.Laws.{NoneIsBelowLeast}
 use Rattle.rollback.specs.Post.{IsPosted}
 use Rattle.rollback.specs.Stepped.{stepped, with_coming}
 use Rattle.groups.specs.Crew.{AreApart, AreOf, MembersView}
@@ -29,7 +30,7 @@ use Rattle.groups.specs.GroupView.{AreMembers, frames, is_member}
 use Rattle.groups.specs.Moves.{Delivers}
 use Rattle.groups.specs.Open.{AllInside, AllOutside, IsDelivered, IsPassed, IsProcessed, depth_of, open_world}
 use Rattle.groups.proofs.Depths.{come_depth, depth_put}
-use Rattle.groups.proofs.Opened.{antimessage_does, deliveries_both, unmet_both, left_open, message_does, process_does}
+use Rattle.groups.proofs.Opened.{antimessage_does, least_both, least_open, left_open, message_does, process_does}
 use Rattle.groups.proofs.Placed.{frames_put, members_same, own_there}
 
 pub split : (x : Signed) (xs rest : List Signed) → Some x ≡ head xs → rest ≡ tail xs → xs ≡ x ∷ rest
@@ -63,11 +64,11 @@ outside_more cs x out alien h = each_inserted signed_cmp (λ s. is_member cs s.m
 
 module _ {S A : Type 0} (m : Machine S A) (group : ℕ → ℕ) (g : ℕ) where
   pub delivers_none : (u : World S A) → Delivers m group g u u
-  delivers_none u = record { steps = []; deliveries = tt; unmet = tt; does = refl }
+  delivers_none u = record { steps = []; deliveries = tt; does = refl }
 
   pub delivers_both : (u w v : World S A) → Delivers m group g u w → Delivers m group g w v → Delivers m group g u v
   delivers_both u w v p q =
-      record { steps = p.steps ++ q.steps; deliveries = deliveries_both m p.steps q.steps p.deliveries q.deliveries; unmet = unmet_both m p.steps q.steps p.unmet q.unmet; does = does_both m group g p.steps q.steps u w v p.does q.does }
+      record { steps = p.steps ++ q.steps; deliveries = least_both m group g p.steps q.steps u w p.deliveries p.does q.deliveries; does = does_both m group g p.steps q.steps u w v p.does q.does }
 
 module _ {T : Type 0} (turn_of : T → ℕ → ℕ → Option Turn) where
   abbrev at : Setup T → Machine (List Datum) Named
@@ -115,8 +116,8 @@ module _ {T : Type 0} (turn_of : T → ℕ → ℕ → Option Turn) where
 
   module _ (old new : MembersView (Setup T)) (law : Lawful (at old.setup)) (place : ℕ → ℕ) (apart : AreApart place 0 old.components) (own : AreOf old.setup old.base old.components) where
     -- one came to its receiver
-    pub passed_in : (x : Signed) (count : ℕ) (sent new_sent out : List Signed) → IsDelivered turn_of x count old new sent new_sent → IsPassed turn_of old new (x ∷ sent) new_sent out out
-    passed_in x count sent new_sent out d =
+    pub passed_in : (x : Signed) (count : ℕ) (sent new_sent out : List Signed) → NoneIsBelowLeast → IsInOrder (x ∷ sent) → IsDelivered turn_of x count old new sent new_sent → IsPassed turn_of old new (x ∷ sent) new_sent out out
+    passed_in x count sent new_sent out low_law order d =
         record {
           setup = ap (λ (v : MembersView _). v.setup) d.becomes;
           base = ap (λ (v : MembersView _). v.base) d.becomes;
@@ -150,16 +151,14 @@ module _ {T : Type 0} (turn_of : T → ℕ → ℕ → Option Turn) where
         go group g mine Plus e p =
             record {
               steps = DeliverMessage c.number (item_of x) ∷ [];
-              deliveries = tt;
-              unmet = tt;
+              deliveries = (least_open (at old.setup) old x sent out low_law order group g mine, tt);
               does = subst (λ h. Does (at old.setup) group g (open_world (at old.setup) old (x ∷ sent) out) (DeliverMessage c.number (item_of x) ∷ []) (open_world (at old.setup) (record old { components = slice_set old.components d.place (record c { history = h }) }) new_sent out)) (history_is Plus e)
                   (message_does (system turn_of old.setup) law old place apart d.place c d.there x sent out d.number group g mine e new_sent (sent_is Plus e));
             }
         go group g mine Minus e p =
             record {
               steps = DeliverAntimessage c.number (item_of x) ∷ [];
-              deliveries = tt;
-              unmet = tt;
+              deliveries = (least_open (at old.setup) old x sent out low_law order group g mine, tt);
               does = subst (λ h. Does (at old.setup) group g (open_world (at old.setup) old (x ∷ sent) out) (DeliverAntimessage c.number (item_of x) ∷ []) (open_world (at old.setup) (record old { components = slice_set old.components d.place (record c { history = h }) }) new_sent out)) (history_is Minus e)
                   (antimessage_does (system turn_of old.setup) law old place apart d.place c d.there x sent out d.number group g mine e new_sent (sent_is Minus e));
             }

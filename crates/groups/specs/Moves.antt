@@ -3,12 +3,11 @@ use Rattle.std.specs.Prelude.{◌≡◌, ℕ, zero, suc, ◌<◌, true, Option, 
 use Rattle.terms.specs.Datum.{Datum}
 use Rattle.terms.specs.Named.{Named}
 use Rattle.virtual_time.specs.Machine.{Machine}
-use Rattle.virtual_time.specs.Entries.{Entry, entry_key}
+use Rattle.virtual_time.specs.Bags.{AllFrom}
+use Rattle.virtual_time.specs.Entries.{Entry, Item, entry_key}
 use Rattle.virtual_time.specs.Records.{next_of}
-use Rattle.virtual_time.specs.Worlds.{Process, Step, World}
+use Rattle.virtual_time.specs.Worlds.{Commit, DeliverAntimessage, DeliverMessage, Meet, Process, RollBack, Step, World, deliver_antimessage, deliver_message, process}
 use Rattle.virtual_time.specs.Groups.Leases.{Does, alone}
-use Rattle.virtual_time.specs.Groups.Singles.{MeetsNothing}
-use Rattle.virtual_time.specs.Groups.WindowCalls.{AreDeliveries}
 use Rattle.task_seed.specs.declared.setup.Setup.{Setup}
 use Rattle.task_seed.specs.declared.turns.Turn.{Turn}
 use Rattle.rollback.specs.ComponentView.{machine_of}
@@ -16,24 +15,36 @@ use Rattle.groups.specs.declared.running.Stop.{Stop}
 use Rattle.groups.specs.declared.running.Stop.TheVariants.{Budget, End, NoMemory}
 use Rattle.groups.specs.GroupView.{AreMembers, GroupView, frames, history_of, is_member, lease_of, least_next}
 
+-- no message or antimessage in flight to the group's components has a lesser key
+abbrev pub IsLeastIn : {S A : Type 0} → (ℕ → ℕ) → ℕ → World S A → Item A → Type 0
+IsLeastIn group g u x = (j : ℕ) → group j ≡ g → AllFrom x.key (u.part j).plus × AllFrom x.key (u.part j).minus
+
+-- of what is in flight to the group's components each delivery takes the least
+abbrev pub AreLeastFirst : {S A : Type 0} → Machine S A → (ℕ → ℕ) → ℕ → World S A → List (Step A) → Type 0
+AreLeastFirst m group g u [] = Unit {0}
+AreLeastFirst m group g u (DeliverMessage i x ∷ ss) = IsLeastIn group g u x × AreLeastFirst m group g (deliver_message m i x u) ss
+AreLeastFirst m group g u (DeliverAntimessage i x ∷ ss) = IsLeastIn group g u x × AreLeastFirst m group g (deliver_antimessage m i x u) ss
+AreLeastFirst m group g u (Meet i x ∷ ss) = ⊥
+AreLeastFirst m group g u (Process i ∷ ss) = ⊥
+AreLeastFirst m group g u (RollBack i ∷ ss) = ⊥
+AreLeastFirst m group g u (Commit b ∷ ss) = ⊥
+
 module _ {S A : Type 0} (m : Machine S A) (group : ℕ → ℕ) (g : ℕ) where
   -- some steps of the group's components lead from u to v
   pub record Leads (u v : World S A) : Type 0 where
     pub steps : List (Step A)
     pub does : Does m group g u steps v
 
-  -- so do some deliveries to them
+  -- so do some deliveries to them, the least first
   pub record Delivers (u v : World S A) : Type 0 where
     pub steps : List (Step A)
-    pub deliveries : AreDeliveries steps
-    pub unmet : MeetsNothing steps
+    pub deliveries : AreLeastFirst m group g u steps
     pub does : Does m group g u steps v
 
-  -- component i of them processes an entry, and then some deliveries to them lead on
+  -- component i of them processes an entry, and then some deliveries to them lead on, the least first
   pub record Processes (i : ℕ) (u v : World S A) : Type 0 where
     pub steps : List (Step A)
-    pub deliveries : AreDeliveries steps
-    pub unmet : MeetsNothing steps
+    pub deliveries : AreLeastFirst m group g (process m i u) steps
     pub does : Does m group g u (Process i ∷ steps) v
 
 -- of a group whose turns are read by turn_of

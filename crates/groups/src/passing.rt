@@ -1,13 +1,15 @@
 //! What is on its way comes to its receivers.
 ghost use Rattle.std.specs.Prelude.{◌≡◌, ◌<◌, ◌∷◌, [], true, false};
-ghost use Rattle.antimessage.specs.Order.{KeyFits};
+ghost use Rattle.antimessage.specs.Order.{IsInOrder, KeyFits};
 ghost use Rattle.groups.specs.Open.{IsPassed, depth_of};
 
 use crate::members::Members;
 use antimessage::Bag;
+use antimessage::laws::order_law;
 use event_keys::laws::rank_law;
 use event_keys::{Key, Signed};
 use raw_events::EventCell;
+use rollback::laws::least_law;
 use task_seed::Turns;
 use task_seed::laws::machine_is_lawful;
 
@@ -25,6 +27,7 @@ fn pass<T: Turns>(
     sent: &mut Bag,
     out: &mut Bag,
 ) -> bool
+    requires order { IsInOrder (cell ∷ sent.old) }
     ensures passed { IsPassed T.turn_of members.old members.new (cell ∷ sent.old) sent.new
         out.old out.new }
     ensures less { result ≡ true
@@ -35,6 +38,7 @@ fn pass<T: Turns>(
 {
     machine_is_lawful(members.setup());
     members.members_law();
+    least_law();
     fits(cell.value().message.key);
     if !members.has(cell.value().message.to) {
         out.post(cell);
@@ -51,10 +55,12 @@ fn pass_some<T: Turns>(members: &mut Members<T>, sent: &mut Bag, out: &mut Bag) 
         → depth_of members.new.components < depth_of members.old.components }
     ensures none { result ≡ false → sent.new ≡ [] }
 {
+    order_law(sent);
     while let Some(cell) = sent.take_first() {
         if pass(members, cell, sent, out) {
             return true;
         }
+        order_law(sent);
     }
     false
 }

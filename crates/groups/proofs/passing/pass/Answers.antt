@@ -24,7 +24,7 @@ returns-clause-passed g c =
     let old = c.args.members.now in
     let law : Lawful (machine_of t old.setup) = subst (λ p. Lawful (machine_of t p)) c.setup.ensures c.machine_is_lawful.ensures.lawful in
     let sound = c.members_law.ensures in
-    passed_in t old c.deliver.new.self law sound.place sound.apart sound.own c.args.cell c.deliver.result c.args.sent.now c.deliver.new.sent c.args.out.now c.deliver.ensures.came
+    passed_in t old c.deliver.new.self law sound.place sound.apart sound.own c.args.cell c.deliver.result c.args.sent.now c.deliver.new.sent c.args.out.now c.least_law.ensures.low c.requires.order c.deliver.ensures.came
 
 pub returns-clause-less : goal.returns-clause-less
 returns-clause-less g c = λ more.
