@@ -18,6 +18,6 @@ program=${WARP:-}
 if [ -z "$program" ]; then
     "$top/warp" --version >&2
     program=$top/dist/warp-x86_64-linux-gnu
-    ! "$top/dist/is-built" || program=$top/crates/warp/out/warp
+    ! "$top/scripts/is-built" || program=$top/crates/warp/out/warp
 fi
 exec "$top/bench/$1.py" "$program" "${@:2}"

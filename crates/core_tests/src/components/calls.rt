@@ -1,4 +1,4 @@
-//! Calls that are refused their memory: each request, or under `.ci/refusals` one of them. Where the call isn't served, it is when it is made again.
+//! Calls that are refused their memory: each request, or under `scripts/refusals.py` one of them. Where the call isn't served, it is when it is made again.
 
 use super::given::{FAN, Given, key, plan, row};
 use super::turns::is_outcome;

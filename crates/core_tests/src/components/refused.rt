@@ -1,4 +1,4 @@
-//! Entries that are refused their memory: each request, or under `.ci/refusals` one of them.
+//! Entries that are refused their memory: each request, or under `scripts/refusals.py` one of them.
 
 use super::given::{AT_1, AT_2, AT_3, AT_4, Given, NOTHING, PASS_2, bag, cell, key, passes};
 use super::steps::{Bench, at_start, deliver};

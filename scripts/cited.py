@@ -1,5 +1,5 @@
 #!/usr/bin/env python3
-"""Tells what the pages cite and the tree doesn't have: cited PAGE.. Each page is a file of this checkout.
+"""Tells what the pages cite and the tree doesn't have: scripts/cited.py PAGE.. Each page is a file of this checkout.
 
 Looked for is what stands between backquotes: a path or a file's name, which has to be a file or a folder here; a place `FILE:LINE`, where the line has to
 have one of the names that stand beside it in the page's line; and a name of the code, `take_parcel`, `World::run` or `IsChunk`, each word of which has to
@@ -75,7 +75,7 @@ def wrong_in(page, tree):
     """Yields what is wrong on a page."""
     is_fenced = False
     text = page.read_text()
-    # (files that the page itself shows, as dist/shown makes them)
+    # (files that the page itself shows, as scripts/shown.py makes them)
     made = set(re.findall(r"^```ioa (\S+)$", text, re.M))
     for number, line in enumerate(text.splitlines(), 1):
         if line.startswith("```"):
@@ -95,7 +95,7 @@ def wrong_in_line(line, tree, made):
             fault = tree.wrong_place(place[1], int(place[2]), beside)
             if fault:
                 yield fault
-        elif re.fullmatch(r"[\w.*/+-]+\.(?:rt|antt|py|md|ioa|jsonl|edit|svg|table|txt)", span) or re.fullmatch(r"(?:\.ci|dist|bench|crates|docs|examples|share|editors)/[\w./*+-]*", span):
+        elif re.fullmatch(r"[\w.*/+-]+\.(?:rt|antt|py|md|ioa|jsonl|edit|svg|table|txt)", span) or re.fullmatch(r"(?:\.ci|dist|scripts|oracle|bench|crates|docs|examples|share|editors)/[\w./*+-]*", span):
             if span not in FOREIGN | made and not tree.has_path(span):
                 yield f"{span}: no such file"
         else:
@@ -127,8 +127,8 @@ def main():
     tree = Tree()
     wrong = [it for page in sys.argv[1:] for it in wrong_in(Path(page).resolve(), tree)]
     for it in wrong:
-        print(f"cited: {it}")
-    print(f"cited: {len(sys.argv) - 1} pages, {len(wrong)} wrong")
+        print(f"scripts/cited.py: {it}")
+    print(f"scripts/cited.py: {len(sys.argv) - 1} pages, {len(wrong)} wrong")
     return 1 if wrong else 0
 
 

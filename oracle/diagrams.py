@@ -1,6 +1,6 @@
 """The cases of `draw`: the diagrams of the second simulator's turns, in SVG.
 
-    python3 bench/second/diagrams.py > crates/vectors/data/draws.jsonl
+    python3 oracle/diagrams.py > crates/vectors/data/draws.jsonl
 """
 import json
 import os
@@ -8,7 +8,7 @@ import sys
 
 from simulator import Plan, read, read_action, reference, seed_turns
 
-EXAMPLES = os.path.join(os.path.dirname(os.path.abspath(__file__)), "..", "..", "examples")
+EXAMPLES = os.path.join(os.path.dirname(os.path.abspath(__file__)), "..", "examples")
 LAST = 4294967296
 HEAD = """ font-family="monospace" font-size="11">
 <style>svg{background:#fff}text{fill:#111;stroke:#fff;stroke-width:3;paint-order:stroke}

@@ -1,5 +1,5 @@
 #!/usr/bin/env python3
-"""Compares the completions, the manual page and the editors' files with the words of the program and of the language: share/check PROGRAM."""
+"""Compares the completions, the manual page and the editors' files with the words of the program and of the language: scripts/words.py PROGRAM."""
 import re, subprocess, sys
 from pathlib import Path
 

@@ -2,8 +2,8 @@
 """Lets each request for memory of the program fail in turn, until none is left, and looks at what it answers then: what it answers with ample memory,
 or `fault 1` or `fault 61` with status 3 after a beginning of that, or, of `drive`, steps refused 1 and a beginning of what `reference` writes.
 
-usage: .ci/refusals [--quick] [PROGRAM]
-       .ci/refusals --tests
+usage: scripts/refusals.py [--quick] [PROGRAM]
+       scripts/refusals.py --tests
 
 Without PROGRAM it tries the program in dist/; with --quick only the ring. With --tests it tries the calls of the libraries in place of the program:
 the tests that `rt test` built in the crates of tests and that mark calls run once for each N, the N-th request of each marked call is refused, and the

@@ -129,9 +129,9 @@ def try_case(line):
 
 
 def main():
-    state = subprocess.run([top / "dist/state"], capture_output=True, text=True)
+    state = subprocess.run([top / "scripts/state"], capture_output=True, text=True)
     if state.returncode:
-        print(f"dist/check: {state.stdout.strip()}; dist/refresh builds it anew")
+        print(f"scripts/check.py: {state.stdout.strip()}; scripts/refresh builds it anew")
         return 1
     built = dict(line.split(" ", 1) for line in (top / "dist/BUILT").read_text().splitlines())
     wanted = (0, f"warp 0.1.0\nproved with {built['kit']}\n", "")
@@ -155,12 +155,12 @@ def main():
         for it in [*pool.map(try_layout, examples), *pool.map(try_progress, ENDLESS), *pool.map(try_example, runs), *pool.map(try_hunt, hunts), *pool.map(try_case, cases)]:
             found += it
     for it in found[:10]:
-        print(f"dist/check: {it}")
-    print(f"dist/check: {len(runs)} runs and {len(hunts)} hunts over {SEEDS} seeds of examples and {len(cases)} cases, {len(found)} wrong")
-    shown = subprocess.run([top / "dist/shown", program, *(top / page for page in PAGES)])
+        print(f"scripts/check.py: {it}")
+    print(f"scripts/check.py: {len(runs)} runs and {len(hunts)} hunts over {SEEDS} seeds of examples and {len(cases)} cases, {len(found)} wrong")
+    shown = subprocess.run([top / "scripts/shown.py", program, *(top / page for page in PAGES)])
     pages = [*sorted(top.glob("*.md")), top / "examples/README.md", *sorted((top / "docs").rglob("*.md"))]
-    cited = subprocess.run([top / "dist/cited", *pages])
-    words = subprocess.run([top / "share/check", program])
+    cited = subprocess.run([top / "scripts/cited.py", *pages])
+    words = subprocess.run([top / "scripts/words.py", program])
     return 1 if found or shown.returncode or cited.returncode or words.returncode else 0
 
 

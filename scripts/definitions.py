@@ -1,5 +1,5 @@
 #!/usr/bin/env python3
-"""Counts what a reader of a contract has to believe: .ci/definitions [CRATE FILE FUNCTION].. For the contract of each function it prints how many
+"""Counts what a reader of a contract has to believe: scripts/definitions.py [CRATE FILE FUNCTION].. For the contract of each function it prints how many
 definitions of specs/ it reaches, how many lines these have (comments and imports aside), in how many files, and how many types of the code it
 sees; with --list also their names by file. Words of the toolchain's library are not counted. Without arguments it prints docs/THEOREM.md's table."""
 import re, sys

@@ -1,5 +1,5 @@
 #!/usr/bin/env python3
-"""Runs the commands that pages show, and compares what they write with what is shown: shown PROGRAM PAGE..
+"""Runs the commands that pages show, and compares what they write with what is shown: scripts/shown.py PROGRAM PAGE..
 
 A page shows commands in fenced or indented blocks: a line `$ COMMAND`, and below it what it writes to standard output and error. A command runs
 if it names `./warp`; a line `...` stands for any lines. A fence named `ioa FILE` is that file, and one named `diff FILE` a change of it, in which
@@ -91,8 +91,8 @@ def main():
             found, more = wrong_in(page, program, Path(folder))
         wrong, count = wrong + found, count + more
     for it in wrong[:10]:
-        print(f"dist/shown: {it}")
-    print(f"dist/shown: {count} commands on {len(sys.argv) - 2} pages, {len(wrong)} wrong")
+        print(f"scripts/shown.py: {it}")
+    print(f"scripts/shown.py: {count} commands on {len(sys.argv) - 2} pages, {len(wrong)} wrong")
     return 1 if wrong else 0
 
 
