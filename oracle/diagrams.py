@@ -77,7 +77,8 @@ def rows():
               seed=31, ticks=60, first=20, last=46)
     yield row("lcr", ["--ticks", "30", "--from-zero"], ticks=30, from_zero=True)
     yield row("lcr", ["--ticks", "30", "--stream", "5"], ticks=30, stream=5)
-    yield row("lcr", ["--ticks", "30", "--trace", "--head"], ticks=30)
+    yield {"words": ["draw", "F", "--ticks", "30", "--trace"], "files": {"F": text_of("lcr")},
+           "stdout": "", "stderr": None, "status": 2}
     yield row("ring", ["--ticks", "0"], ticks=0)
     yield row("ring", ["--ticks", "30", "--from", "9", "--to", "9"], ticks=30, first=9, last=9)
     yield row("ring", ["--ticks", "30", "--from", "20", "--to", "10"], ticks=30, first=20, last=10)
