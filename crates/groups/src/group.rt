@@ -6,10 +6,11 @@ ghost use Rattle.event_keys.specs.Ranks.{rank, rank_of_bound};
 ghost use Rattle.raw_events.specs.Around.{is_nonempty};
 ghost use Rattle.rollback.specs.ComponentView.{lowest_bound, machine_of};
 ghost use Rattle.virtual_time.specs.Groups.Leases.{IsFloor, start_lease};
+ghost use Rattle.groups.specs.Crew.{AreSound};
 ghost use Rattle.groups.specs.Dropping.{AreGivenUp, cut_all};
 ghost use Rattle.groups.specs.GroupView.{AreMembers, count_of, group_in, is_member, lease_of, start_components};
 ghost use Rattle.groups.specs.Moves.{HasStopped, IsAhead, IsSettled, IsStepped, MovesBy, next_rank, theory};
-ghost use Rattle.groups.specs.Open.{AllInside};
+ghost use Rattle.groups.specs.Open.{AllInside, AllOutside};
 
 use crate::members::Members;
 use crate::passing::pass_all;
@@ -109,6 +110,20 @@ impl<T: Turns> Group<T> {
         })
     }
 
+    /// No two of its components have one number, and each is of its setup and its base. What waits in its tray is to them, and what waits
+    /// to leave is to others. The call does nothing.
+    pub fn soundness_law(&self)
+        ensures members { AreSound T.turn_of (record {
+          setup = self.now.setup;
+          base = self.now.base;
+          components = self.now.components;
+        }) }
+        ensures tray { AllInside self.now.components self.now.tray }
+        ensures out { AllOutside self.now.components self.now.out }
+    {
+        self.members.members_law();
+    }
+
     /// The number of the group.
     pub fn number(&self) -> u16
         ensures { result ≡ self.now.number }
@@ -177,6 +192,13 @@ impl<T: Turns> Group<T> {
         ensures { result ≡ is_nonempty self.now.out }
     {
         !self.out.is_empty()
+    }
+
+    /// The messages and antimessages that wait to leave.
+    pub fn out(&self) -> &Bag
+        ensures { result.now ≡ self.now.out }
+    {
+        &self.out
     }
 
     /// Takes all that waits to leave.

@@ -1,0 +1,183 @@
+use Rattle.std.proofs.Common.{◌≡◌, length, sym, ap, subst, subst₂, ◌∙◌}
+use Rattle.std.specs.Arc.{arc_value}
+use Rattle.std.specs.Vec.{with_items}
+use Rattle.std.proofs.lemmas.List.{with_items_is}
+use Rattle.virtual_time.specs.Machine.{HasCount, Lawful}
+use Rattle.virtual_time.specs.Groups.Meetings.{Met}
+use Rattle.plans.specs.Plans.{composition}
+use Rattle.task_seed.specs.Setups.{system, plan_of}
+use Rattle.task_seed.specs.Machines.{machine}
+use Rattle.rollback.specs.ComponentView.{machine_of}
+use Rattle.groups.specs.Dropping.{cut_all}
+use Rattle.groups.specs.GroupView.{GroupView, lease_of}
+use Rattle.group_exchange.specs.LeaseView.{IsValidLease, KeepsMembers}
+use Rattle.group_exchange.specs.Moving.{AreCopies}
+use Rattle.group_exchange.specs.ExchangeView.{ExchangeView, IsValidExchange, exchange_of, group_at}
+use Rattle.group_exchange.specs.Seen.{IsKnown}
+use Rattle.group_exchange.proofs.Joining.{came_inside, can_put, joined, listed}
+use Rattle.group_exchange.proofs.exchange.Exchange.join.Goals as goal
+
+pub put_all_into-requires-clause-there : goal.put_all_into-requires-clause-there
+put_all_into-requires-clause-there g c = λ _ _.
+    let t = g.T.Turns.turn_of in
+    let f = c.self.inside in
+    let e : ExchangeView _ = record { setup = arc_value f.setup; groups = f.groups.items; stubs = f.stubs.items; passages = f.passages.items; bound = f.bound; held = f.held.items; given = f.given } in
+    let s = system t (arc_value f.setup) in
+    let m = machine s in
+    let G = group_at f.groups.items in
+    let law : Lawful m = subst (λ p. Lawful (machine (system t p))) c.deref.ensures c.machine_is_lawful.ensures.lawful in
+    let v = c.lease.inside.group in
+    let v_is : v ≡ c.args.lease.now = c.lease.view_is ∙ c.in_ok-copies.ensures.same in
+    let of_setup : system t v.setup ≡ s = ap (λ (x : GroupView _). system t x.setup) v_is ∙ sym c.requires.own ∙ sym (ap (λ (x : ExchangeView _). system t x.setup) c.self.view_is) in
+    let is : IsValidExchange s e = c.self.invariant.1 in
+    let valid : IsValidLease m (length s.composition) v = subst (λ x. IsValidLease (machine x) (length x.composition) v) of_setup c.lease.invariant.0 in
+    let known : IsKnown m G (length f.stubs.items) (exchange_of m e) v
+    = subst₂ (λ (x : ExchangeView _) (y : GroupView _). IsKnown (machine_of t x.setup) (group_at x.groups) (length x.stubs) (exchange_of (machine_of t x.setup) x) y) (sym c.self.view_is) (sym v_is) c.requires.known in
+    let dropped : c.drop_below.new.self ≡ record v { base = f.bound; components = cut_all t f.bound v.components } = c.in_ok-lists.ensures.group in
+    listed t s law e is v valid known c.drop_below.new.self dropped c.components.result.now c.components.ensures (length c.deref_mut.result.now) (ap length c.deref_mut.ensures.value)
+
+pub put_all_into-requires-clause-turns : goal.put_all_into-requires-clause-turns
+put_all_into-requires-clause-turns g c = λ _ _.
+    let t = g.T.Turns.turn_of in
+    let f = c.self.inside in
+    let e : ExchangeView _ = record { setup = arc_value f.setup; groups = f.groups.items; stubs = f.stubs.items; passages = f.passages.items; bound = f.bound; held = f.held.items; given = f.given } in
+    let s = system t (arc_value f.setup) in
+    let m = machine s in
+    let G = group_at f.groups.items in
+    let law : Lawful m = subst (λ p. Lawful (machine (system t p))) c.deref.ensures c.machine_is_lawful.ensures.lawful in
+    let v = c.lease.inside.group in
+    let v_is : v ≡ c.args.lease.now = c.lease.view_is ∙ c.in_ok-copies.ensures.same in
+    let of_setup : system t v.setup ≡ s = ap (λ (x : GroupView _). system t x.setup) v_is ∙ sym c.requires.own ∙ sym (ap (λ (x : ExchangeView _). system t x.setup) c.self.view_is) in
+    let is : IsValidExchange s e = c.self.invariant.1 in
+    let valid : IsValidLease m (length s.composition) v = subst (λ x. IsValidLease (machine x) (length x.composition) v) of_setup c.lease.invariant.0 in
+    let known : IsKnown m G (length f.stubs.items) (exchange_of m e) v
+    = subst₂ (λ (x : ExchangeView _) (y : GroupView _). IsKnown (machine_of t x.setup) (group_at x.groups) (length x.stubs) (exchange_of (machine_of t x.setup) x) y) (sym c.self.view_is) (sym v_is) c.requires.known in
+    let dropped : c.drop_below.new.self ≡ record v { base = f.bound; components = cut_all t f.bound v.components } = c.in_ok-lists.ensures.group in
+    can_put t s law e is v valid known c.drop_below.new.self dropped c.soundness_law.ensures.members c.in_ok-lists.lists.items c.in_ok-lists.ensures.turns (c.group_meeting_law.ensures.falls m G) c.components.result.now c.components.ensures c.deref_mut-2.result.now c.deref_mut-2.ensures.value
+
+pub pass_on-requires-clause-inside : goal.pass_on-requires-clause-inside
+pass_on-requires-clause-inside g c = λ _ _.
+    let t = g.T.Turns.turn_of in
+    let f = c.self.inside in
+    let e : ExchangeView _ = record { setup = arc_value f.setup; groups = f.groups.items; stubs = f.stubs.items; passages = f.passages.items; bound = f.bound; held = f.held.items; given = f.given } in
+    let s = system t (arc_value f.setup) in
+    let m = machine s in
+    let G = group_at f.groups.items in
+    let law : Lawful m = subst (λ p. Lawful (machine (system t p))) c.deref.ensures c.machine_is_lawful.ensures.lawful in
+    let v = c.lease.inside.group in
+    let v_is : v ≡ c.args.lease.now = c.lease.view_is ∙ c.in_ok-copies.ensures.same in
+    let of_setup : system t v.setup ≡ s = ap (λ (x : GroupView _). system t x.setup) v_is ∙ sym c.requires.own ∙ sym (ap (λ (x : ExchangeView _). system t x.setup) c.self.view_is) in
+    let is : IsValidExchange s e = c.self.invariant.1 in
+    let valid : IsValidLease m (length s.composition) v = subst (λ x. IsValidLease (machine x) (length x.composition) v) of_setup c.lease.invariant.0 in
+    let known : IsKnown m G (length f.stubs.items) (exchange_of m e) v
+    = subst₂ (λ (x : ExchangeView _) (y : GroupView _). IsKnown (machine_of t x.setup) (group_at x.groups) (length x.stubs) (exchange_of (machine_of t x.setup) x) y) (sym c.self.view_is) (sym v_is) c.requires.known in
+    let dropped : c.drop_below.new.self ≡ record v { base = f.bound; components = cut_all t f.bound v.components } = c.in_ok-lists.ensures.group in
+    came_inside t s law e is v valid known c.drop_below.new.self dropped c.deref_mut-3.result.now c.deref_mut-3.ensures.value
+
+pub invariant_of-self : goal.invariant_of-self
+invariant_of-self g c =
+    let t = g.T.Turns.turn_of in
+    let f = c.self.inside in
+    let e : ExchangeView _ = record { setup = arc_value f.setup; groups = f.groups.items; stubs = f.stubs.items; passages = f.passages.items; bound = f.bound; held = f.held.items; given = f.given } in
+    let s = system t (arc_value f.setup) in
+    let m = machine s in
+    let G = group_at f.groups.items in
+    let law : Lawful m = subst (λ p. Lawful (machine (system t p))) c.deref.ensures c.machine_is_lawful.ensures.lawful in
+    let v = c.lease.inside.group in
+    let v_is : v ≡ c.args.lease.now = c.lease.view_is ∙ c.in_ok-copies.ensures.same in
+    let of_setup : system t v.setup ≡ s = ap (λ (x : GroupView _). system t x.setup) v_is ∙ sym c.requires.own ∙ sym (ap (λ (x : ExchangeView _). system t x.setup) c.self.view_is) in
+    let is : IsValidExchange s e = c.self.invariant.1 in
+    let valid : IsValidLease m (length s.composition) v = subst (λ x. IsValidLease (machine x) (length x.composition) v) of_setup c.lease.invariant.0 in
+    let known : IsKnown m G (length f.stubs.items) (exchange_of m e) v
+    = subst₂ (λ (x : ExchangeView _) (y : GroupView _). IsKnown (machine_of t x.setup) (group_at x.groups) (length x.stubs) (exchange_of (machine_of t x.setup) x) y) (sym c.self.view_is) (sym v_is) c.requires.known in
+    let dropped : c.drop_below.new.self ≡ record v { base = f.bound; components = cut_all t f.bound v.components } = c.in_ok-lists.ensures.group in
+    let counted : HasCount m (length s.composition) = subst (λ p. HasCount (machine (system t p)) (length (composition (plan_of p)))) c.deref.ensures c.machine_is_lawful.ensures.counted in
+    let copied = subst (λ (x : GroupView _). AreCopies x.out c.in_ok-copies.copies) (sym v_is) c.in_ok-copies.ensures.copies in
+    let all = joined t s law e is v valid known c.drop_below.new.self dropped c.soundness_law.ensures.members c.in_ok-lists.lists.items c.in_ok-lists.ensures.turns (c.group_meeting_law.ensures.falls m G) of_setup c.in_ok-copies.copies copied
+    c.deref-2.result.now c.deref-2.ensures.value c.deref_mut-3.result.now c.deref_mut-3.ensures.value c.pass_on.new.stubs c.pass_on.new.group c.pass_on.ensures.passed c.pass_on.ensures.group c.pass_on.ensures.floor
+    c.components.result.now c.components.ensures c.deref_mut-2.result.now c.deref_mut-2.ensures.value c.deref_mut.result.now c.deref_mut.ensures.value c.put_all_into.new.queues c.put_all_into.ensures
+    c.merging_law.ensures.falls c.merging_law.ensures.outcomes c.flight_law.ensures.appended counted (c.group_meeting_law.ensures.apart m G) (c.group_meeting_law.ensures.met m G) (c.group_exchange_is_sound.ensures.meet m G) in
+    let items : (with_items f.stubs c.pass_on.new.stubs).items ≡ c.pass_on.new.stubs = with_items_is f.stubs c.pass_on.new.stubs (c.pass_on.ensures.passed.many ∙ c.deref_mut-3.ensures.len) in
+    let lists : (with_items f.held c.put_all_into.new.queues).items ≡ c.put_all_into.new.queues = with_items_is f.held c.put_all_into.new.queues (all.long ∙ sym (ap length c.deref_mut.ensures.value) ∙ c.deref_mut.ensures.len) in
+    (c.self.invariant.0, subst₂ (λ stubs queues. IsValidExchange s (record e { stubs = stubs; held = queues })) (sym items) (sym lists) all.shared)
+
+pub invariant_of-lease-2 : goal.invariant_of-lease-2
+invariant_of-lease-2 g c =
+    let t = g.T.Turns.turn_of in
+    let f = c.self.inside in
+    let e : ExchangeView _ = record { setup = arc_value f.setup; groups = f.groups.items; stubs = f.stubs.items; passages = f.passages.items; bound = f.bound; held = f.held.items; given = f.given } in
+    let s = system t (arc_value f.setup) in
+    let m = machine s in
+    let G = group_at f.groups.items in
+    let law : Lawful m = subst (λ p. Lawful (machine (system t p))) c.deref.ensures c.machine_is_lawful.ensures.lawful in
+    let v = c.lease.inside.group in
+    let v_is : v ≡ c.args.lease.now = c.lease.view_is ∙ c.in_ok-copies.ensures.same in
+    let of_setup : system t v.setup ≡ s = ap (λ (x : GroupView _). system t x.setup) v_is ∙ sym c.requires.own ∙ sym (ap (λ (x : ExchangeView _). system t x.setup) c.self.view_is) in
+    let is : IsValidExchange s e = c.self.invariant.1 in
+    let valid : IsValidLease m (length s.composition) v = subst (λ x. IsValidLease (machine x) (length x.composition) v) of_setup c.lease.invariant.0 in
+    let known : IsKnown m G (length f.stubs.items) (exchange_of m e) v
+    = subst₂ (λ (x : ExchangeView _) (y : GroupView _). IsKnown (machine_of t x.setup) (group_at x.groups) (length x.stubs) (exchange_of (machine_of t x.setup) x) y) (sym c.self.view_is) (sym v_is) c.requires.known in
+    let dropped : c.drop_below.new.self ≡ record v { base = f.bound; components = cut_all t f.bound v.components } = c.in_ok-lists.ensures.group in
+    let counted : HasCount m (length s.composition) = subst (λ p. HasCount (machine (system t p)) (length (composition (plan_of p)))) c.deref.ensures c.machine_is_lawful.ensures.counted in
+    let copied = subst (λ (x : GroupView _). AreCopies x.out c.in_ok-copies.copies) (sym v_is) c.in_ok-copies.ensures.copies in
+    let all = joined t s law e is v valid known c.drop_below.new.self dropped c.soundness_law.ensures.members c.in_ok-lists.lists.items c.in_ok-lists.ensures.turns (c.group_meeting_law.ensures.falls m G) of_setup c.in_ok-copies.copies copied
+    c.deref-2.result.now c.deref-2.ensures.value c.deref_mut-3.result.now c.deref_mut-3.ensures.value c.pass_on.new.stubs c.pass_on.new.group c.pass_on.ensures.passed c.pass_on.ensures.group c.pass_on.ensures.floor
+    c.components.result.now c.components.ensures c.deref_mut-2.result.now c.deref_mut-2.ensures.value c.deref_mut.result.now c.deref_mut.ensures.value c.put_all_into.new.queues c.put_all_into.ensures
+    c.merging_law.ensures.falls c.merging_law.ensures.outcomes c.flight_law.ensures.appended counted (c.group_meeting_law.ensures.apart m G) (c.group_meeting_law.ensures.met m G) (c.group_exchange_is_sound.ensures.meet m G) in
+    let same : s ≡ system t c.pass_on.new.group.setup = sym of_setup ∙ sym (ap (system t) all.keeps.0) in
+    (subst (λ x. IsValidLease (machine x) (length x.composition) c.pass_on.new.group) same all.lease, tt)
+
+pub returns-clause-met : goal.returns-clause-met
+returns-clause-met g c =
+    let t = g.T.Turns.turn_of in
+    let f = c.self.inside in
+    let e : ExchangeView _ = record { setup = arc_value f.setup; groups = f.groups.items; stubs = f.stubs.items; passages = f.passages.items; bound = f.bound; held = f.held.items; given = f.given } in
+    let s = system t (arc_value f.setup) in
+    let m = machine s in
+    let G = group_at f.groups.items in
+    let law : Lawful m = subst (λ p. Lawful (machine (system t p))) c.deref.ensures c.machine_is_lawful.ensures.lawful in
+    let v = c.lease.inside.group in
+    let v_is : v ≡ c.args.lease.now = c.lease.view_is ∙ c.in_ok-copies.ensures.same in
+    let of_setup : system t v.setup ≡ s = ap (λ (x : GroupView _). system t x.setup) v_is ∙ sym c.requires.own ∙ sym (ap (λ (x : ExchangeView _). system t x.setup) c.self.view_is) in
+    let is : IsValidExchange s e = c.self.invariant.1 in
+    let valid : IsValidLease m (length s.composition) v = subst (λ x. IsValidLease (machine x) (length x.composition) v) of_setup c.lease.invariant.0 in
+    let known : IsKnown m G (length f.stubs.items) (exchange_of m e) v
+    = subst₂ (λ (x : ExchangeView _) (y : GroupView _). IsKnown (machine_of t x.setup) (group_at x.groups) (length x.stubs) (exchange_of (machine_of t x.setup) x) y) (sym c.self.view_is) (sym v_is) c.requires.known in
+    let dropped : c.drop_below.new.self ≡ record v { base = f.bound; components = cut_all t f.bound v.components } = c.in_ok-lists.ensures.group in
+    let counted : HasCount m (length s.composition) = subst (λ p. HasCount (machine (system t p)) (length (composition (plan_of p)))) c.deref.ensures c.machine_is_lawful.ensures.counted in
+    let copied = subst (λ (x : GroupView _). AreCopies x.out c.in_ok-copies.copies) (sym v_is) c.in_ok-copies.ensures.copies in
+    let all = joined t s law e is v valid known c.drop_below.new.self dropped c.soundness_law.ensures.members c.in_ok-lists.lists.items c.in_ok-lists.ensures.turns (c.group_meeting_law.ensures.falls m G) of_setup c.in_ok-copies.copies copied
+    c.deref-2.result.now c.deref-2.ensures.value c.deref_mut-3.result.now c.deref_mut-3.ensures.value c.pass_on.new.stubs c.pass_on.new.group c.pass_on.ensures.passed c.pass_on.ensures.group c.pass_on.ensures.floor
+    c.components.result.now c.components.ensures c.deref_mut-2.result.now c.deref_mut-2.ensures.value c.deref_mut.result.now c.deref_mut.ensures.value c.put_all_into.new.queues c.put_all_into.ensures
+    c.merging_law.ensures.falls c.merging_law.ensures.outcomes c.flight_law.ensures.appended counted (c.group_meeting_law.ensures.apart m G) (c.group_meeting_law.ensures.met m G) (c.group_exchange_is_sound.ensures.meet m G) in
+    let items : (with_items f.stubs c.pass_on.new.stubs).items ≡ c.pass_on.new.stubs = with_items_is f.stubs c.pass_on.new.stubs (c.pass_on.ensures.passed.many ∙ c.deref_mut-3.ensures.len) in
+    let lists : (with_items f.held c.put_all_into.new.queues).items ≡ c.put_all_into.new.queues = with_items_is f.held c.put_all_into.new.queues (all.long ∙ sym (ap length c.deref_mut.ensures.value) ∙ c.deref_mut.ensures.len) in
+    let new = c.pass_on.new.group in
+    let met = subst₂ (λ stubs queues. Met m G v.number (exchange_of m e) (lease_of m v) (exchange_of m (record e { stubs = stubs; held = queues })) (lease_of m new)) (sym items) (sym lists) all.met in
+    subst₂ (λ (x : ExchangeView _) (y : GroupView _). Met (machine_of t x.setup) (group_at x.groups) y.number (exchange_of (machine_of t x.setup) x) (lease_of (machine_of t x.setup) y)
+    (exchange_of (machine_of t x.setup) (record e { stubs = (with_items f.stubs c.pass_on.new.stubs).items; held = (with_items f.held c.put_all_into.new.queues).items })) (lease_of (machine_of t x.setup) new)) c.self.view_is v_is met
+
+pub returns-clause-same : goal.returns-clause-same
+returns-clause-same g c =
+    let t = g.T.Turns.turn_of in
+    let f = c.self.inside in
+    let e : ExchangeView _ = record { setup = arc_value f.setup; groups = f.groups.items; stubs = f.stubs.items; passages = f.passages.items; bound = f.bound; held = f.held.items; given = f.given } in
+    let s = system t (arc_value f.setup) in
+    let m = machine s in
+    let G = group_at f.groups.items in
+    let law : Lawful m = subst (λ p. Lawful (machine (system t p))) c.deref.ensures c.machine_is_lawful.ensures.lawful in
+    let v = c.lease.inside.group in
+    let v_is : v ≡ c.args.lease.now = c.lease.view_is ∙ c.in_ok-copies.ensures.same in
+    let of_setup : system t v.setup ≡ s = ap (λ (x : GroupView _). system t x.setup) v_is ∙ sym c.requires.own ∙ sym (ap (λ (x : ExchangeView _). system t x.setup) c.self.view_is) in
+    let is : IsValidExchange s e = c.self.invariant.1 in
+    let valid : IsValidLease m (length s.composition) v = subst (λ x. IsValidLease (machine x) (length x.composition) v) of_setup c.lease.invariant.0 in
+    let known : IsKnown m G (length f.stubs.items) (exchange_of m e) v
+    = subst₂ (λ (x : ExchangeView _) (y : GroupView _). IsKnown (machine_of t x.setup) (group_at x.groups) (length x.stubs) (exchange_of (machine_of t x.setup) x) y) (sym c.self.view_is) (sym v_is) c.requires.known in
+    let dropped : c.drop_below.new.self ≡ record v { base = f.bound; components = cut_all t f.bound v.components } = c.in_ok-lists.ensures.group in
+    let counted : HasCount m (length s.composition) = subst (λ p. HasCount (machine (system t p)) (length (composition (plan_of p)))) c.deref.ensures c.machine_is_lawful.ensures.counted in
+    let copied = subst (λ (x : GroupView _). AreCopies x.out c.in_ok-copies.copies) (sym v_is) c.in_ok-copies.ensures.copies in
+    let all = joined t s law e is v valid known c.drop_below.new.self dropped c.soundness_law.ensures.members c.in_ok-lists.lists.items c.in_ok-lists.ensures.turns (c.group_meeting_law.ensures.falls m G) of_setup c.in_ok-copies.copies copied
+    c.deref-2.result.now c.deref-2.ensures.value c.deref_mut-3.result.now c.deref_mut-3.ensures.value c.pass_on.new.stubs c.pass_on.new.group c.pass_on.ensures.passed c.pass_on.ensures.group c.pass_on.ensures.floor
+    c.components.result.now c.components.ensures c.deref_mut-2.result.now c.deref_mut-2.ensures.value c.deref_mut.result.now c.deref_mut.ensures.value c.put_all_into.new.queues c.put_all_into.ensures
+    c.merging_law.ensures.falls c.merging_law.ensures.outcomes c.flight_law.ensures.appended counted (c.group_meeting_law.ensures.apart m G) (c.group_meeting_law.ensures.met m G) (c.group_exchange_is_sound.ensures.meet m G) in
+    subst (λ (y : GroupView _). KeepsMembers y c.pass_on.new.group) v_is all.keeps
