@@ -1,10 +1,9 @@
 -- What a meeting moves is what the theory says, and all stays sound.
 use Rattle.std.proofs.Common.{◌≡◌, ℕ, zero, suc, ◌+◌, ◌-◌, ◌<◌, ◌≤◌, ◌==◌, ◌||◌, ◌⊎◌, inl, inr, Bool, true, false, true≢false, cond, Option, None, Some, List, [], ◌∷◌, map, length, refl, ap, sym, subst, ◌∙◌, arith}
-use Rattle.std.specs.Prelude.{All, nat_lt, slice_get, slice_index_or, slice_set}
-use Rattle.std.specs.Option.{option_or}
+use Rattle.std.specs.Prelude.{All, nat_lt, slice_get, slice_set}
 use Rattle.std.proofs.lemmas.Bool.{eq-eqb, eqb-true, ne_eqb, cases_eq, cases_lt}
 use Rattle.std.proofs.lemmas.List.Elements.{All-head, All-tail}
-use Rattle.std.proofs.lemmas.Option.{slice_get_past, slice_get_within}
+use Rattle.std.proofs.lemmas.Option.{slice_get_past}
 use Rattle.terms.specs.Datum.{Datum}
 use Rattle.terms.specs.Named.{Named}
 use Rattle.event_keys.specs.declared.key.Bound.{Bound}
@@ -12,14 +11,14 @@ use Rattle.event_keys.specs.declared.message.Sign.{Sign}
 use Rattle.event_keys.specs.declared.message.Sign.TheVariants.{Plus, Minus}
 use Rattle.event_keys.specs.declared.message.Signed.{Signed}
 use Rattle.event_keys.specs.declared.outcome.Turned.{Turned}
-use Rattle.event_keys.specs.Ranks.{owner_of, rank_of_bound}
+use Rattle.event_keys.specs.Ranks.{rank_of_bound}
 use Rattle.raw_events.specs.Around.{Around}
 use Rattle.raw_events.specs.Onto.{onto}
 use Rattle.antimessage.specs.Bags.{insert_all}
 use Rattle.antimessage.specs.Counts.{Each}
 use Rattle.antimessage.specs.Order.{IsInOrder}
 use Rattle.virtual_time.specs.Bags.{sends, times}
-use Rattle.virtual_time.specs.Entries.{Item, below}
+use Rattle.virtual_time.specs.Entries.{below}
 use Rattle.virtual_time.specs.Machine.{HasCount, Lawful, Machine}
 use Rattle.virtual_time.specs.Records.{Record, cut_of, turns_among}
 use Rattle.virtual_time.specs.Reference.{Falls, Turn, outcome_at}
@@ -45,14 +44,14 @@ use Rattle.groups.specs.GroupView.{AreMembers, GroupView, history_of, is_member,
 use Rattle.groups.proofs.Placed.{history_there, member_there, own_there}
 use Rattle.group_exchange.specs.declared.stub.Stub.{Stub}
 use Rattle.group_exchange.specs.LeaseView.{IsValidLease}
-use Rattle.group_exchange.specs.Moving.{AreCopies, HasPassedOn, HaveCome, IsReached, among}
-use Rattle.group_exchange.specs.Held.{AreInOrder, AreOwned, ArePuttable, HavePutTo, put_all}
+use Rattle.group_exchange.specs.Moving.{AreCopies, HasPassedOn, HaveCome, among}
+use Rattle.group_exchange.specs.Held.{ArePuttable, HavePutTo, put_all}
 use Rattle.group_exchange.specs.ExchangeView.{AreStubs, ExchangeView, IsStub, IsValidExchange, exchange_of, group_at, inbox_in, inbox_of, stub_of, stub_or_none}
 use Rattle.group_exchange.specs.Seen.{IsKnown}
 use Rattle.group_exchange.proofs.Agreeing.{lease_agrees, matches_agrees}
 use Rattle.group_exchange.proofs.Below.{onto_back}
 use Rattle.group_exchange.proofs.Owned.{IsOf, done_own}
-use Rattle.group_exchange.proofs.Placing.{get_none, get_other, get_same, get_there, none_some, one_some, slice_set-length}
+use Rattle.group_exchange.proofs.Placing.{get_none, get_other, get_same, get_there, none_some, one_some}
 use Rattle.group_exchange.proofs.Putting.{IsPut, MergedFalls, MergedOutcomes, outcomes, put_some}
 use Rattle.group_exchange.proofs.Receiving.{nothing_there}
 

@@ -1,11 +1,10 @@
 -- What is said of a group rests on who its members are alone.
-use Rattle.std.proofs.Common.{◌≡◌, ℕ, ◌+◌, ◌==◌, ◌⊎◌, inl, inr, Bool, cond, List, [], refl, ap, sym, subst, ◌∙◌}
+use Rattle.std.proofs.Common.{◌≡◌, ℕ, ◌+◌, ◌==◌, ◌⊎◌, inl, inr, cond, ap, sym, ◌∙◌}
 use Rattle.std.proofs.lemmas.Bool.{cases_eq, eq-eqb, eqb-true, ne_eqb}
-use Rattle.virtual_time.specs.Bags.{inputs, sends, times}
-use Rattle.virtual_time.specs.Groups.Leases.{IsFloor, IsLease, Lease, Matches}
+use Rattle.virtual_time.specs.Bags.{sends, times}
+use Rattle.virtual_time.specs.Groups.Leases.{IsLease, Lease, Matches}
 use Rattle.virtual_time.specs.Groups.Stubs.{Stub, between, within}
 use Rattle.virtual_time.specs.Machine.{Machine}
-use Rattle.virtual_time.specs.Worlds.{Part}
 
 -- equality of numbers either way round
 swapped : (a b : ℕ) → (a == b) ≡ (b == a)

@@ -1,5 +1,5 @@
 -- A chunk is the reference's next turns.
-use Rattle.std.proofs.Common.{◌≡◌, ℕ, zero, suc, ◌+◌, ◌*◌, ◌<◌, ◌≤◌, ◌^◌, ◌++◌, ◌⊎◌, inl, inr, Some, List, [], ◌∷◌, map, length, refl, ap, sym, subst, ◌∙◌, arith}
+use Rattle.std.proofs.Common.{◌≡◌, ℕ, zero, suc, ◌+◌, ◌*◌, ◌<◌, ◌≤◌, ◌^◌, ◌++◌, ◌⊎◌, inl, inr, Some, List, [], ◌∷◌, map, length, ap, sym, subst, ◌∙◌, arith}
 use Rattle.std.specs.Prelude.{slice_get, slice_index_or}
 use Rattle.std.specs.List.{Contains}
 use Rattle.std.proofs.lemmas.Bool.{cases_lt}
@@ -12,7 +12,7 @@ use Rattle.event_keys.specs.declared.key.Bound.TheVariants.{End}
 use Rattle.event_keys.specs.Ranks.{rank_of_bound}
 use Rattle.virtual_time.specs.Machine.{Machine, HasCount}
 use Rattle.virtual_time.specs.Reference.{Falls, Point, point, reference_below, turns_of as taken_of}
-use Rattle.virtual_time.specs.Groups.Stubs.{Stub as StubSeen, IsSound}
+use Rattle.virtual_time.specs.Groups.Stubs.{IsSound}
 use Rattle.virtual_time.specs.Groups.Meetings.{IsChunk}
 use Rattle.gvt.specs.Least.{IsLeast}
 use Rattle.task_seed.specs.Turning.{System}

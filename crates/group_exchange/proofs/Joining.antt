@@ -1,5 +1,5 @@
 -- A meeting as it is done, part by part.
-use Rattle.std.proofs.Common.{◌≡◌, ℕ, ◌<◌, ◌≤◌, ◌==◌, ◌⊎◌, inl, inr, true, Option, Some, List, [], ◌∷◌, length, refl, ap, sym, subst, subst₂, ◌∙◌, arith}
+use Rattle.std.proofs.Common.{◌≡◌, ℕ, ◌<◌, ◌≤◌, ◌==◌, ◌⊎◌, inl, inr, Option, Some, List, [], ◌∷◌, length, ap, sym, subst, subst₂, ◌∙◌, arith}
 use Rattle.std.specs.Prelude.{slice_get}
 use Rattle.std.proofs.lemmas.Bool.{cases_lt, eq-eqb, eqb-true}
 use Rattle.terms.specs.Datum.{Datum}
@@ -14,7 +14,7 @@ use Rattle.antimessage.specs.Counts.{Each}
 use Rattle.virtual_time.specs.Entries.{below}
 use Rattle.virtual_time.specs.Machine.{HasCount, Lawful, Machine}
 use Rattle.virtual_time.specs.Records.{Record, turns_among}
-use Rattle.virtual_time.specs.Reference.{Falls, Turn}
+use Rattle.virtual_time.specs.Reference.{Falls}
 use Rattle.virtual_time.specs.Groups.Leases.{IsFloor, Matches}
 use Rattle.virtual_time.specs.Groups.Stubs.{Exchange}
 use Rattle.virtual_time.specs.Groups.Meetings.{Met}

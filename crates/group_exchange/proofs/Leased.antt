@@ -1,22 +1,20 @@
 -- What a lease does by itself.
-use Rattle.std.proofs.Common.{◌≡◌, ℕ, zero, suc, ◌≤◌, ◌==◌, ◌⊎◌, inl, inr, Bool, true, false, true≢false, cond, Option, List, [], ◌∷◌, length, refl, ap, sym, subst, ◌∙◌, arith}
-use Rattle.std.proofs.lemmas.Bool.{and_parts, cases_eq, eq-eqb, eqb-true, ne_eqb, or_cases}
+use Rattle.std.proofs.Common.{◌≡◌, ℕ, zero, suc, ◌==◌, ◌⊎◌, inl, inr, Bool, true, false, true≢false, cond, Option, List, [], ◌∷◌, refl, ap, sym, subst, ◌∙◌, arith}
+use Rattle.std.proofs.lemmas.Bool.{and_parts, cases_eq, eq-eqb, eqb-true, ne_eqb}
 use Rattle.terms.specs.Datum.{Datum}
 use Rattle.terms.specs.Named.{Named}
-use Rattle.event_keys.specs.declared.key.Bound.{Bound}
 use Rattle.event_keys.specs.declared.message.Sign.{Sign}
 use Rattle.event_keys.specs.declared.message.Sign.TheVariants.{Plus, Minus}
 use Rattle.event_keys.specs.declared.message.Signed.{Signed}
 use Rattle.event_keys.specs.Ranks.{rank_of_bound}
 use Rattle.virtual_time.specs.Machine.{HasCount, Lawful, Machine}
-use Rattle.virtual_time.specs.Worlds.{Part}
 use Rattle.virtual_time.specs.Groups.Leases.{IsLease, Lease, Matches, alone, lease_of as lease_in}
 use Rattle.rollback.specs.Flight.{goes, in_flight, is_sign}
 use Rattle.rollback.specs.ComponentView.{ComponentView, machine_of, start_record}
 use Rattle.task_seed.specs.declared.setup.Setup.{Setup}
 use Rattle.task_seed.specs.declared.turns.Turn.{Turn}
-use Rattle.groups.specs.GroupView.{AreMembers, GroupView, frames, has_number, history_of, is_member, lease_of}
-use Rattle.groups.specs.Moves.{Delivers, IsAhead, IsSettled, IsStepped, KeepsGroup, Leads, MovesBy}
+use Rattle.groups.specs.GroupView.{AreMembers, GroupView, frames, history_of, is_member, lease_of}
+use Rattle.groups.specs.Moves.{IsAhead, IsSettled, KeepsGroup, Leads, MovesBy}
 use Rattle.groups.specs.Open.{AllInside, AllOutside}
 use Rattle.groups.proofs.Moved.{inside_none}
 use Rattle.groups.proofs.Placed.{members_same}

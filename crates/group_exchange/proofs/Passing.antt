@@ -1,5 +1,5 @@
 -- Turns below a bound are counted.
-use Rattle.std.proofs.Common.{◌≡◌, ℕ, zero, suc, List, [], ◌∷◌, ◌+◌, ◌<◌, ◌≤◌, ◌⊎◌, inl, inr, Bool, true, false, None, Some, refl, ap, sym, subst, ◌∙◌, arith}
+use Rattle.std.proofs.Common.{◌≡◌, ℕ, suc, List, ◌+◌, ◌<◌, ◌≤◌, ◌⊎◌, inl, inr, Bool, true, false, None, Some, refl, ap, sym, subst, ◌∙◌, arith}
 use Rattle.std.specs.Prelude.{if◌then◌else◌, ◌&&◌, nat_lt, ◌==◌, length, IfSome, slice_get, option_map}
 use Rattle.std.specs.Prelude.{slice_set, slice_index_or}
 use Rattle.std.proofs.lemmas.Option.{slice_get-get_or, slice_get_past, slice_get_within}
@@ -8,7 +8,7 @@ use Rattle.event_keys.specs.declared.key.Key.{Key}
 use Rattle.event_keys.specs.Ranks.{rank}
 use Rattle.virtual_time.specs.Machine.{Lawful}
 use Rattle.virtual_time.specs.Reference.{point, turns_of}
-use Rattle.group_exchange.proofs.Placing.{get_same, get_other, slice_set-length}
+use Rattle.group_exchange.proofs.Placing.{get_same, get_other}
 use Rattle.group_exchange.specs.declared.passage.Passage.{Passage}
 use Rattle.task_seed.specs.Turning.{System, key_of, key_at, ticks, has_turns}
 use Rattle.task_seed.specs.Machines.{machine, turn_rank, end_rank}

@@ -2,29 +2,21 @@
 use Rattle.std.proofs.Common.{◌≡◌, ℕ, zero, suc, ◌+◌, ◌<◌, ◌≤◌, ◌==◌, ◌⊎◌, inl, inr, Bool, true, false, true≢false, cond, Option, None, Some, List, [], ◌∷◌, length, refl, ap, sym, subst, ◌∙◌, arith}
 use Rattle.std.specs.Prelude.{slice_get, slice_set}
 use Rattle.std.specs.Option.{option_or}
-use Rattle.std.proofs.lemmas.Bool.{cases_eq, eq-eqb, ne_eqb}
+use Rattle.std.proofs.lemmas.Bool.{cases_eq, ne_eqb}
 use Rattle.std.proofs.lemmas.Option.{slice_get_within}
-use Rattle.terms.specs.Datum.{Datum}
 use Rattle.terms.specs.Named.{Named}
-use Rattle.event_keys.specs.declared.key.Bound.{Bound}
 use Rattle.event_keys.specs.declared.outcome.Turned.{Turned}
-use Rattle.event_keys.specs.Ranks.{owner_of, rank_of_bound}
+use Rattle.event_keys.specs.Ranks.{owner_of}
 use Rattle.raw_events.specs.Around.{Around}
-use Rattle.raw_events.specs.Onto.{onto}
 use Rattle.antimessage.specs.Counts.{Each}
-use Rattle.virtual_time.specs.Entries.{below}
-use Rattle.virtual_time.specs.Machine.{Lawful, Machine}
-use Rattle.virtual_time.specs.Records.{turns_among}
 use Rattle.virtual_time.specs.Reference.{Falls, Turn, outcome_at}
 use Rattle.virtual_time.specs.Exchange.Merged.{put_turns}
 use Rattle.task_seed.specs.Taken.{turns_of}
 use Rattle.rollback.specs.ComponentView.{ComponentView}
 use Rattle.groups.specs.Crew.{AreApart}
-use Rattle.groups.specs.Dropping.{AreGivenUp}
-use Rattle.groups.specs.GroupView.{AreMembers, history_of, is_member}
-use Rattle.groups.proofs.Placed.{history_there, member_at, member_there}
-use Rattle.group_exchange.specs.Held.{AreInOrder, AreOwned, ArePuttable, HasPut, HasPutOne, HavePutTo, put_all}
-use Rattle.group_exchange.proofs.Below.{onto_back}
+use Rattle.groups.specs.GroupView.{AreMembers, is_member}
+use Rattle.groups.proofs.Placed.{member_at, member_there}
+use Rattle.group_exchange.specs.Held.{AreInOrder, AreOwned, HasPut, HasPutOne, HavePutTo, put_all}
 use Rattle.group_exchange.proofs.Lists.{length_set, order_at, put_at}
 use Rattle.group_exchange.proofs.Owned.{IsOf, owned_at}
 use Rattle.group_exchange.proofs.Placing.{get_other, one_some, slice_set-length}

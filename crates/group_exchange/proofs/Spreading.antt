@@ -1,7 +1,7 @@
 -- What is outgoing comes to the stubs of its receivers' groups, one receiver after the other.
 use Rattle.std.proofs.Common.{◌≡◌, ℕ, suc, ◌+◌, ◌-◌, ◌<◌, ◌≤◌, ◌==◌, ◌⊎◌, inl, inr, Bool, true, false, not, None, Some, List, [], ◌∷◌, ◌++◌, filter, length, refl, ap, sym, subst, ◌∙◌, arith}
 use Rattle.std.specs.Prelude.{if◌then◌else◌, slice_get, slice_set, slice_index_or}
-use Rattle.std.proofs.lemmas.Bool.{eq-eqb, ne_eqb, cases_eq, cases_lt}
+use Rattle.std.proofs.lemmas.Bool.{eq-eqb, cases_eq, cases_lt}
 use Rattle.std.proofs.lemmas.Option.{slice_get-get_or, slice_get_within}
 use Rattle.terms.specs.Named.{Named}
 use Rattle.event_keys.specs.declared.key.Bound.{Bound}
@@ -18,7 +18,7 @@ use Rattle.task_seed.specs.Machines.{machine}
 use Rattle.group_exchange.specs.declared.stub.Stub.{Stub}
 use Rattle.group_exchange.specs.ExchangeView.{AreStubs, IsStub}
 use Rattle.group_exchange.specs.Moving.{AllCome, HasMetStub, HasPassedOn, HaveCome, IsArrived, IsBrought, IsReached, among, first_receiver}
-use Rattle.group_exchange.proofs.Receiving.{To, left_else, left_here, none_else, split_else, split_here, to_alone}
+use Rattle.group_exchange.proofs.Receiving.{left_else, left_here, none_else, split_else, split_here, to_alone}
 use Rattle.group_exchange.proofs.Placing.{get_other, get_same, slice_set-length}
 
 left_few : (i : ℕ) (xs : List Signed) → length (filter (λ s. not (is_to i s)) xs) ≤ length xs

@@ -1,15 +1,14 @@
 -- At the start all is sound, and each lease matches its stub.
-use Rattle.std.proofs.Common.{◌≡◌, ℕ, zero, suc, ◌+◌, ◌<◌, ◌≤◌, ◌==◌, ◌⊎◌, inl, inr, Bool, cond, Option, None, Some, List, [], ◌∷◌, ◌++◌, map, length, refl, ap, sym, subst, ◌∙◌, arith}
-use Rattle.std.specs.Prelude.{min, nat_lt, replicate, slice_get, slice_index_or, IfSome}
+use Rattle.std.proofs.Common.{◌≡◌, ℕ, zero, suc, ◌+◌, ◌<◌, ◌≤◌, ◌⊎◌, inl, inr, Option, None, Some, List, [], ◌∷◌, ◌++◌, map, length, refl, ap, sym, subst, ◌∙◌, arith}
+use Rattle.std.specs.Prelude.{replicate, slice_get, IfSome}
 use Rattle.std.specs.List.{range_with_len}
-use Rattle.std.proofs.lemmas.Bool.{cases_lt, eq-eqb, le-ltb, lt-ltb, ne_eqb}
+use Rattle.std.proofs.lemmas.Bool.{cases_lt, le-ltb, lt-ltb, ne_eqb}
 use Rattle.std.proofs.lemmas.List.{length-append, length-map, length-replicate}
 use Rattle.std.proofs.lemmas.List.FromFn.{length-map-range_with_len}
 use Rattle.event_keys.specs.declared.key.Key.{Key}
-use Rattle.event_keys.specs.declared.message.Sign.{Sign}
 use Rattle.event_keys.specs.declared.message.Sign.TheVariants.{Plus, Minus}
 use Rattle.event_keys.specs.Ranks.{rank_of_bound}
-use Rattle.virtual_time.specs.Machine.{Lawful, Machine}
+use Rattle.virtual_time.specs.Machine.{Machine}
 use Rattle.virtual_time.specs.Rules.{IsWorld}
 use Rattle.virtual_time.specs.Worlds.{start_world}
 use Rattle.virtual_time.specs.Groups.Leases.{IsLease, Lease, Matches, start_lease}
@@ -24,15 +23,14 @@ use Rattle.task_seed.specs.declared.setup.Setup.{Setup}
 use Rattle.task_seed.specs.declared.turns.Turn.{Turn}
 use Rattle.task_seed.specs.Setups.{plan_of, system}
 use Rattle.task_seed.specs.Turning.{System, key_of}
-use Rattle.task_seed.specs.Machines.{machine}
 use Rattle.partitions.specs.Partitions.{IsPartition}
 use Rattle.groups.specs.GroupView.{AreMembers, GroupView, group_in, lease_of}
 use Rattle.group_exchange.specs.declared.passage.Passage.{Passage}
 use Rattle.group_exchange.specs.declared.stub.Stub.{Stub}
 use Rattle.group_exchange.specs.LeaseView.{IsValidLease}
-use Rattle.group_exchange.specs.ExchangeView.{ExchangeView, IsPassage, IsStub, IsValidExchange, exchange_of, group_at, inbox_in, inbox_of, stub_or_none}
+use Rattle.group_exchange.specs.ExchangeView.{ExchangeView, IsPassage, IsStub, IsValidExchange, exchange_of, group_at, inbox_of, stub_or_none}
 use Rattle.group_exchange.specs.Core.{StandFor}
-use Rattle.group_exchange.specs.Held.{AreInOrder, AreOwned, put_all}
+use Rattle.group_exchange.specs.Held.{AreInOrder, put_all}
 use Rattle.group_exchange.specs.Start.{AreStarted, IsStarted, lease_or_start, leases_of, start_passage, start_shared, stub_of_lease}
 use Rattle.group_exchange.proofs.Agreeing.{lease_agrees, matches_agrees}
 use Rattle.group_exchange.proofs.Accepting.{group_below, group_beyond}

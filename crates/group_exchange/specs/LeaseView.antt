@@ -7,7 +7,7 @@ use Rattle.virtual_time.specs.Machine.{Machine}
 use Rattle.virtual_time.specs.Groups.Leases.{IsLease, Matches}
 use Rattle.virtual_time.specs.Groups.Stubs.{Stub}
 use Rattle.rollback.specs.Flight.{in_flight}
-use Rattle.groups.specs.GroupView.{AreMembers, GroupView, frames, is_member, lease_of}
+use Rattle.groups.specs.GroupView.{AreMembers, GroupView, is_member, lease_of}
 
 module _ {P : Type 0} where
   -- whatever the groups of the other components: it has what each lease of the theory has, and matches some stub; there are so many

@@ -1,5 +1,5 @@
 -- What a meeting moves from a lease to the stubs, and from its stub to the lease.
-use Rattle.std.specs.Prelude.{◌≡◌, ℕ, ◌+◌, ◌-◌, ◌⊎◌, cond, nat_lt, Bool, Option, None, Some, List, [], ◌∷◌, length, slice_get, slice_set}
+use Rattle.std.specs.Prelude.{◌≡◌, ℕ, ◌+◌, ◌-◌, cond, nat_lt, Bool, Option, None, Some, List, [], ◌∷◌, length, slice_get, slice_set}
 use Rattle.terms.specs.Named.{Named}
 use Rattle.event_keys.specs.declared.key.Bound.{Bound}
 use Rattle.event_keys.specs.declared.message.Sign.{Sign}

@@ -5,7 +5,7 @@ use Rattle.terms.specs.Named.{Named}
 use Rattle.virtual_time.specs.Machine.{Machine}
 use Rattle.virtual_time.specs.Reference.{Turn as Taken}
 use Rattle.virtual_time.specs.Worlds.{Commit, Step}
-use Rattle.virtual_time.specs.Groups.Leases.{IsLease, Lease, Matches}
+use Rattle.virtual_time.specs.Groups.Leases.{Lease, Matches}
 use Rattle.virtual_time.specs.Groups.Meetings.{IsChunk, IsCommit, Met}
 use Rattle.virtual_time.specs.Groups.Stubs.{Exchange, IsSound}
 use Rattle.virtual_time.specs.Groups.Wholes.{put_lease}

@@ -1,4 +1,4 @@
-use Rattle.std.proofs.Common.{◌≡◌, ap, sym, subst, ◌∙◌}
+use Rattle.std.proofs.Common.{ap, sym, subst, ◌∙◌}
 use Rattle.event_keys.specs.Ranks.{rank_of_bound}
 use Rattle.virtual_time.specs.Groups.Leases.{IsFloor}
 use Rattle.groups.specs.GroupView.{AreMembers, GroupView, lease_of}

@@ -6,7 +6,7 @@ use Rattle.plans.specs.Plans.{composition}
 use Rattle.task_seed.specs.Setups.{plan_of, system}
 use Rattle.virtual_time.specs.Machine.{HasCount, Lawful}
 use Rattle.rollback.specs.ComponentView.{lowest_bound, machine_of}
-use Rattle.group_exchange.specs.ExchangeView.{ExchangeView, IsValidExchange, group_at}
+use Rattle.group_exchange.specs.ExchangeView.{IsValidExchange, group_at}
 use Rattle.group_exchange.specs.Start.{start_passage, start_shared}
 use Rattle.group_exchange.proofs.Starting.{shared_kept}
 use Rattle.group_exchange.proofs.start.begin.Goals as goal

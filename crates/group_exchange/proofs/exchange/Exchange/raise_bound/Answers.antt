@@ -1,4 +1,4 @@
-use Rattle.std.proofs.Common.{◌≡◌, ℕ, map, length, refl, sym, ap, subst, ◌∙◌}
+use Rattle.std.proofs.Common.{◌≡◌, ℕ, map, length, sym, ap, subst, ◌∙◌}
 use Rattle.std.specs.Prelude.{slice_get, option_map, Some}
 use Rattle.std.specs.Arc.{arc_value}
 use Rattle.std.specs.Vec.{with_items}
@@ -6,8 +6,7 @@ use Rattle.std.proofs.lemmas.List.{with_items_is}
 use Rattle.event_keys.specs.Ranks.{rank_of_bound}
 use Rattle.virtual_time.specs.Machine.{Lawful}
 use Rattle.virtual_time.specs.Groups.Meetings.{IsCommit}
-use Rattle.plans.specs.Plans.{composition}
-use Rattle.task_seed.specs.Setups.{system, plan_of}
+use Rattle.task_seed.specs.Setups.{system}
 use Rattle.task_seed.specs.Machines.{machine}
 use Rattle.rollback.specs.ComponentView.{machine_of}
 use Rattle.gvt.specs.Least.{IsLeast}

@@ -6,7 +6,6 @@ use Rattle.event_keys.specs.Ranks.{rank, rank_of_bound}
 use Rattle.task_seed.specs.Machines.{turn_rank}
 use Rattle.task_seed.specs.Setups.{system}
 use Rattle.task_seed.specs.Turning.{key_of}
-use Rattle.group_exchange.specs.declared.passage.Passage.{Passage}
 use Rattle.group_exchange.specs.ExchangeView.{is_ahead_below}
 use Rattle.group_exchange.proofs.Passing.{number_is, rank_some}
 use Rattle.group_exchange.proofs.passage.Passage.pass_turns.Goals as goal
