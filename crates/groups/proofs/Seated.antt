@@ -9,13 +9,16 @@ use Rattle.event_keys.specs.declared.key.Key.{Key}
 use Rattle.event_keys.specs.Ranks.{rank, rank_of_bound}
 use Rattle.task_seed.specs.declared.setup.Setup.{Setup}
 use Rattle.task_seed.specs.declared.turns.Turn.{Turn}
-use Rattle.rollback.specs.ComponentView.{ComponentView}
+use Rattle.terms.specs.Named.{Named}
+use Rattle.virtual_time.specs.Bags.{IsSorted}
+use Rattle.virtual_time.specs.Entries.{Item}
+use Rattle.rollback.specs.ComponentView.{ComponentView, machine_of}
 use Rattle.groups.specs.declared.seats.Seat.{Seat}
 use Rattle.groups.specs.Crew.{ArePlaced, AreSeated, AreSeatedBut, AreSeatedIn, AreSeatedTo, IsSeatOf, place_in}
 use Rattle.groups.specs.GroupView.{is_member, key_of_next}
 use Rattle.groups.specs.Open.{IsFirst, NothingIsNext}
 use Rattle.groups.specs.Tournament.{IsTournament, empty, key_at, node}
-use Rattle.groups.proofs.Placed.{member_at, member_there, set_other}
+use Rattle.groups.proofs.Placed.{member_at, member_there, one_some, set_other, set_there}
 use Rattle.groups.proofs.Played.{all_empty, root_low, root_reached}
 
 pub there_within : {X : Type 0} (xs : List X) (i : ℕ) → i < length xs → (x : X) × (slice_get xs i ≡ Some x)
@@ -50,6 +53,24 @@ module _ {T : Type 0} (turn_of : T → ℕ → ℕ → Option Turn) where
         tournament = subst (λ n. IsTournament n seats) (sym many) is.tournament;
         each = λ p c ne there. subst (λ n. IsSeatOf turn_of p c (node seats (n + p))) (sym many) (is.each p c tt (sym (set_other cs place new p ne) ∙ there));
       }
+
+  -- where the next key of one stays, and its pending inputs, the seats stay
+  pub cut_seated : (cs : List (ComponentView (Setup T))) (place : ℕ) (c new : ComponentView (Setup T)) (seats : List Seat) → slice_get cs place ≡ Some c → key_of_next turn_of new ≡ key_of_next turn_of c → new.setup ≡ c.setup → new.history.pending ≡ c.history.pending
+      → AreSeated turn_of cs seats → AreSeated turn_of (slice_set cs place new) seats
+  cut_seated cs place c new seats at next setup pending is =
+      let many : length (slice_set cs place new) ≡ length cs = length-set cs place new in
+      record {
+        tournament = subst (λ n. IsTournament n seats) (sym many) is.tournament;
+        each = λ p d all there. subst (λ n. IsSeatOf turn_of p d (node seats (n + p))) (sym many) (go p d there (cases_eq p place));
+      }
+    where
+      go : (p : ℕ) (d : ComponentView (Setup T)) → slice_get (slice_set cs place new) p ≡ Some d → (p ≡ place) ⊎ (p ≡ place → ⊥) → IsSeatOf turn_of p d (node seats (length cs + p))
+      go p d there (inr ne) = is.each p d tt (sym (set_other cs place new p ne) ∙ there)
+      go p d there (inl e) =
+          let same : new ≡ d = one_some new d (sym (set_there cs place c new at) ∙ ap (slice_get (slice_set cs place new)) (sym e) ∙ there) in
+          let old : IsSeatOf turn_of p c (node seats (length cs + p)) = is.each p c tt (ap (slice_get cs) e ∙ at) in
+          subst (λ x. IsSeatOf turn_of p x (node seats (length cs + p))) same
+          (old.0, old.1 ∙ sym next, subst (λ p. IsSorted (machine_of turn_of p) new.history.pending) (sym setup) (subst (IsSorted (machine_of turn_of c.setup)) (sym pending) old.2))
 
   module _ (cs : List (ComponentView (Setup T))) (seats : List Seat) (is : AreSeated turn_of cs seats) where
     abbrev n : ℕ

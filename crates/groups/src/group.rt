@@ -282,6 +282,14 @@ impl<T: Turns> Group<T> {
         }
     }
 
+    /// Adds spare cells of turns that are of no use any more. They serve for its components' next turns, which then take no memory for it.
+    pub fn add_spare(&mut self, spare: &mut EventList<Turned>)
+        ensures kept { self.new ≡ self.old }
+        ensures empty { spare.new ≡ record { before = []; after = [] } }
+    {
+        self.members.add_spare(spare);
+    }
+
     /// Each component gives up its done entries below a bound, and the bound becomes the base: fossil collection. The answer is the own turns
     /// among them, of each component a list, in order of their numbers, the oldest turn first. The caller's bound is neither below the base
     /// nor above what the group has to do. Where memory is refused nothing changes.

@@ -32,6 +32,8 @@ pub(crate) struct Members<T: Turns> {
     places: Vec<u16>,
     // A tournament of what each has to do next.
     seats: Vec<Seat>,
+    // Cells of turns that are of no use any more.
+    spare: EventList<Turned>,
 }
 
 impl<T: Turns> Model for Members<T> {
@@ -91,6 +93,7 @@ impl<T: Turns> Members<T> {
             components: placed.components,
             places: placed.places,
             seats,
+            spare: EventList::new(),
         })
     }
 
@@ -161,6 +164,14 @@ impl<T: Turns> Members<T> {
         )
     }
 
+    // Adds spare cells of turns.
+    pub(crate) fn add_spare(&mut self, spare: &mut EventList<Turned>)
+        ensures kept { self.new ≡ self.old }
+        ensures empty { spare.new ≡ record { before = []; after = [] } }
+    {
+        self.spare.append_all(spare);
+    }
+
     // Each gives up its done entries below a bound. The answer is the own turns among them, of each a list, in order of their numbers.
     pub(crate) fn drop_below(
         &mut self,
@@ -176,7 +187,7 @@ impl<T: Turns> Members<T> {
         ensures kept { OnErr result (self.new ≡ self.old) }
     {
         let mut lists = no_turns(alloc, self.components.len())?;
-        drop_all(&mut self.components, &mut self.seats, bound, &mut lists);
+        drop_all(&mut self.components, bound, &mut self.spare, &mut lists);
         self.base = bound;
         Ok(lists)
     }

@@ -1,22 +1,11 @@
 use Rattle.std.proofs.Common.{◌≡◌, ◌+◌, ◌<◌, Some, suc, length, refl, sym, subst, ap, ◌∙◌, arith}
 use Rattle.std.specs.Prelude.{slice_get, slice_set}
 use Rattle.std.proofs.lemmas.List.{length-set}
-use Rattle.groups.specs.Crew.{AreSeatedBut}
+use Rattle.groups.specs.Crew.{AreSeated}
 use Rattle.groups.specs.Dropping.{cut_to}
 use Rattle.groups.proofs.Dropped.{AreGivenTo, all_given, cut_end, cut_first, cut_more, cut_there, one_given}
-use Rattle.groups.proofs.Seated.{others_seated, there_within}
+use Rattle.groups.proofs.Seated.{cut_seated, there_within}
 use Rattle.groups.proofs.dropping.drop_all.Goals as goal
-
-pub seat_anew-requires-clause-others : goal.seat_anew-requires-clause-others
-seat_anew-requires-clause-others g c = λ _ _.
-    let t = g.T.Turns.turn_of in
-    let b = c.args.bound in
-    let l = c.loop-place in
-    let test = c.loop-place-test.true in
-    let long = l.auto.components in
-    let within : l.place < length l.components = omega (arith, test, long) in
-    let found = there_within l.components l.place within in
-    subst (λ xs. AreSeatedBut t xs l.place l.seats) (sym (c.drop_at.ensures.components found.0 found.1)) (others_seated t l.components l.place (cut_to t b found.0) l.seats l.invariant.seated)
 
 pub loop-place-preserved : goal.loop-place-preserved
 loop-place-preserved g c =
@@ -33,7 +22,7 @@ loop-place-preserved g c =
     record {
       components = c.drop_at.ensures.components found.0 found.1 ∙ ap (λ xs. slice_set xs l.place (cut_to t b found.0)) l.invariant.components ∙ cut_more t b l.place cs found.0 first ∙ ap (λ n. cut_first t b n cs) one;
       given = one_given t b l.place cs found.0 l.lists (slice_set l.lists l.place c.drop_at.result) c.drop_at.result first (c.drop_at.ensures.given found.0 found.1) refl (length-set l.lists l.place c.drop_at.result) l.invariant.given;
-      seated = c.seat_anew.ensures;
+      seated = λ seats is. subst (λ xs. AreSeated t xs seats) (sym (c.drop_at.ensures.components found.0 found.1)) (cut_seated t l.components l.place found.0 (cut_to t b found.0) seats found.1 (c.drop_at.ensures.next found.0 found.1) refl refl (l.invariant.seated seats is));
     }
 
 pub returns-clause-components : goal.returns-clause-components

@@ -1,4 +1,5 @@
-use Rattle.std.proofs.Common.{◌≡◌}
+use Rattle.std.proofs.Common.{◌≡◌, List}
+use Rattle.groups.specs.declared.seats.Seat.{Seat}
 use Rattle.groups.specs.Crew.{AreSeated}
 use Rattle.groups.proofs.Dropped.{AreGivenTo, cut_first}
 use Rattle.groups.proofs.dropping.drop_all.Given as goal
@@ -9,5 +10,5 @@ invariant-loop-place g l =
     record {
       components : l.components ≡ cut_first t l.bound l.place l.initial.components;
       given : AreGivenTo t l.bound l.place l.initial.components l.lists;
-      seated : AreSeated t l.components l.seats;
+      seated : (seats : List Seat) → AreSeated t l.initial.components seats → AreSeated t l.components seats;
     }
