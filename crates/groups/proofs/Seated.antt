@@ -4,14 +4,9 @@ use Rattle.std.specs.Prelude.{nat_lt, slice_get, slice_set, replicate}
 use Rattle.std.proofs.lemmas.Bool.{cases_eq, cases_lt, lt-ltb, le-ltb, ltb-true}
 use Rattle.std.proofs.lemmas.List.{length-set}
 use Rattle.std.proofs.lemmas.Option.{get_or_from_slice_get, slice_get_within}
-use Rattle.event_keys.specs.declared.key.Bound.TheVariants.{At, End}
-use Rattle.event_keys.specs.declared.key.Key.{Key}
-use Rattle.event_keys.specs.Ranks.{rank, rank_of_bound}
 use Rattle.task_seed.specs.declared.setup.Setup.{Setup}
 use Rattle.task_seed.specs.declared.turns.Turn.{Turn}
-use Rattle.terms.specs.Named.{Named}
 use Rattle.virtual_time.specs.Bags.{IsSorted}
-use Rattle.virtual_time.specs.Entries.{Item}
 use Rattle.rollback.specs.ComponentView.{ComponentView, machine_of}
 use Rattle.groups.specs.declared.seats.Seat.{Seat}
 use Rattle.groups.specs.Crew.{ArePlaced, AreSeated, AreSeatedBut, AreSeatedIn, AreSeatedTo, IsSeatOf, place_in}
@@ -84,8 +79,8 @@ module _ {T : Type 0} (turn_of : T → ℕ → ℕ → Option Turn) where
         omega (arith, low, same)
 
     -- the one at the root
-    pub first_is : (seat : Seat) (key : Key) → seat ≡ node seats 1 → seat.next ≡ At key → rank key < 2 ^ 144 → 0 < n → IsFirst turn_of cs seat.place
-    first_is seat key root next small some =
+    pub first_is : (seat : Seat) → seat ≡ node seats 1 → key_at seat < 2 ^ 144 → 0 < n → IsFirst turn_of cs seat.place
+    first_is seat root small some =
         let one = root_reached n seats is.tournament some in
         let found = there_within cs one.index one.within in
         let its = is.each one.index found.0 tt found.1 in
@@ -93,19 +88,18 @@ module _ {T : Type 0} (turn_of : T → ℕ → ℕ → Option Turn) where
         let at_root : key_at seat ≡ key_at (node seats 1) = ap key_at root in
         let at_leaf : key_at (node seats 1) ≡ key_at (node seats (n + one.index)) = ap key_at one.is in
         let its_key = its.1 in
-        let ranked : key_at seat ≡ rank key = ap rank_of_bound next in
         record {
           c = found.0;
           there = subst (λ p. slice_get cs p ≡ Some found.0) (sym place) found.1;
-          key = omega (arith, at_root, at_leaf, its_key, ranked, small);
+          key = omega (arith, at_root, at_leaf, its_key, small);
           least = λ q d there. let low = root_least q d there in omega (arith, low, at_leaf, its_key);
         }
 
-    pub none_first : (seat : Seat) → seat ≡ node seats 1 → seat.next ≡ End → NothingIsNext turn_of cs
-    none_first seat root next = λ q d there.
+    pub none_first : (seat : Seat) → seat ≡ node seats 1 → 2 ^ 144 ≤ key_at seat → NothingIsNext turn_of cs
+    none_first seat root none = λ q d there.
         let low = root_least q d there in
-        let ended : key_at (node seats 1) ≡ 2 ^ 144 = ap key_at (sym root) ∙ ap rank_of_bound next in
-        omega (arith, low, ended)
+        let ended : key_at seat ≡ key_at (node seats 1) = ap key_at root in
+        omega (arith, low, ended, none)
 
     pub nobody_first : n ≡ 0 → NothingIsNext turn_of cs
     nobody_first none = λ q d there. let within = slice_get_within cs q d there in absurd (omega (arith, within, none))
@@ -116,11 +110,11 @@ module _ {T : Type 0} (turn_of : T → ℕ → ℕ → Option Turn) where
     at_root : (seat : Seat) → slice_get seats 1 ≡ Some seat → seat ≡ node seats 1
     at_root seat e = sym (get_or_from_slice_get seats 1 seat empty e)
 
-    pub first_of : (seat : Seat) (key : Key) → slice_get seats 1 ≡ Some seat → seat.next ≡ At key → rank key < 2 ^ 144 → IsFirst turn_of cs seat.place
-    first_of seat key there next small = first_is seat key (at_root seat there) next small (some_there seat there)
+    pub first_of : (seat : Seat) → slice_get seats 1 ≡ Some seat → key_at seat < 2 ^ 144 → IsFirst turn_of cs seat.place
+    first_of seat there small = first_is seat (at_root seat there) small (some_there seat there)
 
-    pub none_of : (seat : Seat) → slice_get seats 1 ≡ Some seat → seat.next ≡ End → NothingIsNext turn_of cs
-    none_of seat there next = none_first seat (at_root seat there) next
+    pub none_of : (seat : Seat) → slice_get seats 1 ≡ Some seat → 2 ^ 144 ≤ key_at seat → NothingIsNext turn_of cs
+    none_of seat there none = none_first seat (at_root seat there) none
 
 -- a place is noted where the component is a member
 pub has_place : {P : Type 0} (cs : List (ComponentView P)) (places : List ℕ) (j : ℕ) → ArePlaced cs places → nat_lt (place_in places j) (length cs) ≡ is_member cs j

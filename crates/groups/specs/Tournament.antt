@@ -1,12 +1,10 @@
 -- Seats in a tournament: to each node above two comes the earlier of theirs.
-use Rattle.std.specs.Prelude.{◌≡◌, ℕ, ◌+◌, ◌*◌, ◌≤◌, ◌<◌, cond, nat_lt, List, length, slice_index_or}
-use Rattle.event_keys.specs.declared.key.Bound.TheVariants.{End}
-use Rattle.event_keys.specs.Ranks.{rank_of_bound}
+use Rattle.std.specs.Prelude.{◌≡◌, ℕ, ◌+◌, ◌*◌, ◌^◌, ◌≤◌, ◌<◌, cond, nat_lt, List, length, slice_index_or}
 use Rattle.groups.specs.declared.seats.Seat.{Seat}
 
 -- a seat of nobody, who has nothing to do
 abbrev pub empty : Seat
-empty = record { next = End; place = 0 }
+empty = record { front = 2 ^ 80; number = 0; place = 0 }
 
 -- the seat at a node; node 1 is the root, and the nodes below node k are 2 * k and 2 * k + 1
 abbrev pub node : List Seat → ℕ → Seat
@@ -14,7 +12,7 @@ node nodes k = slice_index_or nodes k empty
 
 -- the key of what is next at a seat
 abbrev pub key_at : Seat → ℕ
-key_at seat = rank_of_bound seat.next
+key_at seat = seat.front * 2 ^ 64 + seat.number
 
 -- the one that is next first, the left one where both are next at once
 abbrev pub earlier : Seat → Seat → Seat

@@ -8,10 +8,9 @@ ghost use Rattle.groups.specs.Crew.{ArePlaced, AreSeated, AreSeatedBut, AreSeate
 ghost use Rattle.groups.specs.Open.{HasCome, HasFirst, IsComeTo, IsFirst, IsFirstDone, IsSteppedAt, NothingIsNext, OfComponent};
 ghost use Rattle.groups.specs.GroupView.{is_member, least_next};
 
-use crate::seats::{Seat, empty, put};
+use crate::seats::{Seat, empty, has_next, put, seat_at};
 use antimessage::Bag;
 use antimessage::laws::order_law;
-use event_keys::laws::rank_law;
 use event_keys::{Bound, Key, Signed};
 use raw_events::EventCell;
 use rollback::laws::leaving_law;
@@ -26,10 +25,7 @@ fn seat_of<T: Turns>(component: &Component<T>, place: usize) -> Seat
     ensures { IsSeatOf T.turn_of place component.now result }
 {
     component.lists_law();
-    Seat {
-        next: component.next(),
-        place: place as u16,
-    }
+    seat_at(place as u16, component.next())
 }
 
 /// The seats of components.
@@ -74,14 +70,11 @@ pub(crate) fn first_place<T: Turns>(components: &[Component<T>], seats: &[Seat])
     ensures some { IfSome result (IsFirst T.turn_of components.now) }
     ensures none { result ≡ None → NothingIsNext T.turn_of components.now }
 {
-    let first = seats.get(1)?;
-    match first.next {
-        Bound::End => None,
-        Bound::At(key) => {
-            rank_law(key);
-            Some(usize::from(first.place))
-        }
+    let first = *seats.get(1)?;
+    if !has_next(first) {
+        return None;
     }
+    Some(usize::from(first.place))
 }
 
 /// The component at a place does its next entry.
