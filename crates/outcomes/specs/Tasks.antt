@@ -55,13 +55,19 @@ abbrev pub placed : ℕ → Span → Found
 placed place span = record { place = place; from = span.from; count = span.count }
 
 -- an entry stands there, and has these tuples
-pub record IsFound (task : Task) (found : Found) : Type 0 where
+pub record IsFoundAmong (entries : List Transition) (found : Found) : Type 0 where
   pub entry : Transition
-  pub there : slice_get (entries_of task) found.place ≡ Some entry
+  pub there : slice_get entries found.place ≡ Some entry
   pub few : (j : ℕ) → j < found.count → found.from + j < many entry.params
 
+abbrev pub AreFoundAmong : List Transition → List Found → Type 0
+AreFoundAmong entries founds = (k : ℕ) (found : Found) → slice_get founds k ≡ Some found → IsFoundAmong entries found
+
+abbrev pub IsFound : Task → Found → Type 0
+IsFound task found = IsFoundAmong (entries_of task) found
+
 abbrev pub AreFound : Task → List Found → Type 0
-AreFound task founds = (k : ℕ) (found : Found) → slice_get founds k ≡ Some found → IsFound task found
+AreFound task founds = AreFoundAmong (entries_of task) founds
 
 -- no condition of the task's entries mentions a parameter, by their numbers
 abbrev pub AreAlike : Task → Type 0

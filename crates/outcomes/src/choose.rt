@@ -1,5 +1,5 @@
 //! The enabled actions of a task, and the one that a turn takes.
-ghost use Rattle.std.specs.Prelude.{◌≡◌, ◌++◌, ◌+◌, ◌<◌, ◌≤◌, ◌%◌, IfOk, OnOk, OnErr, None, Some, length, map, slice_get};
+ghost use Rattle.std.specs.Prelude.{◌≡◌, ◌++◌, ◌+◌, ◌<◌, ◌≤◌, ◌%◌, IfOk, OnOk, OnErr, None, Some, length, map, slice_get, true, false};
 ghost use Rattle.std.specs.List.{flat_map, range_with_len};
 ghost use Rattle.io_automata.specs.Automata.{transition_of};
 ghost use Rattle.io_automata.specs.Outcomes.{named};
@@ -78,16 +78,41 @@ pub fn put_outcome<C: Cells>(
         found.new ≡ slice_get enabled (choice % length enabled)) }
     ensures err { OnErr result (found.new ≡ None) }
 {
+    if put_plain_outcome(alloc, task, choice, cells, found)? {
+        return Ok(());
+    }
+    put_outcome_found(alloc, task, choice, cells, found)
+}
+
+/// The same where no condition of the task's entries mentions a parameter, as in most tasks. The answer is whether that is so and the
+/// outcome is put there; else nothing is.
+#[inline(always)]
+pub fn put_plain_outcome<C: Cells>(
+    alloc: Global,
+    task: &Task,
+    choice: u32,
+    cells: &C,
+    found: &mut Option<Action>,
+) -> Result<bool, NoMemory>
+    requires task { IsTask task.now }
+    requires none { found.old ≡ None }
+    ensures plain { IfOk result (λ plain. plain ≡ true
+        → let enabled = enabled_of_task task.now (C.values cells.now) in
+        found.new ≡ slice_get enabled (choice % length enabled)) }
+    ensures other { IfOk result (λ plain. plain ≡ false → found.new ≡ None) }
+    ensures err { OnErr result (found.new ≡ None) }
+{
     if task.places.len() == 1 {
         if let Some(entry) = entry_among(task.entries, task.places[0]) {
             let number = number_at(task.known.numbers.as_slice(), task.places[0]);
             if number > 0 {
                 let holding = holds(alloc, entry, task.formals, &[], cells)?;
                 if !holding {
-                    return Ok(());
+                    return Ok(true);
                 }
                 let at = choice as usize % number;
-                return put_action_at(alloc, entry, task.formals, number, at, found);
+                put_action_at(alloc, entry, task.formals, number, at, found)?;
+                return Ok(true);
             }
         }
     }
@@ -110,17 +135,29 @@ pub(crate) fn put_outcome_found<C: Cells>(
     ensures err { OnErr result (found.new ≡ None) }
 {
     let founds = find(alloc, task, cells)?;
-    let total = count_found(task, founds.as_slice())?;
+    put_found(alloc, task, founds.as_slice(), choice, found)
+}
+
+/// Puts there the action at `choice` modulo their number, of those that were found, or nothing where none was. A refusal leaves nothing
+/// there.
+pub fn put_found(
+    alloc: Global,
+    task: &Task,
+    founds: &[Found],
+    choice: u32,
+    found: &mut Option<Action>,
+) -> Result<(), NoMemory>
+    requires founds { AreFound task.now founds.now }
+    requires none { found.old ≡ None }
+    ensures ok { OnOk result (let all = flat_map (made_of task.now) founds.now in
+        found.new ≡ slice_get all (choice % length all)) }
+    ensures err { OnErr result (found.new ≡ None) }
+{
+    let total = count_found(task, founds)?;
     if total == 0 {
         return Ok(());
     }
-    put_nth(
-        alloc,
-        task,
-        founds.as_slice(),
-        choice as usize % total,
-        found,
-    )
+    put_nth(alloc, task, founds, choice as usize % total, found)
 }
 
 // How many actions were found.

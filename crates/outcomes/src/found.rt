@@ -26,7 +26,7 @@ use terms::{Cells, NoMemory, Scalar};
 const FEW: usize = 8;
 
 /// All that is enabled of a task, in order.
-pub(crate) fn find<C: Cells>(alloc: Global, task: &Task, cells: &C) -> Result<Founds, NoMemory>
+pub fn find<C: Cells>(alloc: Global, task: &Task, cells: &C) -> Result<Founds, NoMemory>
     requires task { IsTask task.now }
     ensures there { IfOk result (λ founds. AreFound task.now founds.items) }
     ensures made { IfOk result (λ founds. flat_map (made_of task.now) founds.items

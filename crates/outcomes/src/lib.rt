@@ -6,14 +6,14 @@
 
 pub mod asking;
 pub mod choose;
-mod found;
+pub mod found;
 pub mod known;
 mod lone;
 mod making;
 mod node;
 mod range;
 mod several;
-mod spans;
+pub mod spans;
 pub mod task;
 mod tuples;
 mod walk;

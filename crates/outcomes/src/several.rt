@@ -1,5 +1,5 @@
 //! The outcome of a task of several entries, none of whose conditions mentions a parameter, as in most tasks.
-ghost use Rattle.std.specs.Prelude.{◌≡◌, ◌+◌, ◌<◌, ◌%◌, ℕ, true, IfOk, IfSome, OnOk, OnErr, [], None, Some, get_or, map, slice_get, length};
+ghost use Rattle.std.specs.Prelude.{◌≡◌, ◌+◌, ◌<◌, ◌%◌, ℕ, true, false, IfOk, IfSome, OnOk, OnErr, [], None, Some, get_or, map, slice_get, length};
 ghost use Rattle.std.specs.List.{flat_map};
 ghost use Rattle.outcomes.specs.Alike.{alike, number_or_none};
 ghost use Rattle.outcomes.specs.Tasks.{IsTask, AreAlike, enabled_of_task};
@@ -10,7 +10,7 @@ ghost use Rattle.io_automata.specs.Tuples.{enabled_in, enabled_count};
 ghost use Rattle.terms.specs.Scopes.{scope};
 
 use crate::asking::env_of;
-use crate::choose::{put_outcome_found, sum};
+use crate::choose::sum;
 use crate::known::{entry_among, first_at, number_at};
 use crate::making::put_action_at;
 use crate::task::Task;
@@ -22,7 +22,8 @@ use terms::{Action, Cells, Env, NoMemory, Scalar};
 /// Of so many entries of a task the numbers of their actions stand on the stack.
 const SHORT: usize = 8;
 
-/// Puts there the enabled action at `choice` modulo their number.
+/// Puts there the enabled action at `choice` modulo their number, and answers whether no condition of the task's entries mentions a
+/// parameter; else nothing is put there.
 #[inline(never)]
 pub(crate) fn put_outcome_of_several<C: Cells>(
     alloc: Global,
@@ -30,27 +31,26 @@ pub(crate) fn put_outcome_of_several<C: Cells>(
     choice: u32,
     cells: &C,
     found: &mut Option<Action>,
-) -> Result<(), NoMemory>
+) -> Result<bool, NoMemory>
     requires task { IsTask task.now }
     requires none { found.old ≡ None }
-    ensures ok { OnOk result (let enabled = enabled_of_task task.now (C.values cells.now) in
+    ensures plain { IfOk result (λ plain. plain ≡ true
+        → let enabled = enabled_of_task task.now (C.values cells.now) in
         found.new ≡ slice_get enabled (choice % length enabled)) }
+    ensures other { IfOk result (λ plain. plain ≡ false → found.new ≡ None) }
     ensures err { OnErr result (found.new ≡ None) }
 {
     let many = task.places.len();
-    if many > SHORT {
-        return put_outcome_found(alloc, task, choice, cells, found);
-    }
-    if !are_alike(task) {
-        return put_outcome_found(alloc, task, choice, cells, found);
+    if many > SHORT || !are_alike(task) {
+        return Ok(false);
     }
     let mut counts = [0; SHORT];
     let few = &mut counts[..many];
     let total = count_alike(alloc, task, few, cells)?;
-    if total == 0 {
-        return Ok(());
+    if total > 0 {
+        put_chosen(alloc, task, few, choice as usize % total, cells, found)?;
     }
-    put_chosen(alloc, task, few, choice as usize % total, cells, found)
+    Ok(true)
 }
 
 // Whether no condition of the task's entries mentions a parameter.

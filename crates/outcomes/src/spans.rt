@@ -20,4 +20,4 @@ pub struct Found {
 }
 
 /// What was found in order; up to eight take no memory.
-pub(crate) type Founds = SmallVec<Found, 8>;
+pub type Founds = SmallVec<Found, 8>;

@@ -4,4 +4,5 @@ mod Fitting
 mod Listing
 mod Pairs
 mod Passing
+mod Remembered
 mod Tasks

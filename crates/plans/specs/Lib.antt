@@ -1,5 +1,7 @@
 pub mod Known
 pub mod KnownLaws
+pub mod Memos
+pub mod MemoLaws
 pub mod Plans
 pub mod Resting
 pub mod RestingLaws

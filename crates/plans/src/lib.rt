@@ -2,8 +2,10 @@
 #![tactic(auto)]
 
 pub mod laws;
+pub mod memo;
 pub mod plan;
 pub mod resting;
 
-pub use plan::Plan;
+pub use memo::Memo;
+pub use plan::{Ask, Plan};
 pub use resting::Resting;

@@ -19,6 +19,14 @@ use io_automata::{ActionName, Automaton, Component};
 use outcomes::Known;
 use patterns::Index;
 
+/// A turn of a component: which task of it, and the number by which one of the enabled actions is chosen.
+#[derive(Clone, Copy)]
+pub struct Ask {
+    pub component: u16,
+    pub task: u32,
+    pub choice: u32,
+}
+
 /// A composition of compatible automata. Components are numbered from 0; actions carry the numbers of their names, which
 /// are given in the order of the names' bytes; the members of all enumerations are numbered in the order of declaration.
 #[derive(Drop)]

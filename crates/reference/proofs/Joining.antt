@@ -1,17 +1,17 @@
 -- Who takes the action of a turn: the turn's component and each receiver.
-use Rattle.std.proofs.Common.{◌≡◌, ℕ, ◌+◌, ◌<◌, Bool, true, false, Option, None, Some, List, [], ◌∷◌, length, refl, ap, sym, ◌∙◌, arith}
+use Rattle.std.proofs.Common.{◌≡◌, ℕ, ◌+◌, ◌<◌, ◌⊎◌, inl, inr, Bool, true, false, Option, None, Some, List, [], ◌∷◌, length, refl, ap, sym, ◌∙◌, arith}
 use Rattle.std.specs.Prelude.{cond, not, ◌&&◌, ◌||◌, ◌==◌, slice_get, option_map, Result, Ok, Err, OnOk}
-use Rattle.std.proofs.lemmas.Bool.{ne_eqb}
+use Rattle.std.proofs.lemmas.Bool.{cases_eq, ne_eqb}
 use Rattle.terms.specs.Datum.{Datum}
 use Rattle.terms.specs.Named.{Named}
-use Rattle.undo_records.specs.States.{States}
+use Rattle.undo_records.specs.States.{States, without_first}
 use Rattle.io_automata.specs.Automata.{Instance}
 use Rattle.io_automata.specs.Receivers.{AreCandidates, IsIn, Rising}
 use Rattle.io_automata.specs.Signatures.{inputs, receives}
 use Rattle.io_automata.specs.Steps.{applied}
 use Rattle.task_seed.specs.Turning.{System}
 use Rattle.task_seed.specs.Machines.{machine}
-use Rattle.reference.specs.Taking.{Distinct, plain, taking, joining}
+use Rattle.reference.specs.Taking.{Distinct, holding, joining, marking, plain, released}
 
 not_before : (j a : ℕ) (js : List ℕ) → j < a → Rising a js → IsIn j js ≡ false
 not_before j a [] h r = refl
@@ -28,10 +28,12 @@ module _ (s : System) (composition : List Instance) (of_system : composition ≡
   pub among_within : (states : ℕ) → states ≡ length s.composition → (j : ℕ) → IsIn j among ≡ true → j < states
   among_within states many j h = let within = are.within j h in let same = ap length of_system in omega (arith, within, same, many)
 
-  pub joined : (old new : List States) → ((j : ℕ) (state : States) → slice_get old j ≡ Some state → state.below ≡ []) → ((j : ℕ) → slice_get new j ≡ option_map (taking composition i a among j) (slice_get old j)) → (j : ℕ) → slice_get new j ≡ option_map (joining (machine s) i (Some a) j) (slice_get old j)
-  joined old new bare taken j = taken j ∙ go (slice_get old j) refl where
-    one : (state : States) → state.below ≡ [] → taking composition i a among j state ≡ joining (machine s) i (Some a) j state
-    one state below = by_own (j == i) refl (IsIn j among) refl ∙ ap by of_system where
+  -- once all marks are forgotten, each has taken the action that is to
+  pub joined : (old mid new : List States) → ((j : ℕ) (state : States) → slice_get old j ≡ Some state → state.below ≡ []) → ((j : ℕ) → slice_get mid j ≡ option_map (holding composition i a among j) (slice_get old j))
+      → ((j : ℕ) → slice_get new j ≡ option_map (released i among j) (slice_get mid j)) → (j : ℕ) → slice_get new j ≡ option_map (joining (machine s) i (Some a) j) (slice_get old j)
+  joined old mid new bare hold release j = release j ∙ ap (option_map (released i among j)) (hold j) ∙ go (slice_get old j) refl where
+    one : (state : States) → state.below ≡ [] → released i among j (holding composition i a among j state) ≡ joining (machine s) i (Some a) j state
+    one state below = ap (λ x. released i among j (holding composition i a among j x)) whole ∙ by_both (j == i) refl (IsIn j among) refl ∙ ap by of_system where
       now : List Datum
       now = state.current
 
@@ -48,12 +50,24 @@ module _ (s : System) (composition : List Instance) (of_system : composition ≡
       deaf false is out = refl
       deaf true is out = let both : ◌≡◌ {A = Bool} false true = sym out ∙ are.all j is in cc
 
-      by_own : (own : Bool) → (j == i) ≡ own → (there : Bool) → IsIn j among ≡ there → cond own (plain next) (cond there (cond own state (plain (cond (inputs composition j a) next now))) state) ≡ plain (cond own next (cond (receives composition i a j) next now))
-      by_own true own there is = refl
-      by_own false own true is = ap (λ b. plain (cond b next now)) (sym (ap (λ b. not b && inputs composition j a) own))
-      by_own false own false is = whole ∙ ap (λ b. plain (cond b next now)) (sym (deaf (receives composition i a j) refl is))
+      R : States
+      R = record { current = cond (inputs composition j a) next now; below = now ∷ [] }
 
-    go : (o : Option States) → slice_get old j ≡ o → option_map (taking composition i a among j) o ≡ option_map (joining (machine s) i (Some a) j) o
+      held : Bool → Bool → States
+      held own there = cond own (marking composition i a (plain now)) (cond there (cond own (plain now) R) (plain now))
+
+      let_go : Bool → Bool → States
+      let_go own there = cond own (without_first 1 (held own there)) (cond there (cond own (held own there) (without_first 1 (held own there))) (held own there))
+
+      by_both : (own : Bool) → (j == i) ≡ own → (there : Bool) → IsIn j among ≡ there → let_go own there ≡ plain (cond own next (cond (receives composition i a j) next now))
+      by_both true own there is = ap (λ k. plain (applied composition k a now)) (sym (by_eq (cases_eq j i))) where
+        by_eq : (j ≡ i) ⊎ (j ≡ i → ⊥) → j ≡ i
+        by_eq (inl same) = same
+        by_eq (inr other) = let both : ◌≡◌ {A = Bool} true false = sym own ∙ ne_eqb j i other in cc
+      by_both false own true is = ap (λ b. plain (cond b next now)) (sym (ap (λ b. not b && inputs composition j a) own))
+      by_both false own false is = ap (λ b. plain (cond b next now)) (sym (deaf (receives composition i a j) refl is))
+
+    go : (o : Option States) → slice_get old j ≡ o → option_map (released i among j) (option_map (holding composition i a among j) o) ≡ option_map (joining (machine s) i (Some a) j) o
     go None e = refl
     go (Some state) e = ap (λ x. Some x) (one state (bare j state e))
 

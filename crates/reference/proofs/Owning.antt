@@ -1,5 +1,5 @@
 -- A component takes its own action, and the action reaches others.
-use Rattle.std.proofs.Common.{◌≡◌, ℕ, ◌+◌, ◌<◌, ◌⊎◌, inl, inr, Bool, true, false, Some, List, [], ◌∷◌, length, refl, ap, sym, subst, ◌∙◌, arith}
+use Rattle.std.proofs.Common.{◌≡◌, ℕ, ◌<◌, ◌⊎◌, inl, inr, Bool, true, false, Option, None, Some, List, ◌∷◌, length, refl, ap, sym, subst, ◌∙◌, arith}
 use Rattle.std.specs.Prelude.{cond, ◌==◌, slice_get, slice_set, slice_index_or, option_map}
 use Rattle.std.proofs.lemmas.Bool.{cases_eq, eq-eqb, ne_eqb}
 use Rattle.std.proofs.lemmas.Option.{slice_get-get_or}
@@ -7,8 +7,7 @@ use Rattle.terms.specs.Named.{Named}
 use Rattle.undo_records.specs.States.{States, undone, without_first}
 use Rattle.io_automata.specs.Automata.{Instance}
 use Rattle.io_automata.specs.Receivers.{IsIn}
-use Rattle.io_automata.specs.Steps.{applied}
-use Rattle.reference.specs.Taking.{marking, plain, reached, received, taking}
+use Rattle.reference.specs.Taking.{IsPassed, changed, holding, marking, other_than, reaching, received, released}
 use Rattle.reference.proofs.Takers.{get_same, get_other, same_lists, slice_set-length}
 
 some_same : {X : Type 0} (a b : X) → Some a ≡ Some b → a ≡ b
@@ -43,50 +42,76 @@ module _ (c : List Instance) (i : ℕ) (a : Named) (olds : List States) (n : ℕ
       go (inl is) = subst (λ k. slice_get (slice_set mids n back) k ≡ slice_get olds k) (sym is) (get_same mids n back short ∙ ap (λ s. Some s) was ∙ sym there)
       go (inr other) = get_other mids n back j other ∙ get_other olds n marked j other
 
-  module _ (among : List ℕ) (news : List States) (many : length news ≡ length (slice_set olds n marked)) (all : (j : ℕ) → slice_get news j ≡ option_map (reached c i a among j) (slice_get (slice_set olds n marked) j)) where
+  -- once it reached these, each of them holds its mark
+  pub all_hold : (among : List ℕ) (news : List States) → IsPassed (reaching c i a) among (slice_set olds n marked) news → (j : ℕ) → slice_get news j ≡ option_map (holding c i a among j) (slice_get olds j)
+  all_hold among news passed j = go (cases_eq j n) where
     own : (n == i) ≡ true
     own = eq-eqb n i n_is
 
-    stays : (s : States) → reached c i a among n s ≡ s
-    stays s = go (IsIn n among) (n == i) own where
-      go : (b itself : Bool) → itself ≡ true → cond b (cond itself s (plain (received c a n s.current))) s ≡ s
-      go true true is = refl
-      go true false is = let other : ◌≡◌ {A = Bool} false true = is in cc
-      go false itself is = refl
+    stays : (there itself : Bool) → itself ≡ true → cond there (cond itself marked (record { current = received c a n marked.current; below = marked.current ∷ marked.below })) marked ≡ marked
+    stays true true is = refl
+    stays true false is = let other : ◌≡◌ {A = Bool} false true = is in cc
+    stays false itself is = refl
 
-    get_marked : slice_get news n ≡ Some marked
-    get_marked = all n ∙ ap (option_map (reached c i a among n)) (get_same olds n marked within) ∙ ap (λ s. Some s) (stays marked)
+    here : slice_get news n ≡ option_map (holding c i a among n) (slice_get olds n)
+    here =
+        passed.each n ∙ ap (option_map (changed (reaching c i a) among n)) (get_same olds n marked within)
+        ∙ ap (λ s. Some s) (stays (IsIn n among) (n == i) own ∙ marked_is)
+        ∙ sym (ap (option_map (holding c i a among n)) there ∙ ap (λ b. Some (cond b (marking c i a old) (changed (reaching c i a) among n old))) own)
 
-    -- its own mark is still there
-    pub at_marked : (e : States) → slice_index_or news n e ≡ marked
-    at_marked e =
-        let same = slice_set-length olds n marked in
-        some_same (slice_index_or news n e) marked (sym (slice_get-get_or news n e (omega (arith, many, same, within))) ∙ get_marked)
+    go : (j ≡ n) ⊎ (j ≡ n → ⊥) → slice_get news j ≡ option_map (holding c i a among j) (slice_get olds j)
+    go (inl is) = subst (λ k. slice_get news k ≡ option_map (holding c i a among k) (slice_get olds k)) (sym is) here
+    go (inr other) =
+        let apart : (j == i) ≡ false = ne_eqb j i (λ is. other (is ∙ sym n_is)) in
+        passed.each j ∙ ap (option_map (changed (reaching c i a) among j)) (get_other olds n marked j other)
+        ∙ sym (ap (λ b. option_map (λ s. cond b (marking c i a s) (changed (reaching c i a) among j s)) (slice_get olds j)) apart)
 
-    pub own_marked : (e : States) → 1 < length (slice_index_or news n e).below + 1
-    own_marked e = let long : length (slice_index_or news n e).below ≡ length old.below + 1 = ap (λ s. length s.below) (at_marked e ∙ marked_is) ∙ omega arith in omega (arith, long)
+-- these components but component i, which stands at n, forgot their first marks
+module _ (i : ℕ) (among : List ℕ) (olds nows : List States) (passed : IsPassed (other_than i (without_first 1)) among olds nows) (n : ℕ) (n_is : n ≡ i) (within : n < length nows) (d : States) where
+  its : (n == i) ≡ true
+  its = eq-eqb n i n_is
 
-    -- and once it is forgotten, all have taken the action
-    pub all_taken : ((j : ℕ) (state : States) → slice_get olds j ≡ Some state → state.below ≡ []) → (e forgot : States) → forgot ≡ without_first 1 (slice_index_or news n e) → (j : ℕ) → slice_get (slice_set news n forgot) j ≡ option_map (taking c i a among j) (slice_get olds j)
-    all_taken bare e forgot forgot_is j = go (cases_eq j n) where
-      bare_here : old.below ≡ []
-      bare_here = bare n old there
+  as_before : (o : Option States) → option_map (changed (other_than i (without_first 1)) among n) o ≡ o
+  as_before None = refl
+  as_before (Some s) = ap (λ x. Some x) (stays (IsIn n among) (n == i) its) where
+    stays : (there itself : Bool) → itself ≡ true → cond there (cond itself s (without_first 1 s)) s ≡ s
+    stays true true is = refl
+    stays true false is = let other : ◌≡◌ {A = Bool} false true = is in cc
+    stays false itself is = refl
 
-      forgotten : forgot ≡ plain (applied c n a old.current)
-      forgotten =
-          forgot_is ∙ ap (without_first 1) (at_marked e ∙ marked_is)
-          ∙ ap (λ b. without_first 1 (record { current = applied c i a old.current; below = old.current ∷ b })) bare_here
-          ∙ ap (λ k. plain (applied c k a old.current)) (sym n_is)
+  -- its state is as it was
+  pub own_before : slice_get olds n ≡ Some (slice_index_or nows n d)
+  own_before = sym (passed.each n ∙ as_before (slice_get olds n)) ∙ slice_get-get_or nows n d within
 
-      here : slice_get (slice_set news n forgot) n ≡ option_map (taking c i a among n) (slice_get olds n)
-      here =
-          let same = slice_set-length olds n marked in
-          get_same news n forgot (omega (arith, many, same, within)) ∙ ap (λ s. Some s) forgotten
-          ∙ sym (ap (option_map (taking c i a among n)) there ∙ ap (λ b. Some (cond b (plain (applied c n a old.current)) (reached c i a among n old))) own)
+  -- it forgets its first too
+  pub all_released : (new : States) → new ≡ without_first 1 (slice_index_or nows n d) → (j : ℕ) → slice_get (slice_set nows n new) j ≡ option_map (released i among j) (slice_get olds j)
+  all_released new new_is j = go (cases_eq j n) where
+    here : slice_get (slice_set nows n new) n ≡ option_map (released i among n) (slice_get olds n)
+    here =
+        get_same nows n new within ∙ ap (λ s. Some s) new_is
+        ∙ sym (ap (option_map (released i among n)) own_before ∙ ap (λ b. Some (cond b (without_first 1 (slice_index_or nows n d)) (changed (other_than i (without_first 1)) among n (slice_index_or nows n d)))) its)
 
-      go : (j ≡ n) ⊎ (j ≡ n → ⊥) → slice_get (slice_set news n forgot) j ≡ option_map (taking c i a among j) (slice_get olds j)
-      go (inl is) = subst (λ k. slice_get (slice_set news n forgot) k ≡ option_map (taking c i a among k) (slice_get olds k)) (sym is) here
-      go (inr other) =
-          let apart : (j == i) ≡ false = ne_eqb j i (λ is. other (is ∙ sym n_is)) in
-          get_other news n forgot j other ∙ all j ∙ ap (option_map (reached c i a among j)) (get_other olds n marked j other)
-          ∙ sym (ap (λ b. option_map (λ s. cond b (plain (applied c j a s.current)) (reached c i a among j s)) (slice_get olds j)) apart)
+    go : (j ≡ n) ⊎ (j ≡ n → ⊥) → slice_get (slice_set nows n new) j ≡ option_map (released i among j) (slice_get olds j)
+    go (inl is) = subst (λ k. slice_get (slice_set nows n new) k ≡ option_map (released i among k) (slice_get olds k)) (sym is) here
+    go (inr other) =
+        let apart : (j == i) ≡ false = ne_eqb j i (λ is. other (is ∙ sym n_is)) in
+        get_other nows n new j other ∙ passed.each j
+        ∙ sym (ap (λ b. option_map (λ s. cond b (without_first 1 s) (changed (other_than i (without_first 1)) among j s)) (slice_get olds j)) apart)
+
+-- those that took the action have a mark
+pub hold_marks : (c : List Instance) (i : ℕ) (a : Named) (among : List ℕ) (olds nows : List States) → ((j : ℕ) → slice_get nows j ≡ option_map (holding c i a among j) (slice_get olds j))
+    → (j : ℕ) (state : States) → (j ≡ i) ⊎ (IsIn j among ≡ true) → slice_get nows j ≡ Some state → 0 < length state.below
+hold_marks c i a among olds nows hold j state takes at = go (slice_get olds j) (sym (hold j) ∙ at) where
+  one : (s : States) → 0 < length (holding c i a among j s).below
+  one s = by (j == i) refl (IsIn j among) refl where
+    by : (own : Bool) → (j == i) ≡ own → (there : Bool) → IsIn j among ≡ there → 0 < length (cond own (marking c i a s) (cond there (cond own s (record { current = received c a j s.current; below = s.current ∷ s.below })) s)).below
+    by true own there is = omega arith
+    by false own true is = omega arith
+    by false own false is = out takes where
+      out : (j ≡ i) ⊎ (IsIn j among ≡ true) → 0 < length s.below
+      out (inl same) = let both : ◌≡◌ {A = Bool} true false = sym (eq-eqb j i same) ∙ own in cc
+      out (inr in_there) = let both : ◌≡◌ {A = Bool} true false = sym in_there ∙ is in cc
+
+  go : (o : Option States) → option_map (holding c i a among j) o ≡ Some state → 0 < length state.below
+  go None e = cc
+  go (Some s) e = subst (λ x. 0 < length x.below) (some_same (holding c i a among j s) state e) (one s)

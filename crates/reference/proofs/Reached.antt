@@ -16,7 +16,7 @@ use Rattle.reference.specs.Clocks.{AreClocks}
 use Rattle.reference.proofs.Takers.{slice_set-length}
 
 -- what holds at each place holds where one item is put in a place
-put_in : {A : Type 0} (P : ℕ → A → Type 0) (xs : List A) (n : ℕ) (x : A) → ((i : ℕ) (a : A) → slice_get xs i ≡ Some a → P i a) → P n x
+pub put_in : {A : Type 0} (P : ℕ → A → Type 0) (xs : List A) (n : ℕ) (x : A) → ((i : ℕ) (a : A) → slice_get xs i ≡ Some a → P i a) → P n x
     → (i : ℕ) (a : A) → slice_get (slice_set xs n x) i ≡ Some a → P i a
 put_in P [] n x each here i a e = cc
 put_in P (y ∷ ys) zero x each here zero a e = let same : x ≡ a = cc in subst (P 0) same here

@@ -1,6 +1,6 @@
 pub mod Queues
 pub mod Clocks
-pub mod Resting
+pub mod Memos
 pub mod Standing
 pub mod Taking
 pub mod Verdicts

@@ -2,7 +2,7 @@
 use Rattle.std.specs.Prelude.{◌≡◌, ℕ, ◌<◌, ◌==◌, cond, true, false, Option, Some, List, [], ◌∷◌, length, slice_get, option_map}
 use Rattle.terms.specs.Datum.{Datum}
 use Rattle.terms.specs.Named.{Named}
-use Rattle.undo_records.specs.States.{States}
+use Rattle.undo_records.specs.States.{States, without_first}
 use Rattle.io_automata.specs.Automata.{Instance}
 use Rattle.io_automata.specs.Receivers.{IsIn}
 use Rattle.io_automata.specs.Signatures.{inputs}
@@ -52,10 +52,10 @@ received composition action j state = cond (inputs composition j action) (applie
 abbrev pub reaching : List Instance → ℕ → Named → ℕ → States → States
 reaching composition i action j = other_than i (λ state. record { current = received composition action j state.current; below = state.current ∷ state.below }) j
 
--- the state of component j after an action of component i reached these components
-abbrev pub reached : List Instance → ℕ → Named → List ℕ → ℕ → States → States
-reached composition i action among j state = cond (IsIn j among) (other_than i (λ state. plain (received composition action j state.current)) j state) state
+-- the state of component j after an action of component i, which it or these take: marked before
+abbrev pub holding : List Instance → ℕ → Named → List ℕ → ℕ → States → States
+holding composition i action among j state = cond (j == i) (marking composition i action state) (changed (reaching composition i action) among j state)
 
--- and after component i took it too
-abbrev pub taking : List Instance → ℕ → Named → List ℕ → ℕ → States → States
-taking composition i action among j state = cond (j == i) (plain (applied composition j action state.current)) (reached composition i action among j state)
+-- without the first state, where that of component i or one of these
+abbrev pub released : ℕ → List ℕ → ℕ → States → States
+released i among j state = cond (j == i) (without_first 1 state) (changed (other_than i (without_first 1)) among j state)

@@ -9,17 +9,17 @@ ghost use Rattle.task_seed.specs.Taken.{turned_of};
 ghost use Rattle.reference.specs.Queues.{ArePlaced, HasItsNumber, IsSmall, least_key, place_of};
 ghost use Rattle.reference.specs.Clocks.{AreClocks};
 ghost use Rattle.reference.specs.Standing.{taken_at, IsBeforeLeast};
-ghost use Rattle.reference.specs.Resting.{AreResting};
+ghost use Rattle.reference.specs.Memos.{AreMemos};
 ghost use Rattle.reference.specs.Taking.{plain};
 ghost use Rattle.gvt.specs.Tournaments.{IsTournament, node};
 ghost use Rattle.reference.specs.Views.{IsNextTurn, IsComplete};
 
 use crate::clocks::Clocks;
-use crate::resting::AllResting;
+use crate::memos::no_memos;
 use crate::taking::{put_none, take_turn};
 use event_keys::{Key, Outcome, Turned};
 use gvt::tournament::put;
-use plans::Plan;
+use plans::{Memo, Plan};
 use std::alloc::Global;
 use task_seed::laws::machine_is_lawful;
 use task_seed::{Setup, Turns};
@@ -37,8 +37,8 @@ pub(crate) struct Frontier {
     // One state for each component, but inside a call.
     states: Vec<Store>,
     clocks: Clocks,
-    // The tasks that have nothing enabled in their component's state, as far as was asked.
-    resting: AllResting,
+    // What is known of each component's tasks in its state.
+    memos: Vec<Memo>,
 }
 
 // The tick and the component of a key as one number. No two of the next keys have one, since they are of different components.
@@ -144,8 +144,8 @@ impl Frontier {
             (system T.turn_of setup.now) frontier.places.items frontier.numbers.items ≡ []) }
         ensures clocks { IfOk result
             (λ f. AreClocks T.turn_of setup.now f.numbers.items f.clocks.clocks.items) }
-        ensures resting { IfOk result (λ f. AreResting
-            (composition (plan_of setup.now)) f.states.items f.resting.components.items) }
+        ensures memos { IfOk result (λ f. AreMemos
+            (composition (plan_of setup.now)) f.states.items f.memos.items) }
     {
         machine_is_lawful(setup);
         reference_is_one::<State, Action>();
@@ -154,13 +154,13 @@ impl Frontier {
         let numbers = first_numbers(alloc, setup.plan().components())?;
         let states = start_states(alloc, setup.plan())?;
         let clocks = Clocks::new(alloc, setup)?;
-        let resting = AllResting::new(alloc, setup.plan())?;
+        let memos = no_memos(alloc, setup.plan())?;
         Ok(Frontier {
             places,
             numbers,
             states,
             clocks,
-            resting,
+            memos,
         })
     }
 
@@ -176,15 +176,15 @@ impl Frontier {
             self.old.states.items }
         requires clocks { AreClocks T.turn_of setup.now self.old.numbers.items
             self.old.clocks.clocks.items }
-        requires resting { AreResting (composition (plan_of setup.now)) self.old.states.items
-            self.old.resting.components.items }
+        requires memos { AreMemos (composition (plan_of setup.now)) self.old.states.items
+            self.old.memos.items }
         ensures stands { IsBeforeLeast
             (system T.turn_of setup.now) self.new.places.items self.new.numbers.items
             self.new.states.items }
         ensures clocks { AreClocks T.turn_of setup.now self.new.numbers.items
             self.new.clocks.clocks.items }
-        ensures resting { AreResting (composition (plan_of setup.now)) self.new.states.items
-            self.new.resting.components.items }
+        ensures memos { AreMemos (composition (plan_of setup.now)) self.new.states.items
+            self.new.memos.items }
         ensures ok { IfOk result (λ turn. IsNextTurn (machine (system T.turn_of setup.now))
             (taken_at (system T.turn_of setup.now) self.old.places.items self.old.numbers.items)
             turn (taken_at
@@ -212,15 +212,15 @@ impl Frontier {
             self.old.states.items }
         requires clocks { AreClocks T.turn_of setup.now self.old.numbers.items
             self.old.clocks.clocks.items }
-        requires resting { AreResting (composition (plan_of setup.now)) self.old.states.items
-            self.old.resting.components.items }
+        requires memos { AreMemos (composition (plan_of setup.now)) self.old.states.items
+            self.old.memos.items }
         ensures stands { IsBeforeLeast
             (system T.turn_of setup.now) self.new.places.items self.new.numbers.items
             self.new.states.items }
         ensures clocks { AreClocks T.turn_of setup.now self.new.numbers.items
             self.new.clocks.clocks.items }
-        ensures resting { AreResting (composition (plan_of setup.now)) self.new.states.items
-            self.new.resting.components.items }
+        ensures memos { AreMemos (composition (plan_of setup.now)) self.new.states.items
+            self.new.memos.items }
         ensures ok { IfOk result (λ key. IsNextTurn (machine (system T.turn_of setup.now))
             (taken_at (system T.turn_of setup.now) self.old.places.items self.old.numbers.items)
             (option_map (turned_of found.new) key)
@@ -250,7 +250,7 @@ impl Frontier {
             key,
             turn,
             &mut self.states,
-            &mut self.resting,
+            &mut self.memos,
             found,
         )?;
         move_on(&mut self.places, &mut self.numbers, key, next);

@@ -4,7 +4,7 @@
 pub mod checking;
 mod clocks;
 mod frontier;
-mod resting;
+mod memos;
 pub mod scheduling;
 pub mod simulator;
 mod taking;

@@ -6,7 +6,7 @@ ghost use Rattle.task_seed.specs.Taken.{turns_of};
 ghost use Rattle.virtual_time.specs.Reference.{IsReference, reference_below};
 ghost use Rattle.reference.specs.Clocks.{AreClocks};
 ghost use Rattle.plans.specs.Plans.{composition};
-ghost use Rattle.reference.specs.Resting.{AreResting};
+ghost use Rattle.reference.specs.Memos.{AreMemos};
 ghost use Rattle.reference.specs.Standing.{taken_at, IsBeforeLeast};
 ghost use Rattle.schedules.specs.Schedules.{AreAllTurns, KeysFit};
 
@@ -31,8 +31,8 @@ fn take_all<T: Turns>(
         frontier.old.states.items }
     requires clocks { AreClocks T.turn_of setup.now frontier.old.numbers.items
         frontier.old.clocks.clocks.items }
-    requires resting { AreResting (composition (plan_of setup.now)) frontier.old.states.items
-        frontier.old.resting.components.items }
+    requires memos { AreMemos (composition (plan_of setup.now)) frontier.old.states.items
+        frontier.old.memos.items }
     requires none { taken_at
         (system T.turn_of setup.now) frontier.old.places.items frontier.old.numbers.items ≡ [] }
     ensures reference { IfOk result (λ turns. IsReference

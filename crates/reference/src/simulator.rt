@@ -47,7 +47,7 @@ impl<T: Turns> Model for Reference<T> {
     ghost use Rattle.task_seed.specs.Setups.{system, plan_of};
     ghost use Rattle.reference.specs.Clocks.{AreClocks};
     ghost use Rattle.reference.specs.Standing.{taken_at, IsBeforeLeast};
-    ghost use Rattle.reference.specs.Resting.{AreResting};
+    ghost use Rattle.reference.specs.Memos.{AreMemos};
     ghost use Rattle.plans.specs.Plans.{composition};
 
     ghost view = { λ r. record {
@@ -62,8 +62,8 @@ impl<T: Turns> Model for Reference<T> {
         r.frontier.states.items
         × AreClocks T.turn_of
         (arc_value r.setup) r.frontier.numbers.items r.frontier.clocks.clocks.items
-        × AreResting (composition (plan_of (arc_value r.setup))) r.frontier.states.items
-        r.frontier.resting.components.items };
+        × AreMemos (composition (plan_of (arc_value r.setup))) r.frontier.states.items
+        r.frontier.memos.items };
 }
 
 impl<T: Turns> Reference<T> {

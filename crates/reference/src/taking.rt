@@ -1,17 +1,17 @@
 //! Turns, and the components that take their actions.
-ghost use Rattle.std.specs.Prelude.{◌≡◌, ◌<◌, [], ℕ, true, None, Some, IfSome, OnOk, OnErr, length, option_map, slice_get};
+ghost use Rattle.std.specs.Prelude.{◌≡◌, ◌<◌, [], ℕ, ◌⊎◌, true, None, Some, IfSome, OnOk, OnErr, length, option_map, slice_get};
 ghost use Rattle.undo_records.specs.States.{States, undone, without_first};
 ghost use Rattle.plans.specs.Plans.{composition};
 ghost use Rattle.io_automata.specs.Receivers.{IsIn};
 ghost use Rattle.task_seed.specs.Setups.{system, plan_of};
 ghost use Rattle.task_seed.specs.Turning.{turn_in};
 ghost use Rattle.task_seed.specs.Machines.{machine, turn_outcome};
-ghost use Rattle.reference.specs.Resting.{AreResting};
-ghost use Rattle.reference.specs.Taking.{Distinct, IsPassed, AreMarked, marking, other_than, reaching, reached, taking, joining};
+ghost use Rattle.reference.specs.Memos.{AreMemos};
+ghost use Rattle.reference.specs.Taking.{Distinct, IsPassed, AreMarked, holding, marking, other_than, reaching, released, joining};
 
-use crate::resting::AllResting;
+use crate::memos::forget_touched;
 use event_keys::Key;
-use plans::Plan;
+use plans::{Ask, Memo, Plan};
 use smallvec::SmallVec;
 use std::alloc::Global;
 use task_seed::{Setup, Turn, Turns};
@@ -84,9 +84,25 @@ fn undo_other(i: u16, j: u16, state: &mut Store)
     }
 }
 
-// Forgets the first mark of each of these but `i`.
+// Forgets the first mark of component `i` and of each of these others.
 #[inline(always)]
 fn forget_marks(i: u16, among: &[u16], states: &mut [Store])
+    requires own { i < length states.old }
+    requires once { Distinct among.now }
+    requires within { (j : ℕ) → IsIn j among.now ≡ true → j < length states.old }
+    requires marked { (j : ℕ) (state : States) → (j ≡ i) ⊎ (IsIn j among.now ≡ true)
+        → slice_get states.old j ≡ Some state → 0 < length state.below }
+    ensures each { (j : ℕ) → slice_get states.new j
+        ≡ option_map (released i among.now j) (slice_get states.old j) }
+    ensures many { length states.new ≡ length states.old }
+{
+    forget_others(i, among, states);
+    states[usize::from(i)].forget_first(1);
+}
+
+// Forgets the first mark of each of these but `i`.
+#[inline(always)]
+fn forget_others(i: u16, among: &[u16], states: &mut [Store])
     requires once { Distinct among.now }
     requires within { (j : ℕ) → IsIn j among.now ≡ true → j < length states.old }
     requires marked { AreMarked i among.now states.old }
@@ -107,8 +123,8 @@ fn forget_other(i: u16, j: u16, state: &mut Store)
     }
 }
 
-// An action of component `i` reaches others. Each one's state is marked until it has reached all that follow, so a refusal
-// leaves the states as they were, and no state is copied.
+// An action of component `i` reaches others. Each one's state is marked before, so a refusal leaves the states as they were, and no
+// state is copied.
 #[inline(always)]
 fn reach_all(
     alloc: Global,
@@ -120,10 +136,8 @@ fn reach_all(
 ) -> Result<(), NoMemory>
     requires once { Distinct among.now }
     requires within { (j : ℕ) → IsIn j among.now ≡ true → j < length states.old }
-    requires plain { (j : ℕ) (state : States) → slice_get states.old j ≡ Some state
-        → (j ≡ i → ⊥) → state.below ≡ [] }
-    ensures ok { OnOk result ((j : ℕ) → slice_get states.new j ≡ option_map
-        (reached (composition plan.now) i action.now among.now j) (slice_get states.old j)) }
+    ensures ok { OnOk result (IsPassed (reaching (composition plan.now) i action.now) among.now
+        states.old states.new) }
     ensures many { length states.new ≡ length states.old }
     ensures err { OnErr result (states.new ≡ states.old) }
 {
@@ -134,11 +148,11 @@ fn reach_all(
             return Err(refused);
         }
     }
-    forget_marks(i, among, states);
     Ok(())
 }
 
-// An action of component `i` is taken by it, and reaches others. A refusal leaves the states as they were.
+// An action of component `i` is taken by it, and reaches others; the state of each is marked before. A refusal leaves the states as
+// they were.
 #[inline(always)]
 fn take_action(
     alloc: Global,
@@ -151,10 +165,8 @@ fn take_action(
     requires own { i < length states.old }
     requires once { Distinct among.now }
     requires within { (j : ℕ) → IsIn j among.now ≡ true → j < length states.old }
-    requires plain { (j : ℕ) (state : States) → slice_get states.old j ≡ Some state
-        → state.below ≡ [] }
     ensures ok { OnOk result ((j : ℕ) → slice_get states.new j ≡ option_map
-        (taking (composition plan.now) i action.now among.now j) (slice_get states.old j)) }
+        (holding (composition plan.now) i action.now among.now j) (slice_get states.old j)) }
     ensures many { length states.new ≡ length states.old }
     ensures err { OnErr result (states.new ≡ states.old) }
 {
@@ -164,13 +176,12 @@ fn take_action(
         states[own].undo();
         return Err(refused);
     }
-    states[own].forget_first(1);
     Ok(())
 }
 
 /// The turn of a key, which is this one, is taken: its component's action, if it has one enabled in its state, by it and by
-/// each receiver. The action stands in `found` then. A refusal leaves the states as they were, and nothing there. A task of
-/// which nothing is enabled is noted, and isn't asked again until its component's state changes.
+/// each receiver. The action stands in `found` then. A refusal leaves the states as they were, and nothing there. What is found of a
+/// task is known until its component's state changes.
 #[inline(always)]
 pub(crate) fn take_turn<T: Turns>(
     alloc: Global,
@@ -178,7 +189,7 @@ pub(crate) fn take_turn<T: Turns>(
     key: Key,
     turn: Turn,
     states: &mut [Store],
-    resting: &mut AllResting,
+    memos: &mut [Memo],
     found: &mut Option<Action>,
 ) -> Result<(), NoMemory>
     requires turn { Some turn ≡ turn_in (system T.turn_of setup.now) key.component key.number }
@@ -186,8 +197,7 @@ pub(crate) fn take_turn<T: Turns>(
     requires many { length states.old ≡ length (composition (plan_of setup.now)) }
     requires plain { (j : ℕ) (state : States) → slice_get states.old j ≡ Some state
         → state.below ≡ [] }
-    requires resting { AreResting (composition (plan_of setup.now)) states.old
-        resting.old.components.items }
+    requires memos { AreMemos (composition (plan_of setup.now)) states.old memos.old }
     ensures found { OnOk result (IfSome (slice_get states.old key.component)
         (λ state. found.new
         ≡ turn_outcome (system T.turn_of setup.now) key.component key.number state.current)) }
@@ -198,33 +208,19 @@ pub(crate) fn take_turn<T: Turns>(
     ensures many { length states.new ≡ length states.old }
     ensures err { OnErr result (states.new ≡ states.old) }
     ensures none { OnErr result (found.new ≡ None) }
-    ensures resting { AreResting (composition (plan_of setup.now)) states.new
-        resting.new.components.items }
+    ensures memos { AreMemos (composition (plan_of setup.now)) states.new memos.new }
 {
     let i = key.component;
-    if resting.is_resting(i, turn.task) {
-        clear(found);
-        return Ok(());
-    }
-    let state = &states[usize::from(i)];
+    let place = usize::from(i);
+    let ask = Ask {
+        component: i,
+        task: turn.task,
+        choice: turn.choice,
+    };
     setup
         .plan()
-        .outcome_into(alloc, i, turn.task, turn.choice, state, found)?;
-    if found.is_none() {
-        resting.note(i, turn.task);
-        return Ok(());
-    }
-    act(alloc, setup, i, states, resting, found)
-}
-
-// Nothing stands there any more. Mostly nothing does before, so it is looked at first.
-#[inline(always)]
-fn clear(found: &mut Option<Action>)
-    ensures { found.new ≡ None }
-{
-    if found.is_some() {
-        put_none(found);
-    }
+        .outcome_known(alloc, ask, &states[place], &mut memos[place], found)?;
+    act(alloc, setup, i, states, memos, found)
 }
 
 /// Nothing stands there any more.
@@ -243,27 +239,25 @@ fn act<T: Turns>(
     setup: &Setup<T>,
     i: u16,
     states: &mut [Store],
-    resting: &mut AllResting,
+    memos: &mut [Memo],
     found: &mut Option<Action>,
 ) -> Result<(), NoMemory>
     requires within { i < length (composition (plan_of setup.now)) }
     requires many { length states.old ≡ length (composition (plan_of setup.now)) }
     requires plain { (j : ℕ) (state : States) → slice_get states.old j ≡ Some state
         → state.below ≡ [] }
-    requires resting { AreResting (composition (plan_of setup.now)) states.old
-        resting.old.components.items }
+    requires memos { AreMemos (composition (plan_of setup.now)) states.old memos.old }
     ensures found { OnOk result (found.new ≡ found.old) }
     ensures states { OnOk result ((j : ℕ) → slice_get states.new j ≡ option_map
         (joining (machine (system T.turn_of setup.now)) i found.old j) (slice_get states.old j)) }
     ensures many { length states.new ≡ length states.old }
     ensures err { OnErr result (states.new ≡ states.old) }
     ensures none { OnErr result (found.new ≡ None) }
-    ensures resting { AreResting (composition (plan_of setup.now)) states.new
-        resting.new.components.items }
+    ensures memos { AreMemos (composition (plan_of setup.now)) states.new memos.new }
 {
     let taken = match found.as_ref() {
         None => return Ok(()),
-        Some(action) => take_by_all(alloc, setup, i, action, states, resting),
+        Some(action) => take_by_all(alloc, setup, i, action, states, memos),
     };
     if taken.is_err() {
         put_none(found);
@@ -279,27 +273,26 @@ fn take_by_all<T: Turns>(
     i: u16,
     action: &Action,
     states: &mut [Store],
-    resting: &mut AllResting,
+    memos: &mut [Memo],
 ) -> Result<(), NoMemory>
     requires within { i < length (composition (plan_of setup.now)) }
     requires many { length states.old ≡ length (composition (plan_of setup.now)) }
     requires plain { (j : ℕ) (state : States) → slice_get states.old j ≡ Some state
         → state.below ≡ [] }
-    requires resting { AreResting (composition (plan_of setup.now)) states.old
-        resting.old.components.items }
+    requires memos { AreMemos (composition (plan_of setup.now)) states.old memos.old }
     ensures ok { OnOk result ((j : ℕ)
         → slice_get states.new j
         ≡ option_map (joining (machine (system T.turn_of setup.now)) i (Some action.now) j)
         (slice_get states.old j)) }
     ensures many { length states.new ≡ length states.old }
     ensures err { OnErr result (states.new ≡ states.old) }
-    ensures resting { AreResting (composition (plan_of setup.now)) states.new
-        resting.new.components.items }
+    ensures memos { AreMemos (composition (plan_of setup.now)) states.new memos.new }
 {
     let plan = setup.plan();
     let mut room = SmallVec::new(alloc);
     let among = plan.candidates(alloc, action, i, &mut room)?;
     take_action(alloc, plan, i, action, among, states)?;
-    resting.wake_all(i, among);
+    forget_touched(i, among, states, memos);
+    forget_marks(i, among, states);
     Ok(())
 }

@@ -118,6 +118,14 @@ impl Store {
         true
     }
 
+    /// Whether nothing was written since the newest mark. It may answer `false` though what was written stood there before.
+    #[inline(always)]
+    pub fn is_untouched(&self) -> bool
+        ensures { result ≡ true → (undone self.now).current ≡ self.now.current }
+    {
+        self.newest.is_empty()
+    }
+
     /// The number of the marked states below the current one.
     pub fn marks(&self) -> usize
         ensures { result ≡ length self.now.below }

@@ -2,10 +2,13 @@
 ghost use Rattle.std.specs.Prelude.{◌≡◌, ◌%◌, IfNone, IfOk, IfSome, OnOk, OnErr, [], None, length, slice_get};
 ghost use Rattle.io_automata.specs.Outcomes.{task_of, enabled_of, outcome_of};
 ghost use Rattle.plans.specs.Known.{IsTaskOf};
+ghost use Rattle.plans.specs.Memos.{IsMemo};
 
-use crate::plan::Plan;
+use crate::memo::Memo;
+use crate::plan::{Ask, Plan};
 use outcomes::Task;
-use outcomes::choose::{enabled, put_outcome};
+use outcomes::choose::{enabled, put_found, put_outcome, put_plain_outcome};
+use outcomes::found::find;
 use std::alloc::Global;
 use terms::{Action, Cells, NoMemory};
 
@@ -94,6 +97,71 @@ impl Plan {
             Some(task) => put_outcome(alloc, &task, choice, cells, found),
             None => Ok(()),
         }
+    }
+
+    /// The same where something may be known of the component's present state. What is found is known from then on.
+    #[inline(always)]
+    pub fn outcome_known<C: Cells>(
+        &self,
+        alloc: Global,
+        ask: Ask,
+        cells: &C,
+        memo: &mut Memo,
+        found: &mut Option<Action>,
+    ) -> Result<(), NoMemory>
+        requires memo { IsMemo (composition self.now) ask.component (C.values cells.now) memo.old }
+        ensures ok { OnOk result (found.new ≡ outcome_of (composition self.now) ask.component
+            ask.task ask.choice (C.values cells.now)) }
+        ensures err { OnErr result (found.new ≡ None) }
+        ensures memo { IsMemo (composition self.now) ask.component (C.values cells.now) memo.new }
+    {
+        put_none(found);
+        if memo.resting.is_resting(ask.task) {
+            return Ok(());
+        }
+        let Some(task) = self.task_at(ask.component, ask.task) else {
+            return Ok(());
+        };
+        if put_plain_outcome(alloc, &task, ask.choice, cells, found)? {
+            if found.is_none() {
+                memo.resting.note(ask.task);
+            }
+            return Ok(());
+        }
+        self.outcome_found(alloc, ask, cells, memo, found)
+    }
+
+    // The same where the task's conditions mention parameters.
+    #[inline(never)]
+    fn outcome_found<C: Cells>(
+        &self,
+        alloc: Global,
+        ask: Ask,
+        cells: &C,
+        memo: &mut Memo,
+        found: &mut Option<Action>,
+    ) -> Result<(), NoMemory>
+        requires memo { IsMemo (composition self.now) ask.component (C.values cells.now) memo.old }
+        requires none { found.old ≡ None }
+        ensures ok { OnOk result (found.new ≡ outcome_of (composition self.now) ask.component
+            ask.task ask.choice (C.values cells.now)) }
+        ensures err { OnErr result (found.new ≡ None) }
+        ensures memo { IsMemo (composition self.now) ask.component (C.values cells.now) memo.new }
+    {
+        let Some(task) = self.task_at(ask.component, ask.task) else {
+            return Ok(());
+        };
+        if let Some(founds) = memo.founds_of(ask.task) {
+            return put_found(alloc, &task, founds, ask.choice, found);
+        }
+        let founds = find(alloc, &task, cells)?;
+        put_found(alloc, &task, founds.as_slice(), ask.choice, found)?;
+        if found.is_none() {
+            memo.resting.note(ask.task);
+        } else {
+            memo.keep(ask.task, founds);
+        }
+        Ok(())
     }
 }
 

@@ -24,7 +24,8 @@ impl Plan {
         }
     }
 
-    pub(super) fn entries(&self, i: u16) -> &[Entry]
+    /// The entries of the signature of component `i`, with their transitions; none where there is no such component.
+    pub fn entries(&self, i: u16) -> &[Entry]
         ensures { (component_at (composition self.now) i).entries ≡ map transition_of result.now }
     {
         match self.automaton(i) {
@@ -33,7 +34,8 @@ impl Plan {
         }
     }
 
-    pub(super) fn formals(&self, i: u16) -> &[Scalar]
+    /// The values of the formals of component `i`; none where there is no such component.
+    pub fn formals(&self, i: u16) -> &[Scalar]
         ensures { (component_at (composition self.now) i).formals ≡ result.now }
     {
         match self.components.get(i as usize) {

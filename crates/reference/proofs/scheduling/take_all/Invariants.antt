@@ -6,7 +6,7 @@ use Rattle.virtual_time.specs.Reference.{reference_below}
 use Rattle.schedules.specs.Schedules.{KeysFit}
 use Rattle.reference.specs.Clocks.{AreClocks}
 use Rattle.plans.specs.Plans.{composition}
-use Rattle.reference.specs.Resting.{AreResting}
+use Rattle.reference.specs.Memos.{AreMemos}
 use Rattle.reference.specs.Standing.{taken_at, IsBeforeLeast}
 use Rattle.reference.proofs.scheduling.take_all.Given as goal
 
@@ -14,7 +14,7 @@ abbrev pub invariant-loop-turns : goal.invariant-loop-turns
 invariant-loop-turns g l = record {
   stands : IsBeforeLeast (system g.T.Turns.turn_of l.setup) l.frontier.places.items l.frontier.numbers.items l.frontier.states.items;
   clocks : AreClocks g.T.Turns.turn_of l.setup l.frontier.numbers.items l.frontier.clocks.clocks.items;
-  resting : AreResting (composition (plan_of l.setup)) l.frontier.states.items l.frontier.resting.components.items;
+  memos : AreMemos (composition (plan_of l.setup)) l.frontier.states.items l.frontier.memos.items;
   taken : turns_of l.turns.items ≡ taken_at (system g.T.Turns.turn_of l.setup) l.frontier.places.items l.frontier.numbers.items;
   keys : KeysFit l.turns.items;
 }

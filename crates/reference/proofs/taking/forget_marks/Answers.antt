@@ -1,21 +1,29 @@
-use Rattle.std.proofs.Common.{ap, sym, ◌∙◌}
-use Rattle.std.specs.Prelude.{slice_index_or}
-use Rattle.undo_records.specs.States.{without_first}
-use Rattle.reference.specs.Taking.{other_than}
-use Rattle.reference.proofs.Takers.{short, marked_here, one_more}
+use Rattle.std.proofs.Common.{inl, inr, arith}
+use Rattle.reference.proofs.Owning.{all_released, own_before}
 use Rattle.reference.proofs.taking.forget_marks.Goals as goal
+
+pub forget_others-requires-clause-marked : goal.forget_others-requires-clause-marked
+forget_others-requires-clause-marked c j state there apart at = c.requires.marked j state (inr there) at
 
 pub bounds-states-from : goal.bounds-states-from
 bounds-states-from c =
-    short (other_than c.args.i (without_first 1)) c.args.among.now c.requires.once c.args.states.now c.loop-j.states c.loop-j.j-index c.from.result c.from.ensures c.loop-j-test.true c.requires.within c.loop-j.invariant
+    let many = c.forget_others.ensures.many in
+    let own = c.requires.own in
+    let is = c.from.ensures in
+    omega (arith, many, own, is)
 
-pub forget_other-requires : goal.forget_other-requires
-forget_other-requires c apart =
-    marked_here (other_than c.args.i (without_first 1)) c.args.among.now c.requires.once c.args.states.now c.loop-j.states c.loop-j.j-index c.from.result c.from.ensures c.loop-j-test.true c.requires.within c.loop-j.invariant
-    c.index-states-from.result c.args.i c.requires.marked (λ same. apart (sym c.from.ensures ∙ same))
+pub forget_first-requires : goal.forget_first-requires
+forget_first-requires c =
+    let many = c.forget_others.ensures.many in
+    let own = c.requires.own in
+    let is = c.from.ensures in
+    let before = own_before c.args.i c.args.among.now c.args.states.now c.forget_others.new.states c.forget_others.ensures c.from.result c.from.ensures (omega (arith, many, own, is)) c.index-states-from.result in
+    let some = c.requires.marked c.from.result _ (inl c.from.ensures) before in
+    omega (arith, some)
 
-pub loop-j-preserved : goal.loop-j-preserved
-loop-j-preserved c =
-    let was = slice_index_or c.loop-j.states c.from.result c.index-states-from.result in
-    one_more (other_than c.args.i (without_first 1)) c.args.among.now c.requires.once c.args.states.now c.loop-j.states c.loop-j.j-index c.from.result c.from.ensures c.loop-j-test.true c.requires.within c.loop-j.invariant
-    c.index-states-from.result c.forget_other.new.state (c.forget_other.ensures ∙ ap (λ j. other_than c.args.i (without_first 1) j was) (sym c.from.ensures))
+pub returns-clause-each : goal.returns-clause-each
+returns-clause-each c =
+    let many = c.forget_others.ensures.many in
+    let own = c.requires.own in
+    let is = c.from.ensures in
+    all_released c.args.i c.args.among.now c.args.states.now c.forget_others.new.states c.forget_others.ensures c.from.result c.from.ensures (omega (arith, many, own, is)) c.index-states-from.result c.forget_first.new.self c.forget_first.ensures

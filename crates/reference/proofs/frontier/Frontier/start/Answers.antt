@@ -3,7 +3,8 @@ use Rattle.std.specs.Prelude.{replicate}
 use Rattle.std.specs.List.{range_with_len}
 use Rattle.plans.specs.Plans.{composition}
 use Rattle.io_automata.specs.Steps.{start_of}
-use Rattle.task_seed.specs.Setups.{system}
+use Rattle.plans.specs.MemoLaws.{blank_memo}
+use Rattle.task_seed.specs.Setups.{plan_of, system}
 use Rattle.task_seed.specs.Machines.{machine}
 use Rattle.reference.specs.Clocks.{AreClocks}
 use Rattle.reference.specs.Taking.{plain}
@@ -41,3 +42,10 @@ returns-clause-none g c =
 pub returns-clause-clocks : goal.returns-clause-clocks
 returns-clause-clocks g c =
     subst (λ numbers. AreClocks g.T.Turns.turn_of c.args.setup.now numbers c.in_ok-clocks.clocks.clocks.items) (sym c.in_ok-numbers.ensures) (c.in_ok-clocks.ensures c.components.result)
+
+pub returns-clause-memos : goal.returns-clause-memos
+returns-clause-memos g c =
+    record {
+      many = c.in_ok-memos.ensures.many ∙ ap (λ p. length (composition p)) c.plan-3.ensures;
+      each = λ j memo state at there. blank_memo (composition (plan_of c.args.setup.now)) j state.current memo (c.in_ok-memos.ensures.blank j memo at);
+    }

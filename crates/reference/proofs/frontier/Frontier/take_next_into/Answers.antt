@@ -172,7 +172,7 @@ move_on-requires-clause-within g c =
     let states = c.args.self.now.states.items in
     let key = c.in-Some.key in
     let first = c.in-Some.ensures ∙ ap (λ l. least_key l c.deref-2.result.now) c.deref.ensures.value ∙ ap (least_key places) c.deref-2.ensures.value in
-    subst (λ l. key.component < length l) (sym c.deref_mut-3.ensures.value) (numbers_within s law counted exists one places numbers states c.requires.stands key first)
+    subst (λ l. key.component < length l) (sym c.deref_mut-4.ensures.value) (numbers_within s law counted exists one places numbers states c.requires.stands key first)
 
 pub move_on-requires-clause-fits : goal.move_on-requires-clause-fits
 move_on-requires-clause-fits g c =
@@ -209,16 +209,16 @@ returns-clause-stands g c =
     let small = small_key s c.args.setup.now.in_range i (key.number + 1) (fits s law counted exists one places numbers here stands key first) next c.in-Ok.ensures.key c.in-Ok.ensures.small in
     let new = c.move_on.new.places in
     let moved = c.move_on.ensures in
-    let tournament = subst (λ (l : List ℕ). IsTournament (length l) new) c.deref_mut-3.ensures.value moved.tournament in
-    let own = subst (λ (l : List ℕ). node new (length l + i) ≡ place_of next) c.deref_mut-3.ensures.value moved.own in
-    let others = subst (λ (l : List ℕ). (k : ℕ) → k < length l → (k ≡ i → ⊥) → node new (length l + k) ≡ node places (length l + k)) c.deref_mut-3.ensures.value
-    (subst (λ (l : List ℕ). (k : ℕ) → k < length c.deref_mut-3.result.now → (k ≡ i → ⊥) → node new (length c.deref_mut-3.result.now + k) ≡ node l (length c.deref_mut-3.result.now + k)) c.deref_mut-2.ensures.value moved.others) in
+    let tournament = subst (λ (l : List ℕ). IsTournament (length l) new) c.deref_mut-4.ensures.value moved.tournament in
+    let own = subst (λ (l : List ℕ). node new (length l + i) ≡ place_of next) c.deref_mut-4.ensures.value moved.own in
+    let others = subst (λ (l : List ℕ). (k : ℕ) → k < length l → (k ≡ i → ⊥) → node new (length l + k) ≡ node places (length l + k)) c.deref_mut-4.ensures.value
+    (subst (λ (l : List ℕ). (k : ℕ) → k < length c.deref_mut-4.result.now → (k ≡ i → ⊥) → node new (length c.deref_mut-4.result.now + k) ≡ node l (length c.deref_mut-4.result.now + k)) c.deref_mut-3.ensures.value moved.others) in
     let new_numbers = c.move_on.new.numbers in
-    let counted_on = moved.numbers ∙ ap (λ l. slice_set l i (key.number + 1)) c.deref_mut-3.ensures.value in
+    let counted_on = moved.numbers ∙ ap (λ l. slice_set l i (key.number + 1)) c.deref_mut-4.ensures.value in
     let news = c.take_turn.new.states in
-    let places_are : (with_items c.args.self.now.places new).items ≡ new = with_items_is c.args.self.now.places new (moved.many ∙ c.deref_mut-2.ensures.len) in
+    let places_are : (with_items c.args.self.now.places new).items ≡ new = with_items_is c.args.self.now.places new (moved.many ∙ c.deref_mut-3.ensures.len) in
     let numbers_are : (with_items c.args.self.now.numbers new_numbers).items ≡ new_numbers
-    = with_items_is c.args.self.now.numbers new_numbers (ap length moved.numbers ∙ slice_set-length c.deref_mut-3.result.now i (key.number + 1) ∙ c.deref_mut-3.ensures.len) in
+    = with_items_is c.args.self.now.numbers new_numbers (ap length moved.numbers ∙ slice_set-length c.deref_mut-4.result.now i (key.number + 1) ∙ c.deref_mut-4.ensures.len) in
     let states_are : (with_items c.args.self.now.states news).items ≡ news = with_items_is c.args.self.now.states news (c.in_ok-take_turn.ensures.many ∙ c.deref_mut.ensures.len) in
     subst (λ (l : List States). IsAt s (point (machine s) (least_rank (with_items c.args.self.now.places new).items (with_items c.args.self.now.numbers new_numbers).items)) (with_items c.args.self.now.places new).items (with_items c.args.self.now.numbers new_numbers).items l) (sym states_are)
     (subst (λ (l : List ℕ). IsAt s (point (machine s) (least_rank l (with_items c.args.self.now.numbers new_numbers).items)) l (with_items c.args.self.now.numbers new_numbers).items news) (sym places_are)
@@ -246,16 +246,16 @@ returns-clause-whole g c =
     let small = small_key s c.args.setup.now.in_range i (key.number + 1) (fits s law counted exists one places numbers here stands key first) next c.in-Ok.ensures.key c.in-Ok.ensures.small in
     let new = c.move_on.new.places in
     let moved = c.move_on.ensures in
-    let tournament = subst (λ (l : List ℕ). IsTournament (length l) new) c.deref_mut-3.ensures.value moved.tournament in
-    let own = subst (λ (l : List ℕ). node new (length l + i) ≡ place_of next) c.deref_mut-3.ensures.value moved.own in
-    let others = subst (λ (l : List ℕ). (k : ℕ) → k < length l → (k ≡ i → ⊥) → node new (length l + k) ≡ node places (length l + k)) c.deref_mut-3.ensures.value
-    (subst (λ (l : List ℕ). (k : ℕ) → k < length c.deref_mut-3.result.now → (k ≡ i → ⊥) → node new (length c.deref_mut-3.result.now + k) ≡ node l (length c.deref_mut-3.result.now + k)) c.deref_mut-2.ensures.value moved.others) in
+    let tournament = subst (λ (l : List ℕ). IsTournament (length l) new) c.deref_mut-4.ensures.value moved.tournament in
+    let own = subst (λ (l : List ℕ). node new (length l + i) ≡ place_of next) c.deref_mut-4.ensures.value moved.own in
+    let others = subst (λ (l : List ℕ). (k : ℕ) → k < length l → (k ≡ i → ⊥) → node new (length l + k) ≡ node places (length l + k)) c.deref_mut-4.ensures.value
+    (subst (λ (l : List ℕ). (k : ℕ) → k < length c.deref_mut-4.result.now → (k ≡ i → ⊥) → node new (length c.deref_mut-4.result.now + k) ≡ node l (length c.deref_mut-4.result.now + k)) c.deref_mut-3.ensures.value moved.others) in
     let new_numbers = c.move_on.new.numbers in
-    let counted_on = moved.numbers ∙ ap (λ l. slice_set l i (key.number + 1)) c.deref_mut-3.ensures.value in
+    let counted_on = moved.numbers ∙ ap (λ l. slice_set l i (key.number + 1)) c.deref_mut-4.ensures.value in
     let news = c.take_turn.new.states in
-    let places_are : (with_items c.args.self.now.places new).items ≡ new = with_items_is c.args.self.now.places new (moved.many ∙ c.deref_mut-2.ensures.len) in
+    let places_are : (with_items c.args.self.now.places new).items ≡ new = with_items_is c.args.self.now.places new (moved.many ∙ c.deref_mut-3.ensures.len) in
     let numbers_are : (with_items c.args.self.now.numbers new_numbers).items ≡ new_numbers
-    = with_items_is c.args.self.now.numbers new_numbers (ap length moved.numbers ∙ slice_set-length c.deref_mut-3.result.now i (key.number + 1) ∙ c.deref_mut-3.ensures.len) in
+    = with_items_is c.args.self.now.numbers new_numbers (ap length moved.numbers ∙ slice_set-length c.deref_mut-4.result.now i (key.number + 1) ∙ c.deref_mut-4.ensures.len) in
     let states_are : (with_items c.args.self.now.states news).items ≡ news = with_items_is c.args.self.now.states news (c.in_ok-take_turn.ensures.many ∙ c.deref_mut.ensures.len) in
     subst (λ (l : List ℕ). IsComplete (machine s) (taken_at s l (with_items c.args.self.now.numbers new_numbers).items)) (sym places_are)
     (subst (λ (l : List ℕ). IsComplete (machine s) (taken_at s new l)) (sym numbers_are)
@@ -282,16 +282,16 @@ returns-clause-ok g c =
     let small = small_key s c.args.setup.now.in_range i (key.number + 1) (fits s law counted exists one places numbers here stands key first) next c.in-Ok.ensures.key c.in-Ok.ensures.small in
     let new = c.move_on.new.places in
     let moved = c.move_on.ensures in
-    let tournament = subst (λ (l : List ℕ). IsTournament (length l) new) c.deref_mut-3.ensures.value moved.tournament in
-    let own = subst (λ (l : List ℕ). node new (length l + i) ≡ place_of next) c.deref_mut-3.ensures.value moved.own in
-    let others = subst (λ (l : List ℕ). (k : ℕ) → k < length l → (k ≡ i → ⊥) → node new (length l + k) ≡ node places (length l + k)) c.deref_mut-3.ensures.value
-    (subst (λ (l : List ℕ). (k : ℕ) → k < length c.deref_mut-3.result.now → (k ≡ i → ⊥) → node new (length c.deref_mut-3.result.now + k) ≡ node l (length c.deref_mut-3.result.now + k)) c.deref_mut-2.ensures.value moved.others) in
+    let tournament = subst (λ (l : List ℕ). IsTournament (length l) new) c.deref_mut-4.ensures.value moved.tournament in
+    let own = subst (λ (l : List ℕ). node new (length l + i) ≡ place_of next) c.deref_mut-4.ensures.value moved.own in
+    let others = subst (λ (l : List ℕ). (k : ℕ) → k < length l → (k ≡ i → ⊥) → node new (length l + k) ≡ node places (length l + k)) c.deref_mut-4.ensures.value
+    (subst (λ (l : List ℕ). (k : ℕ) → k < length c.deref_mut-4.result.now → (k ≡ i → ⊥) → node new (length c.deref_mut-4.result.now + k) ≡ node l (length c.deref_mut-4.result.now + k)) c.deref_mut-3.ensures.value moved.others) in
     let new_numbers = c.move_on.new.numbers in
-    let counted_on = moved.numbers ∙ ap (λ l. slice_set l i (key.number + 1)) c.deref_mut-3.ensures.value in
+    let counted_on = moved.numbers ∙ ap (λ l. slice_set l i (key.number + 1)) c.deref_mut-4.ensures.value in
     let news = c.take_turn.new.states in
-    let places_are : (with_items c.args.self.now.places new).items ≡ new = with_items_is c.args.self.now.places new (moved.many ∙ c.deref_mut-2.ensures.len) in
+    let places_are : (with_items c.args.self.now.places new).items ≡ new = with_items_is c.args.self.now.places new (moved.many ∙ c.deref_mut-3.ensures.len) in
     let numbers_are : (with_items c.args.self.now.numbers new_numbers).items ≡ new_numbers
-    = with_items_is c.args.self.now.numbers new_numbers (ap length moved.numbers ∙ slice_set-length c.deref_mut-3.result.now i (key.number + 1) ∙ c.deref_mut-3.ensures.len) in
+    = with_items_is c.args.self.now.numbers new_numbers (ap length moved.numbers ∙ slice_set-length c.deref_mut-4.result.now i (key.number + 1) ∙ c.deref_mut-4.ensures.len) in
     let states_are : (with_items c.args.self.now.states news).items ≡ news = with_items_is c.args.self.now.states news (c.in_ok-take_turn.ensures.many ∙ c.deref_mut.ensures.len) in (
       subst (λ t. IsNext (machine s) (after (machine s) (taken_at s places numbers)) t) (sym (turn_is found key)) (next_turn s law counted exists one places numbers here stands key first found came),
       ap (λ l. taken_at s l (with_items c.args.self.now.numbers new_numbers).items) places_are ∙ ap (taken_at s new) numbers_are

@@ -3,7 +3,7 @@ use Rattle.std.specs.Arc.{arc_value}
 use Rattle.plans.specs.Plans.{composition}
 use Rattle.task_seed.specs.Setups.{system, plan_of}
 use Rattle.reference.specs.Clocks.{AreClocks}
-use Rattle.reference.specs.Resting.{AreResting}
+use Rattle.reference.specs.Memos.{AreMemos}
 use Rattle.reference.specs.Standing.{IsBeforeLeast, taken_at}
 use Rattle.reference.proofs.Stepping.{seen}
 use Rattle.reference.proofs.simulator.Reference.new.Goals as goal
@@ -14,7 +14,7 @@ invariant_of-result g c =
     let f = c.in_ok-frontier.frontier in (
       subst (λ p. IsBeforeLeast (system t p) f.places.items f.numbers.items f.states.items) c.deref.ensures c.in_ok-frontier.ensures.stands,
       subst (λ p. AreClocks t p f.numbers.items f.clocks.clocks.items) c.deref.ensures c.in_ok-frontier.ensures.clocks,
-      subst (λ p. AreResting (composition (plan_of p)) f.states.items f.resting.components.items) c.deref.ensures c.in_ok-frontier.ensures.resting,
+      subst (λ p. AreMemos (composition (plan_of p)) f.states.items f.memos.items) c.deref.ensures c.in_ok-frontier.ensures.memos,
     )
 
 pub returns : goal.returns
