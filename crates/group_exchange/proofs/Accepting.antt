@@ -1,6 +1,6 @@
 -- What a meeting moves is what the theory says, and all stays sound.
 use Rattle.std.proofs.Common.{◌≡◌, ℕ, zero, suc, ◌+◌, ◌-◌, ◌<◌, ◌≤◌, ◌==◌, ◌||◌, ◌⊎◌, inl, inr, Bool, true, false, true≢false, cond, Option, None, Some, List, [], ◌∷◌, map, length, refl, ap, sym, subst, ◌∙◌, arith}
-use Rattle.std.specs.Prelude.{All, nat_lt, slice_get, slice_set}
+use Rattle.std.specs.Prelude.{All, nat_lt, option_map, slice_get, slice_set}
 use Rattle.std.proofs.lemmas.Bool.{eq-eqb, eqb-true, ne_eqb, cases_eq, cases_lt}
 use Rattle.std.proofs.lemmas.List.Elements.{All-head, All-tail}
 use Rattle.std.proofs.lemmas.Option.{slice_get_past}
@@ -46,7 +46,7 @@ use Rattle.group_exchange.specs.declared.stub.Stub.{Stub}
 use Rattle.group_exchange.specs.LeaseView.{IsValidLease}
 use Rattle.group_exchange.specs.Moving.{AreCopies, HasPassedOn, HaveCome, among}
 use Rattle.group_exchange.specs.Held.{ArePuttable, HavePutTo, put_all}
-use Rattle.group_exchange.specs.ExchangeView.{AreStubs, ExchangeView, IsStub, IsValidExchange, exchange_of, group_at, inbox_in, inbox_of, stub_of, stub_or_none}
+use Rattle.group_exchange.specs.ExchangeView.{AreStubs, ExchangeView, IsStub, IsValidExchange, exchange_of, group_at, inbox_in, inbox_of, stub_of, stub_or_none, without_inbox}
 use Rattle.group_exchange.specs.Seen.{IsKnown}
 use Rattle.group_exchange.proofs.Agreeing.{lease_agrees, matches_agrees}
 use Rattle.group_exchange.proofs.Below.{onto_back}
@@ -60,6 +60,11 @@ pub mapped : {X Y : Type 0} (f : X → Y) (xs : List X) (p : ℕ) (y : Y) → sl
 mapped f [] p y e = absurd (none_some y e)
 mapped f (x ∷ xs) zero y e = (x, refl, one_some (f x) y e)
 mapped f (x ∷ xs) (suc p) y e = mapped f xs p y e
+
+pub mapped_at : {X Y : Type 0} (f : X → Y) (xs : List X) (p : ℕ) → slice_get (map f xs) p ≡ option_map f (slice_get xs p)
+mapped_at f [] p = refl
+mapped_at f (x ∷ xs) zero = refl
+mapped_at f (x ∷ xs) (suc p) = mapped_at f xs p
 
 -- the group of a component that there is is one of these
 pub group_below : (n : ℕ) (groups : List ℕ) → All (λ g. g < n) groups → (j : ℕ) → j < length groups → group_at groups j < n
@@ -185,6 +190,14 @@ module _ {P T : Type 0} (turn_of : T → ℕ → ℕ → Option TurnValue) (s : 
 
   none_was : (h : ℕ) → slice_get stubs h ≡ None → slice_get e.stubs h ≡ None
   none_was h q = let past = get_none stubs h q in let many = as_many in slice_get_past e.stubs h (omega (arith, past, many))
+
+  -- of which only the inbox has changed
+  pub others_kept : (h : ℕ) → (h ≡ v.number → ⊥) → slice_get (map without_inbox stubs) h ≡ slice_get (map without_inbox e.stubs) h
+  others_kept h ne = mapped_at without_inbox stubs h ∙ go (slice_get stubs h) refl ∙ sym (mapped_at without_inbox e.stubs h)
+    where
+      go : (o : Option Stub) → slice_get stubs h ≡ o → option_map without_inbox o ≡ option_map without_inbox (slice_get e.stubs h)
+      go None q = sym (ap (option_map without_inbox) (none_was h q))
+      go (Some x) q = ap (λ (y : Stub). Some (without_inbox y)) (come.each h x q).rest ∙ sym (ap (option_map without_inbox) (was_other h ne x q))
 
   -- nothing goes to its own components
   proper : IsLease (machine s) (group_at e.groups) v.number (lease_of (machine s) v)

@@ -1,6 +1,6 @@
 -- A meeting as it is done, part by part.
-use Rattle.std.proofs.Common.{◌≡◌, ℕ, ◌<◌, ◌≤◌, ◌==◌, ◌⊎◌, inl, inr, Option, Some, List, [], ◌∷◌, length, ap, sym, subst, subst₂, ◌∙◌, arith}
-use Rattle.std.specs.Prelude.{slice_get}
+use Rattle.std.proofs.Common.{◌≡◌, ℕ, ◌<◌, ◌≤◌, ◌==◌, ◌⊎◌, inl, inr, Option, Some, List, [], ◌∷◌, length, refl, ap, sym, subst, subst₂, ◌∙◌, arith}
+use Rattle.std.specs.Prelude.{option_map, slice_get}
 use Rattle.std.proofs.lemmas.Bool.{cases_lt, eq-eqb, eqb-true}
 use Rattle.terms.specs.Datum.{Datum}
 use Rattle.terms.specs.Named.{Named}
@@ -14,6 +14,7 @@ use Rattle.antimessage.specs.Counts.{Each}
 use Rattle.virtual_time.specs.Entries.{below}
 use Rattle.virtual_time.specs.Machine.{HasCount, Lawful, Machine}
 use Rattle.virtual_time.specs.Records.{Record, turns_among}
+use Rattle.virtual_time.specs.Rules.{IsDone}
 use Rattle.virtual_time.specs.Reference.{Falls}
 use Rattle.virtual_time.specs.Groups.Leases.{IsFloor, Matches}
 use Rattle.virtual_time.specs.Groups.Stubs.{Exchange}
@@ -32,15 +33,16 @@ use Rattle.groups.specs.Dropping.{AreGivenUp, cut_all, cut_to}
 use Rattle.groups.specs.GroupView.{AreMembers, GroupView, history_of, is_member, lease_of}
 use Rattle.groups.specs.Moves.{theory}
 use Rattle.groups.specs.Open.{AllInside}
-use Rattle.groups.proofs.Placed.{history_there, member_there}
+use Rattle.groups.proofs.Placed.{history_there, member_there, own_there}
 use Rattle.group_exchange.specs.declared.stub.Stub.{Stub}
 use Rattle.group_exchange.specs.LeaseView.{IsValidLease, KeepsMembers}
 use Rattle.group_exchange.specs.Moving.{AreCopies, HasPassedOn}
-use Rattle.group_exchange.specs.Held.{ArePuttable, HavePutTo}
+use Rattle.group_exchange.specs.Held.{ArePuttable, HaveNothing, HavePutTo}
 use Rattle.group_exchange.specs.ExchangeView.{ExchangeView, IsValidExchange, exchange_of, group_at, inbox_of}
-use Rattle.group_exchange.specs.Seen.{IsKnown}
-use Rattle.group_exchange.proofs.Accepting.{ApartLaw, FallsLaw, MetLaw, SoundLaw, accepted, cut_member, group_beyond, mapped}
+use Rattle.group_exchange.specs.Seen.{IsKnown, KeepsOthers}
+use Rattle.group_exchange.proofs.Accepting.{ApartLaw, FallsLaw, MetLaw, SoundLaw, accepted, cut_member, group_beyond, mapped, mapped_at, others_kept}
 use Rattle.group_exchange.proofs.Below.{onto_back}
+use Rattle.group_exchange.proofs.Nothing.{have_nothing}
 use Rattle.group_exchange.proofs.Placing.{get_there}
 use Rattle.group_exchange.proofs.Putting.{MergedFalls, MergedOutcomes}
 
@@ -83,6 +85,28 @@ module _ {P T : Type 0} (turn_of : T → ℕ → ℕ → Option TurnValue) (s : 
           let few = is.few in
           let here = own in
           absurd (omega (arith, far, there, few, here))
+
+  -- so has each of those that it has before
+  pub listed_before : (many : ℕ) → many ≡ length e.held → (q : ℕ) (c : ComponentView (Setup T)) → slice_get v.components q ≡ Some c → c.number < many
+  listed_before many all q c at =
+      listed w.components refl many all q (cut_to turn_of e.bound c)
+      (subst (λ cs. slice_get cs q ≡ Some (cut_to turn_of e.bound c)) (sym (ap (λ (x : GroupView (Setup T)). x.components) dropped)) (mapped_at (cut_to turn_of e.bound) v.components q ∙ ap (option_map (cut_to turn_of e.bound)) at))
+
+  -- where the bound is the base, they have nothing to give up
+  pub nothing_below : AreSound turn_of (record { setup = v.setup; base = v.base; components = v.components }) → system turn_of v.setup ≡ s → v.base ≡ e.bound → HaveNothing turn_of e.bound v.components
+  nothing_below sound of_setup same = have_nothing turn_of e.bound v.components each
+    where
+      each : (q : ℕ) (c : ComponentView (Setup T)) → slice_get v.components q ≡ Some c → (c.base ≡ e.bound) × IsDone (machine_of turn_of c.setup) c.number (rank_of_bound e.bound) c.history.first c.history.base c.history.done
+      each q c at =
+          let own = own_there v.setup v.base v.components q c sound.own at in
+          let mine : group_at e.groups c.number ≡ v.number = eqb-true (group_at e.groups c.number) v.number (known.members c.number ∙ member_there v.components q c at) in
+          let proper = (valid.lease (group_at e.groups) known.members).proper c.number mine in
+          let history = history_there (machine s) sound.place 0 v.components q c sound.apart at in
+          let machines : machine s ≡ machine_of turn_of c.setup = ap machine (sym of_setup ∙ ap (system turn_of) (sym own.0)) in (
+            own.1 ∙ same,
+            subst (λ m. IsDone m c.number (rank_of_bound e.bound) c.history.first c.history.base c.history.done) machines
+                (subst (λ (r : Record (List Datum) Named). IsDone (machine s) c.number (rank_of_bound e.bound) r.first r.base r.done) history (subst (λ b. IsDone (machine s) c.number (rank_of_bound b) (history_of (machine s) v.components c.number).first (history_of (machine s) v.components c.number).base (history_of (machine s) v.components c.number).done) same proper.done)),
+          )
 
   module _ (sound : AreSound turn_of (record { setup = v.setup; base = v.base; components = v.components })) (lists : List (Around Turned)) (given : AreGivenUp e.bound v.components lists) (falls_law : FallsLaw (machine s) (group_at e.groups)) where
     -- what each gives up can be put into its list
@@ -138,6 +162,7 @@ module _ {P T : Type 0} (turn_of : T → ℕ → ℕ → Option TurnValue) (s : 
         pub shared : IsValidExchange s after
         pub lease : IsValidLease (machine s) (length s.composition) new
         pub keeps : KeepsMembers v new
+        pub others : KeepsOthers v.number e after
         pub many : length stubs ≡ length e.stubs
         pub long : length held ≡ length e.held
 
@@ -153,6 +178,7 @@ module _ {P T : Type 0} (turn_of : T → ℕ → ℕ → Option TurnValue) (s : 
               ap (λ (y : GroupView (Setup T)). y.number) new_is,
               λ j. ap (λ (y : GroupView (Setup T)). is_member y.components j) new_is ∙ cut_member turn_of e.bound v.components j,
             );
+            others = others_kept turn_of s law e is v of_setup valid known copies copied new.floor stubs passed_here;
             many = passed_here.many;
             long = all.shared.lists ∙ sym is.lists;
           }

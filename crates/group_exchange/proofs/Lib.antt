@@ -19,3 +19,4 @@ mod Chunking
 mod Copied
 mod Joining
 mod Repeated
+mod Nothing

@@ -40,6 +40,10 @@ pub record ExchangeView (P : Type 0) : Type 0 where
 abbrev pub group_at : List ℕ → ℕ → ℕ
 group_at groups j = slice_index_or groups j 65536
 
+-- what only a group's own lease changes of its stub: all but its inbox
+abbrev pub without_inbox : Stub → Stub
+without_inbox stub = record stub { inbox = []; copies = [] }
+
 -- the stub of a group as the theory sees it
 abbrev pub stub_of : Machine (List Datum) Named → Stub → StubSeen Named
 stub_of m s =

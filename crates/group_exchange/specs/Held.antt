@@ -1,11 +1,16 @@
 -- The turns that were taken in and not given, a list for each component, the first turn first.
-use Rattle.std.specs.Prelude.{◌≡◌, ℕ, zero, suc, ◌<◌, ◌^◌, Some, List, [], ◌∷◌, length, map, slice_get, slice_set}
+use Rattle.std.specs.Prelude.{◌≡◌, ℕ, Option, zero, suc, ◌<◌, ◌^◌, Some, List, [], ◌∷◌, length, map, slice_get, slice_set}
 use Rattle.terms.specs.Named.{Named}
 use Rattle.event_keys.specs.declared.outcome.Turned.{Turned}
-use Rattle.event_keys.specs.Ranks.{owner_of, rank}
+use Rattle.event_keys.specs.Ranks.{owner_of, rank, rank_of_bound}
 use Rattle.antimessage.specs.Counts.{Each}
 use Rattle.raw_events.specs.Around.{Around}
 use Rattle.rollback.specs.ComponentView.{ComponentView}
+use Rattle.event_keys.specs.declared.key.Bound.{Bound}
+use Rattle.groups.specs.Dropping.{AreGivenUp, cut_all}
+use Rattle.task_seed.specs.declared.setup.Setup.{Setup}
+use Rattle.task_seed.specs.declared.turns.Turn.{Turn as TurnValue}
+use Rattle.virtual_time.specs.Entries.{below}
 use Rattle.virtual_time.specs.Reference.{Falls, Turn}
 use Rattle.virtual_time.specs.Exchange.Merged.{put_turns}
 use Rattle.task_seed.specs.Taken.{turns_of}
@@ -65,3 +70,14 @@ pub record HasPutOne {P : Type 0} (cs : List (ComponentView P)) (lists : List (A
 abbrev pub HavePutTo : {P : Type 0} → List (ComponentView P) → List (Around Turned) → ℕ → List (List Turned) → List (List Turned) → Type 0
 HavePutTo cs lists zero old new = new ≡ old
 HavePutTo cs lists (suc place) old new = (mid : List (List Turned)) × HavePutTo cs lists place old mid × HasPutOne cs lists place mid new
+
+-- what components give up below a bound came into their queues
+pub record AreTakenIn {T : Type 0} (turn_of : T → ℕ → ℕ → Option TurnValue) (bound : Bound) (cs : List (ComponentView (Setup T))) (old new : List (List Turned)) : Type 0 where
+  pub lists : List (Around Turned)
+  pub given : AreGivenUp bound cs lists
+  pub put : HavePutTo (cut_all turn_of bound cs) lists (length (cut_all turn_of bound cs)) old new
+
+-- components have nothing to give up below a bound, which is their base
+pub record HaveNothing {T : Type 0} (turn_of : T → ℕ → ℕ → Option TurnValue) (bound : Bound) (cs : List (ComponentView (Setup T))) : Type 0 where
+  pub cut : cut_all turn_of bound cs ≡ cs
+  pub none : (q : ℕ) (c : ComponentView (Setup T)) → slice_get cs q ≡ Some c → below (rank_of_bound bound) c.history.done ≡ []

@@ -1,5 +1,5 @@
 -- What a call of an exchange or of a lease is in the theory.
-use Rattle.std.specs.Prelude.{◌≡◌, ℕ, ◌<◌, Option, List, [], ◌∷◌, length}
+use Rattle.std.specs.Prelude.{◌≡◌, ℕ, ◌<◌, Option, List, [], ◌∷◌, length, map, slice_get}
 use Rattle.terms.specs.Datum.{Datum}
 use Rattle.terms.specs.Named.{Named}
 use Rattle.virtual_time.specs.Machine.{Machine}
@@ -19,7 +19,7 @@ use Rattle.groups.specs.GroupView.{AreMembers, GroupView, lease_of}
 use Rattle.group_exchange.specs.Chunks.{IsGiven}
 use Rattle.group_exchange.specs.Core.{AreMeetings, Moves, SimulatesSteps, StaysKnown}
 use Rattle.group_exchange.specs.LeaseView.{IsValidLease}
-use Rattle.group_exchange.specs.ExchangeView.{ExchangeView, exchange_of, group_at}
+use Rattle.group_exchange.specs.ExchangeView.{ExchangeView, exchange_of, group_at, without_inbox}
 
 -- a lease of a group of these components is the one that an exchange knows, which has so many groups
 pub record IsKnown {P : Type 0} (m : Machine (List Datum) Named) (group : ℕ → ℕ) (groups : ℕ) (e : Exchange Named) (lease : GroupView P) : Type 0 where
@@ -87,6 +87,10 @@ module _ {T : Type 0} (turn_of : T → ℕ → ℕ → Option Turn) (old : Excha
   -- the turns, of which the first has this number, were held, and are the next ones of the reference
   abbrev pub HasGiven : ℕ → List (Taken Named) → ExchangeView (Setup T) → Type 0
   HasGiven first turns new = (b : ℕ) × IsChunk theory group count (seen old) b (seen new) turns × IsGiven theory first b turns
+
+-- of what is kept of the groups but this one only their inboxes have changed
+abbrev pub KeepsOthers : {P : Type 0} → ℕ → ExchangeView P → ExchangeView P → Type 0
+KeepsOthers number old new = (g : ℕ) → (g ≡ number → ⊥) → slice_get (map without_inbox new.stubs) g ≡ slice_get (map without_inbox old.stubs) g
 
 -- from a lease
 module _ {T : Type 0} (turn_of : T → ℕ → ℕ → Option Turn) (old : GroupView (Setup T)) where

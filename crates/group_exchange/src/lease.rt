@@ -13,8 +13,9 @@ ghost use Rattle.group_exchange.specs.Seen.{IsSoundLease, MovesAlone, StaysTheSa
 
 use crate::copying::copies_of;
 use crate::tally::Effort;
-use event_keys::Bound;
+use event_keys::{Bound, Turned};
 use groups::{Group, Ran};
+use raw_events::EventList;
 use rollback::Copies;
 use std::alloc::Global;
 use std::marker::Model;
@@ -162,6 +163,14 @@ impl<T: Turns> Lease<T> {
         self.group.soundness_law();
         self.effort.process(ran.count);
         ran
+    }
+
+    /// Adds spare cells of turns that are of no use any more. They serve for its components' next turns, which then take no memory for it.
+    pub fn add_spare(&mut self, spare: &mut EventList<Turned>)
+        ensures kept { self.new ≡ self.old }
+        ensures empty { spare.new ≡ record { before = []; after = [] } }
+    {
+        self.group.add_spare(spare);
     }
 
     /// Delivers all that is in its tray, and what follows of it within the group. It takes no memory.

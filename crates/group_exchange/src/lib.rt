@@ -4,6 +4,7 @@
 pub mod chunk;
 mod committing;
 mod copying;
+pub mod division;
 pub mod exchange;
 pub mod lease;
 mod meeting;
@@ -16,6 +17,7 @@ pub mod stub;
 pub mod tally;
 
 pub use chunk::Chunk;
+pub use division::partition_of;
 pub use exchange::Exchange;
 pub use lease::Lease;
 pub use parcel::Parcel;

@@ -1,5 +1,5 @@
 //! Meetings of a lease with what workers share.
-ghost use Rattle.std.specs.Prelude.{◌≡◌, ◌<◌, ◌++◌, ℕ, [], length, slice_get, IfOk, OnOk, OnErr};
+ghost use Rattle.std.specs.Prelude.{◌≡◌, ◌<◌, ◌++◌, ℕ, List, Some, [], length, slice_get, IfOk, OnOk, OnErr};
 ghost use Rattle.event_keys.specs.Ranks.{rank_of_bound};
 ghost use Rattle.antimessage.specs.Bags.{first_is_below, insert_all, without_below};
 ghost use Rattle.task_seed.specs.Setups.{system};
@@ -9,14 +9,20 @@ ghost use Rattle.groups.specs.Open.{AllInside};
 ghost use Rattle.virtual_time.specs.Groups.Leases.{IsFloor};
 ghost use Rattle.groups.specs.GroupView.{lease_of};
 ghost use Rattle.group_exchange.specs.ExchangeView.{group_at, inbox_of};
+ghost use Rattle.group_exchange.specs.Held.{AreTakenIn, ArePuttable, HaveNothing};
+ghost use Rattle.groups.specs.Dropping.{AreGivenUp, cut_all};
+ghost use Rattle.raw_events.specs.Around.{Around};
+ghost use Rattle.event_keys.specs.declared.outcome.Turned.{Turned as TurnedSeen};
+ghost use Rattle.rollback.specs.ComponentView.{ComponentView};
+ghost use Rattle.task_seed.specs.declared.setup.Setup.{Setup as SetupSeen};
 ghost use Rattle.group_exchange.specs.LeaseView.{KeepsMembers};
 ghost use Rattle.group_exchange.specs.Moving.{AllCome, HasMetStub, HasPassedOn, IsArrived, IsBrought, IsForgotten, IsHandedOver, IsSent, first_receiver};
-ghost use Rattle.group_exchange.specs.Seen.{HaveMet, Knows, OnlyMeets};
+ghost use Rattle.group_exchange.specs.Seen.{HaveMet, KeepsOthers, Knows, OnlyMeets};
 
 use crate::exchange::Exchange;
 use crate::lease::Lease;
 use crate::notes::Notes;
-use crate::queue::put_all_into;
+use crate::queue::{Queue, put_all_into};
 use crate::stub::Stub;
 use antimessage::Bag;
 use antimessage::laws::order_law;
@@ -244,6 +250,37 @@ fn pass_on<T: Turns>(
     spread(stubs, groups, &mut out, &mut copies.of_receiver, notes);
 }
 
+// What the components of a group give up below a bound comes into their queues, and the bound becomes the group's base. Where it is that already, they
+// have nothing to give up. Where memory is refused nothing changes.
+fn take_in<T: Turns>(
+    alloc: Global,
+    queues: &mut [Queue],
+    group: &mut Group<T>,
+    bound: Bound,
+) -> Result<(), NoMemory>
+    requires there { (place : ℕ) (c : ComponentView (SetupSeen T))
+        → slice_get group.old.components place ≡ Some c → c.number < length queues.old }
+    requires puttable { (lists : List (Around TurnedSeen))
+        → AreGivenUp bound group.old.components lists
+        → ArePuttable (cut_all T.turn_of bound group.old.components) lists }
+    requires nothing { group.old.base ≡ bound
+        → HaveNothing T.turn_of bound group.old.components }
+    ensures group { OnOk result (group.new ≡ record group.old {
+      base = bound;
+      components = cut_all T.turn_of bound group.old.components;
+    }) }
+    ensures taken { OnOk result
+        (AreTakenIn T.turn_of bound group.old.components queues.old queues.new) }
+    ensures kept { OnErr result ((queues.new ≡ queues.old) × (group.new ≡ group.old)) }
+{
+    if group.base() == bound {
+        return Ok(());
+    }
+    let mut lists = group.drop_below(alloc, bound)?;
+    put_all_into(queues, group.components(), &mut lists);
+    Ok(())
+}
+
 impl<T: Turns> Exchange<T> {
     /// A lease meets the exchange. Its outgoing messages and antimessages go to their receivers' inboxes, where each antimessage
     /// annihilates with its message; its own inbox goes into its tray; the done entries of its components below the exchange's bound are dropped,
@@ -261,8 +298,10 @@ impl<T: Turns> Exchange<T> {
         requires known { Knows T.turn_of self.old lease.old }
         ensures bound { IfOk result (λ bound. bound ≡ self.old.bound) }
         ensures met { OnOk result (HaveMet T.turn_of self.old lease.old self.new lease.new) }
+        ensures there { length self.new.stubs ≡ length self.old.stubs }
         ensures core { OnOk result (OnlyMeets T.turn_of self.old lease.old self.new lease.new) }
         ensures known { OnOk result (Knows T.turn_of self.new lease.new) }
+        ensures others { OnOk result (KeepsOthers lease.old.number self.old self.new) }
         ensures rest { self.new ≡ record self.old { stubs = self.new.stubs; held = self.new.held } }
         ensures same { KeepsMembers lease.old lease.new }
         ensures kept { OnErr result ((self.new ≡ self.old) × (lease.new ≡ lease.old)) }
@@ -282,6 +321,7 @@ impl<T: Turns> Exchange<T> {
         ensures bound { IfOk result (λ bound. bound ≡ self.old.bound) }
         ensures met { OnOk result (HaveMet T.turn_of self.old lease.old self.new lease.new) }
         ensures there { length self.new.stubs ≡ length self.old.stubs }
+        ensures others { OnOk result (KeepsOthers lease.old.number self.old self.new) }
         ensures rest { self.new ≡ record self.old { stubs = self.new.stubs; held = self.new.held } }
         ensures same { KeepsMembers lease.old lease.new }
         ensures kept { OnErr result ((self.new ≡ self.old) × (lease.new ≡ lease.old)) }
@@ -293,10 +333,9 @@ impl<T: Turns> Exchange<T> {
         merging_law::<Action>();
         let copies = lease.take_copies(alloc)?;
         lease.group.soundness_law();
-        let mut lists = lease.group.drop_below(alloc, self.bound)?;
+        take_in(alloc, &mut self.held, &mut lease.group, self.bound)?;
         lease.copies = None;
         self.notes.tally.meet();
-        put_all_into(&mut self.held, lease.group.components(), &mut lists);
         pass_on(
             &mut self.stubs,
             &self.groups,

@@ -1,5 +1,6 @@
-use Rattle.std.proofs.Common.{◌≡◌, length, sym, ap, subst, subst₂, ◌∙◌}
+use Rattle.std.proofs.Common.{◌≡◌, ℕ, length, map, refl, sym, ap, subst, subst₂, ◌∙◌}
 use Rattle.std.specs.Arc.{arc_value}
+use Rattle.std.specs.Prelude.{slice_get}
 use Rattle.std.specs.Vec.{with_items}
 use Rattle.std.proofs.lemmas.List.{with_items_is}
 use Rattle.virtual_time.specs.Machine.{HasCount, Lawful}
@@ -12,13 +13,13 @@ use Rattle.groups.specs.Dropping.{cut_all}
 use Rattle.groups.specs.GroupView.{GroupView, lease_of}
 use Rattle.group_exchange.specs.LeaseView.{IsValidLease, KeepsMembers}
 use Rattle.group_exchange.specs.Moving.{AreCopies}
-use Rattle.group_exchange.specs.ExchangeView.{ExchangeView, IsValidExchange, exchange_of, group_at}
+use Rattle.group_exchange.specs.ExchangeView.{ExchangeView, IsValidExchange, exchange_of, group_at, without_inbox}
 use Rattle.group_exchange.specs.Seen.{IsKnown}
-use Rattle.group_exchange.proofs.Joining.{came_inside, can_put, joined, listed}
+use Rattle.group_exchange.proofs.Joining.{came_inside, can_put, joined, listed_before, nothing_below}
 use Rattle.group_exchange.proofs.exchange.Exchange.join.Goals as goal
 
-pub put_all_into-requires-clause-there : goal.put_all_into-requires-clause-there
-put_all_into-requires-clause-there g c = λ _ _.
+pub take_in-requires-clause-there : goal.take_in-requires-clause-there
+take_in-requires-clause-there g c = λ _ _.
     let t = g.T.Turns.turn_of in
     let f = c.self.inside in
     let e : ExchangeView _ = record { setup = arc_value f.setup; groups = f.groups.items; stubs = f.stubs.items; passages = f.passages.items; bound = f.bound; held = f.held.items; given = f.given } in
@@ -33,11 +34,10 @@ put_all_into-requires-clause-there g c = λ _ _.
     let valid : IsValidLease m (length s.composition) v = subst (λ x. IsValidLease (machine x) (length x.composition) v) of_setup c.lease.invariant.0 in
     let known : IsKnown m G (length f.stubs.items) (exchange_of m e) v
     = subst₂ (λ (x : ExchangeView _) (y : GroupView _). IsKnown (machine_of t x.setup) (group_at x.groups) (length x.stubs) (exchange_of (machine_of t x.setup) x) y) (sym c.self.view_is) (sym v_is) c.requires.known in
-    let dropped : c.drop_below.new.self ≡ record v { base = f.bound; components = cut_all t f.bound v.components } = c.in_ok-lists.ensures.group in
-    listed t s law e is v valid known c.drop_below.new.self dropped c.components.result.now c.components.ensures (length c.deref_mut.result.now) (ap length c.deref_mut.ensures.value)
+    listed_before t s law e is v valid known (record v { base = f.bound; components = cut_all t f.bound v.components }) refl (length c.deref_mut.result.now) (ap length c.deref_mut.ensures.value)
 
-pub put_all_into-requires-clause-turns : goal.put_all_into-requires-clause-turns
-put_all_into-requires-clause-turns g c = λ _ _.
+pub take_in-requires-clause-puttable : goal.take_in-requires-clause-puttable
+take_in-requires-clause-puttable g c = λ _ _ lists given.
     let t = g.T.Turns.turn_of in
     let f = c.self.inside in
     let e : ExchangeView _ = record { setup = arc_value f.setup; groups = f.groups.items; stubs = f.stubs.items; passages = f.passages.items; bound = f.bound; held = f.held.items; given = f.given } in
@@ -52,8 +52,25 @@ put_all_into-requires-clause-turns g c = λ _ _.
     let valid : IsValidLease m (length s.composition) v = subst (λ x. IsValidLease (machine x) (length x.composition) v) of_setup c.lease.invariant.0 in
     let known : IsKnown m G (length f.stubs.items) (exchange_of m e) v
     = subst₂ (λ (x : ExchangeView _) (y : GroupView _). IsKnown (machine_of t x.setup) (group_at x.groups) (length x.stubs) (exchange_of (machine_of t x.setup) x) y) (sym c.self.view_is) (sym v_is) c.requires.known in
-    let dropped : c.drop_below.new.self ≡ record v { base = f.bound; components = cut_all t f.bound v.components } = c.in_ok-lists.ensures.group in
-    can_put t s law e is v valid known c.drop_below.new.self dropped c.soundness_law.ensures.members c.in_ok-lists.lists.items c.in_ok-lists.ensures.turns (c.group_meeting_law.ensures.falls m G) c.components.result.now c.components.ensures c.deref_mut-2.result.now c.deref_mut-2.ensures.value
+    can_put t s law e is v valid known (record v { base = f.bound; components = cut_all t f.bound v.components }) refl c.soundness_law.ensures.members lists given (c.group_meeting_law.ensures.falls m G) (cut_all t f.bound v.components) refl lists refl
+
+pub take_in-requires-clause-nothing : goal.take_in-requires-clause-nothing
+take_in-requires-clause-nothing g c = λ _ _.
+    let t = g.T.Turns.turn_of in
+    let f = c.self.inside in
+    let e : ExchangeView _ = record { setup = arc_value f.setup; groups = f.groups.items; stubs = f.stubs.items; passages = f.passages.items; bound = f.bound; held = f.held.items; given = f.given } in
+    let s = system t (arc_value f.setup) in
+    let m = machine s in
+    let G = group_at f.groups.items in
+    let law : Lawful m = subst (λ p. Lawful (machine (system t p))) c.deref.ensures c.machine_is_lawful.ensures.lawful in
+    let v = c.lease.inside.group in
+    let v_is : v ≡ c.args.lease.now = c.lease.view_is ∙ c.in_ok-copies.ensures.same in
+    let of_setup : system t v.setup ≡ s = ap (λ (x : GroupView _). system t x.setup) v_is ∙ sym c.requires.own ∙ sym (ap (λ (x : ExchangeView _). system t x.setup) c.self.view_is) in
+    let is : IsValidExchange s e = c.self.invariant.1 in
+    let valid : IsValidLease m (length s.composition) v = subst (λ x. IsValidLease (machine x) (length x.composition) v) of_setup c.lease.invariant.0 in
+    let known : IsKnown m G (length f.stubs.items) (exchange_of m e) v
+    = subst₂ (λ (x : ExchangeView _) (y : GroupView _). IsKnown (machine_of t x.setup) (group_at x.groups) (length x.stubs) (exchange_of (machine_of t x.setup) x) y) (sym c.self.view_is) (sym v_is) c.requires.known in
+    nothing_below t s law e is v valid known (record v { base = f.bound; components = cut_all t f.bound v.components }) refl c.soundness_law.ensures.members of_setup
 
 pub pass_on-requires-clause-inside : goal.pass_on-requires-clause-inside
 pass_on-requires-clause-inside g c = λ _ _.
@@ -71,11 +88,11 @@ pass_on-requires-clause-inside g c = λ _ _.
     let valid : IsValidLease m (length s.composition) v = subst (λ x. IsValidLease (machine x) (length x.composition) v) of_setup c.lease.invariant.0 in
     let known : IsKnown m G (length f.stubs.items) (exchange_of m e) v
     = subst₂ (λ (x : ExchangeView _) (y : GroupView _). IsKnown (machine_of t x.setup) (group_at x.groups) (length x.stubs) (exchange_of (machine_of t x.setup) x) y) (sym c.self.view_is) (sym v_is) c.requires.known in
-    let dropped : c.drop_below.new.self ≡ record v { base = f.bound; components = cut_all t f.bound v.components } = c.in_ok-lists.ensures.group in
-    came_inside t s law e is v valid known c.drop_below.new.self dropped c.deref_mut-3.result.now c.deref_mut-3.ensures.value
+    let dropped : c.take_in.new.group ≡ record v { base = f.bound; components = cut_all t f.bound v.components } = c.in_ok-take_in.ensures.group in
+    came_inside t s law e is v valid known c.take_in.new.group dropped c.deref_mut-2.result.now c.deref_mut-2.ensures.value
 
-pub invariant_of-self : goal.invariant_of-self
-invariant_of-self g c =
+pub invariant_of-self-2 : goal.invariant_of-self-2
+invariant_of-self-2 g c =
     let t = g.T.Turns.turn_of in
     let f = c.self.inside in
     let e : ExchangeView _ = record { setup = arc_value f.setup; groups = f.groups.items; stubs = f.stubs.items; passages = f.passages.items; bound = f.bound; held = f.held.items; given = f.given } in
@@ -90,15 +107,16 @@ invariant_of-self g c =
     let valid : IsValidLease m (length s.composition) v = subst (λ x. IsValidLease (machine x) (length x.composition) v) of_setup c.lease.invariant.0 in
     let known : IsKnown m G (length f.stubs.items) (exchange_of m e) v
     = subst₂ (λ (x : ExchangeView _) (y : GroupView _). IsKnown (machine_of t x.setup) (group_at x.groups) (length x.stubs) (exchange_of (machine_of t x.setup) x) y) (sym c.self.view_is) (sym v_is) c.requires.known in
-    let dropped : c.drop_below.new.self ≡ record v { base = f.bound; components = cut_all t f.bound v.components } = c.in_ok-lists.ensures.group in
+    let dropped : c.take_in.new.group ≡ record v { base = f.bound; components = cut_all t f.bound v.components } = c.in_ok-take_in.ensures.group in
     let counted : HasCount m (length s.composition) = subst (λ p. HasCount (machine (system t p)) (length (composition (plan_of p)))) c.deref.ensures c.machine_is_lawful.ensures.counted in
+    let taken = c.in_ok-take_in.ensures.taken in
     let copied = subst (λ (x : GroupView _). AreCopies x.out c.in_ok-copies.copies) (sym v_is) c.in_ok-copies.ensures.copies in
-    let all = joined t s law e is v valid known c.drop_below.new.self dropped c.soundness_law.ensures.members c.in_ok-lists.lists.items c.in_ok-lists.ensures.turns (c.group_meeting_law.ensures.falls m G) of_setup c.in_ok-copies.copies copied
-    c.deref-2.result.now c.deref-2.ensures.value c.deref_mut-3.result.now c.deref_mut-3.ensures.value c.pass_on.new.stubs c.pass_on.new.group c.pass_on.ensures.passed c.pass_on.ensures.group c.pass_on.ensures.floor
-    c.components.result.now c.components.ensures c.deref_mut-2.result.now c.deref_mut-2.ensures.value c.deref_mut.result.now c.deref_mut.ensures.value c.put_all_into.new.queues c.put_all_into.ensures
+    let all = joined t s law e is v valid known c.take_in.new.group dropped c.soundness_law.ensures.members taken.lists taken.given (c.group_meeting_law.ensures.falls m G) of_setup c.in_ok-copies.copies copied
+    c.deref-2.result.now c.deref-2.ensures.value c.deref_mut-2.result.now c.deref_mut-2.ensures.value c.pass_on.new.stubs c.pass_on.new.group c.pass_on.ensures.passed c.pass_on.ensures.group c.pass_on.ensures.floor
+    (cut_all t f.bound v.components) (sym (ap (λ (x : GroupView _). x.components) dropped)) taken.lists refl c.deref_mut.result.now c.deref_mut.ensures.value c.take_in.new.queues taken.put
     c.merging_law.ensures.falls c.merging_law.ensures.outcomes c.flight_law.ensures.appended counted (c.group_meeting_law.ensures.apart m G) (c.group_meeting_law.ensures.met m G) (c.group_exchange_is_sound.ensures.meet m G) in
-    let items : (with_items f.stubs c.pass_on.new.stubs).items ≡ c.pass_on.new.stubs = with_items_is f.stubs c.pass_on.new.stubs (c.pass_on.ensures.passed.many ∙ c.deref_mut-3.ensures.len) in
-    let lists : (with_items f.held c.put_all_into.new.queues).items ≡ c.put_all_into.new.queues = with_items_is f.held c.put_all_into.new.queues (all.long ∙ sym (ap length c.deref_mut.ensures.value) ∙ c.deref_mut.ensures.len) in
+    let items : (with_items f.stubs c.pass_on.new.stubs).items ≡ c.pass_on.new.stubs = with_items_is f.stubs c.pass_on.new.stubs (c.pass_on.ensures.passed.many ∙ c.deref_mut-2.ensures.len) in
+    let lists : (with_items f.held c.take_in.new.queues).items ≡ c.take_in.new.queues = with_items_is f.held c.take_in.new.queues (all.long ∙ sym (ap length c.deref_mut.ensures.value) ∙ c.deref_mut.ensures.len) in
     (c.self.invariant.0, subst₂ (λ stubs queues. IsValidExchange s (record e { stubs = stubs; held = queues })) (sym items) (sym lists) all.shared)
 
 pub invariant_of-lease-2 : goal.invariant_of-lease-2
@@ -117,12 +135,13 @@ invariant_of-lease-2 g c =
     let valid : IsValidLease m (length s.composition) v = subst (λ x. IsValidLease (machine x) (length x.composition) v) of_setup c.lease.invariant.0 in
     let known : IsKnown m G (length f.stubs.items) (exchange_of m e) v
     = subst₂ (λ (x : ExchangeView _) (y : GroupView _). IsKnown (machine_of t x.setup) (group_at x.groups) (length x.stubs) (exchange_of (machine_of t x.setup) x) y) (sym c.self.view_is) (sym v_is) c.requires.known in
-    let dropped : c.drop_below.new.self ≡ record v { base = f.bound; components = cut_all t f.bound v.components } = c.in_ok-lists.ensures.group in
+    let dropped : c.take_in.new.group ≡ record v { base = f.bound; components = cut_all t f.bound v.components } = c.in_ok-take_in.ensures.group in
     let counted : HasCount m (length s.composition) = subst (λ p. HasCount (machine (system t p)) (length (composition (plan_of p)))) c.deref.ensures c.machine_is_lawful.ensures.counted in
+    let taken = c.in_ok-take_in.ensures.taken in
     let copied = subst (λ (x : GroupView _). AreCopies x.out c.in_ok-copies.copies) (sym v_is) c.in_ok-copies.ensures.copies in
-    let all = joined t s law e is v valid known c.drop_below.new.self dropped c.soundness_law.ensures.members c.in_ok-lists.lists.items c.in_ok-lists.ensures.turns (c.group_meeting_law.ensures.falls m G) of_setup c.in_ok-copies.copies copied
-    c.deref-2.result.now c.deref-2.ensures.value c.deref_mut-3.result.now c.deref_mut-3.ensures.value c.pass_on.new.stubs c.pass_on.new.group c.pass_on.ensures.passed c.pass_on.ensures.group c.pass_on.ensures.floor
-    c.components.result.now c.components.ensures c.deref_mut-2.result.now c.deref_mut-2.ensures.value c.deref_mut.result.now c.deref_mut.ensures.value c.put_all_into.new.queues c.put_all_into.ensures
+    let all = joined t s law e is v valid known c.take_in.new.group dropped c.soundness_law.ensures.members taken.lists taken.given (c.group_meeting_law.ensures.falls m G) of_setup c.in_ok-copies.copies copied
+    c.deref-2.result.now c.deref-2.ensures.value c.deref_mut-2.result.now c.deref_mut-2.ensures.value c.pass_on.new.stubs c.pass_on.new.group c.pass_on.ensures.passed c.pass_on.ensures.group c.pass_on.ensures.floor
+    (cut_all t f.bound v.components) (sym (ap (λ (x : GroupView _). x.components) dropped)) taken.lists refl c.deref_mut.result.now c.deref_mut.ensures.value c.take_in.new.queues taken.put
     c.merging_law.ensures.falls c.merging_law.ensures.outcomes c.flight_law.ensures.appended counted (c.group_meeting_law.ensures.apart m G) (c.group_meeting_law.ensures.met m G) (c.group_exchange_is_sound.ensures.meet m G) in
     let same : s ≡ system t c.pass_on.new.group.setup = sym of_setup ∙ sym (ap (system t) all.keeps.0) in
     (subst (λ x. IsValidLease (machine x) (length x.composition) c.pass_on.new.group) same all.lease, tt)
@@ -143,19 +162,20 @@ returns-clause-met g c =
     let valid : IsValidLease m (length s.composition) v = subst (λ x. IsValidLease (machine x) (length x.composition) v) of_setup c.lease.invariant.0 in
     let known : IsKnown m G (length f.stubs.items) (exchange_of m e) v
     = subst₂ (λ (x : ExchangeView _) (y : GroupView _). IsKnown (machine_of t x.setup) (group_at x.groups) (length x.stubs) (exchange_of (machine_of t x.setup) x) y) (sym c.self.view_is) (sym v_is) c.requires.known in
-    let dropped : c.drop_below.new.self ≡ record v { base = f.bound; components = cut_all t f.bound v.components } = c.in_ok-lists.ensures.group in
+    let dropped : c.take_in.new.group ≡ record v { base = f.bound; components = cut_all t f.bound v.components } = c.in_ok-take_in.ensures.group in
     let counted : HasCount m (length s.composition) = subst (λ p. HasCount (machine (system t p)) (length (composition (plan_of p)))) c.deref.ensures c.machine_is_lawful.ensures.counted in
+    let taken = c.in_ok-take_in.ensures.taken in
     let copied = subst (λ (x : GroupView _). AreCopies x.out c.in_ok-copies.copies) (sym v_is) c.in_ok-copies.ensures.copies in
-    let all = joined t s law e is v valid known c.drop_below.new.self dropped c.soundness_law.ensures.members c.in_ok-lists.lists.items c.in_ok-lists.ensures.turns (c.group_meeting_law.ensures.falls m G) of_setup c.in_ok-copies.copies copied
-    c.deref-2.result.now c.deref-2.ensures.value c.deref_mut-3.result.now c.deref_mut-3.ensures.value c.pass_on.new.stubs c.pass_on.new.group c.pass_on.ensures.passed c.pass_on.ensures.group c.pass_on.ensures.floor
-    c.components.result.now c.components.ensures c.deref_mut-2.result.now c.deref_mut-2.ensures.value c.deref_mut.result.now c.deref_mut.ensures.value c.put_all_into.new.queues c.put_all_into.ensures
+    let all = joined t s law e is v valid known c.take_in.new.group dropped c.soundness_law.ensures.members taken.lists taken.given (c.group_meeting_law.ensures.falls m G) of_setup c.in_ok-copies.copies copied
+    c.deref-2.result.now c.deref-2.ensures.value c.deref_mut-2.result.now c.deref_mut-2.ensures.value c.pass_on.new.stubs c.pass_on.new.group c.pass_on.ensures.passed c.pass_on.ensures.group c.pass_on.ensures.floor
+    (cut_all t f.bound v.components) (sym (ap (λ (x : GroupView _). x.components) dropped)) taken.lists refl c.deref_mut.result.now c.deref_mut.ensures.value c.take_in.new.queues taken.put
     c.merging_law.ensures.falls c.merging_law.ensures.outcomes c.flight_law.ensures.appended counted (c.group_meeting_law.ensures.apart m G) (c.group_meeting_law.ensures.met m G) (c.group_exchange_is_sound.ensures.meet m G) in
-    let items : (with_items f.stubs c.pass_on.new.stubs).items ≡ c.pass_on.new.stubs = with_items_is f.stubs c.pass_on.new.stubs (c.pass_on.ensures.passed.many ∙ c.deref_mut-3.ensures.len) in
-    let lists : (with_items f.held c.put_all_into.new.queues).items ≡ c.put_all_into.new.queues = with_items_is f.held c.put_all_into.new.queues (all.long ∙ sym (ap length c.deref_mut.ensures.value) ∙ c.deref_mut.ensures.len) in
+    let items : (with_items f.stubs c.pass_on.new.stubs).items ≡ c.pass_on.new.stubs = with_items_is f.stubs c.pass_on.new.stubs (c.pass_on.ensures.passed.many ∙ c.deref_mut-2.ensures.len) in
+    let lists : (with_items f.held c.take_in.new.queues).items ≡ c.take_in.new.queues = with_items_is f.held c.take_in.new.queues (all.long ∙ sym (ap length c.deref_mut.ensures.value) ∙ c.deref_mut.ensures.len) in
     let new = c.pass_on.new.group in
     let met = subst₂ (λ stubs queues. Met m G v.number (exchange_of m e) (lease_of m v) (exchange_of m (record e { stubs = stubs; held = queues })) (lease_of m new)) (sym items) (sym lists) all.met in
     subst₂ (λ (x : ExchangeView _) (y : GroupView _). Met (machine_of t x.setup) (group_at x.groups) y.number (exchange_of (machine_of t x.setup) x) (lease_of (machine_of t x.setup) y)
-    (exchange_of (machine_of t x.setup) (record e { stubs = (with_items f.stubs c.pass_on.new.stubs).items; held = (with_items f.held c.put_all_into.new.queues).items })) (lease_of (machine_of t x.setup) new)) c.self.view_is v_is met
+    (exchange_of (machine_of t x.setup) (record e { stubs = (with_items f.stubs c.pass_on.new.stubs).items; held = (with_items f.held c.take_in.new.queues).items })) (lease_of (machine_of t x.setup) new)) c.self.view_is v_is met
 
 pub returns-clause-same : goal.returns-clause-same
 returns-clause-same g c =
@@ -173,11 +193,40 @@ returns-clause-same g c =
     let valid : IsValidLease m (length s.composition) v = subst (λ x. IsValidLease (machine x) (length x.composition) v) of_setup c.lease.invariant.0 in
     let known : IsKnown m G (length f.stubs.items) (exchange_of m e) v
     = subst₂ (λ (x : ExchangeView _) (y : GroupView _). IsKnown (machine_of t x.setup) (group_at x.groups) (length x.stubs) (exchange_of (machine_of t x.setup) x) y) (sym c.self.view_is) (sym v_is) c.requires.known in
-    let dropped : c.drop_below.new.self ≡ record v { base = f.bound; components = cut_all t f.bound v.components } = c.in_ok-lists.ensures.group in
+    let dropped : c.take_in.new.group ≡ record v { base = f.bound; components = cut_all t f.bound v.components } = c.in_ok-take_in.ensures.group in
     let counted : HasCount m (length s.composition) = subst (λ p. HasCount (machine (system t p)) (length (composition (plan_of p)))) c.deref.ensures c.machine_is_lawful.ensures.counted in
+    let taken = c.in_ok-take_in.ensures.taken in
     let copied = subst (λ (x : GroupView _). AreCopies x.out c.in_ok-copies.copies) (sym v_is) c.in_ok-copies.ensures.copies in
-    let all = joined t s law e is v valid known c.drop_below.new.self dropped c.soundness_law.ensures.members c.in_ok-lists.lists.items c.in_ok-lists.ensures.turns (c.group_meeting_law.ensures.falls m G) of_setup c.in_ok-copies.copies copied
-    c.deref-2.result.now c.deref-2.ensures.value c.deref_mut-3.result.now c.deref_mut-3.ensures.value c.pass_on.new.stubs c.pass_on.new.group c.pass_on.ensures.passed c.pass_on.ensures.group c.pass_on.ensures.floor
-    c.components.result.now c.components.ensures c.deref_mut-2.result.now c.deref_mut-2.ensures.value c.deref_mut.result.now c.deref_mut.ensures.value c.put_all_into.new.queues c.put_all_into.ensures
+    let all = joined t s law e is v valid known c.take_in.new.group dropped c.soundness_law.ensures.members taken.lists taken.given (c.group_meeting_law.ensures.falls m G) of_setup c.in_ok-copies.copies copied
+    c.deref-2.result.now c.deref-2.ensures.value c.deref_mut-2.result.now c.deref_mut-2.ensures.value c.pass_on.new.stubs c.pass_on.new.group c.pass_on.ensures.passed c.pass_on.ensures.group c.pass_on.ensures.floor
+    (cut_all t f.bound v.components) (sym (ap (λ (x : GroupView _). x.components) dropped)) taken.lists refl c.deref_mut.result.now c.deref_mut.ensures.value c.take_in.new.queues taken.put
     c.merging_law.ensures.falls c.merging_law.ensures.outcomes c.flight_law.ensures.appended counted (c.group_meeting_law.ensures.apart m G) (c.group_meeting_law.ensures.met m G) (c.group_exchange_is_sound.ensures.meet m G) in
     subst (λ (y : GroupView _). KeepsMembers y c.pass_on.new.group) v_is all.keeps
+
+pub returns-clause-others : goal.returns-clause-others
+returns-clause-others g c =
+    let t = g.T.Turns.turn_of in
+    let f = c.self.inside in
+    let e : ExchangeView _ = record { setup = arc_value f.setup; groups = f.groups.items; stubs = f.stubs.items; passages = f.passages.items; bound = f.bound; held = f.held.items; given = f.given } in
+    let s = system t (arc_value f.setup) in
+    let m = machine s in
+    let G = group_at f.groups.items in
+    let law : Lawful m = subst (λ p. Lawful (machine (system t p))) c.deref.ensures c.machine_is_lawful.ensures.lawful in
+    let v = c.lease.inside.group in
+    let v_is : v ≡ c.args.lease.now = c.lease.view_is ∙ c.in_ok-copies.ensures.same in
+    let of_setup : system t v.setup ≡ s = ap (λ (x : GroupView _). system t x.setup) v_is ∙ sym c.requires.own ∙ sym (ap (λ (x : ExchangeView _). system t x.setup) c.self.view_is) in
+    let is : IsValidExchange s e = c.self.invariant.1 in
+    let valid : IsValidLease m (length s.composition) v = subst (λ x. IsValidLease (machine x) (length x.composition) v) of_setup c.lease.invariant.0 in
+    let known : IsKnown m G (length f.stubs.items) (exchange_of m e) v
+    = subst₂ (λ (x : ExchangeView _) (y : GroupView _). IsKnown (machine_of t x.setup) (group_at x.groups) (length x.stubs) (exchange_of (machine_of t x.setup) x) y) (sym c.self.view_is) (sym v_is) c.requires.known in
+    let dropped : c.take_in.new.group ≡ record v { base = f.bound; components = cut_all t f.bound v.components } = c.in_ok-take_in.ensures.group in
+    let counted : HasCount m (length s.composition) = subst (λ p. HasCount (machine (system t p)) (length (composition (plan_of p)))) c.deref.ensures c.machine_is_lawful.ensures.counted in
+    let taken = c.in_ok-take_in.ensures.taken in
+    let copied = subst (λ (x : GroupView _). AreCopies x.out c.in_ok-copies.copies) (sym v_is) c.in_ok-copies.ensures.copies in
+    let all = joined t s law e is v valid known c.take_in.new.group dropped c.soundness_law.ensures.members taken.lists taken.given (c.group_meeting_law.ensures.falls m G) of_setup c.in_ok-copies.copies copied
+    c.deref-2.result.now c.deref-2.ensures.value c.deref_mut-2.result.now c.deref_mut-2.ensures.value c.pass_on.new.stubs c.pass_on.new.group c.pass_on.ensures.passed c.pass_on.ensures.group c.pass_on.ensures.floor
+    (cut_all t f.bound v.components) (sym (ap (λ (x : GroupView _). x.components) dropped)) taken.lists refl c.deref_mut.result.now c.deref_mut.ensures.value c.take_in.new.queues taken.put
+    c.merging_law.ensures.falls c.merging_law.ensures.outcomes c.flight_law.ensures.appended counted (c.group_meeting_law.ensures.apart m G) (c.group_meeting_law.ensures.met m G) (c.group_exchange_is_sound.ensures.meet m G) in
+    let items : (with_items f.stubs c.pass_on.new.stubs).items ≡ c.pass_on.new.stubs = with_items_is f.stubs c.pass_on.new.stubs (c.pass_on.ensures.passed.many ∙ c.deref_mut-2.ensures.len) in
+    let others = subst (λ stubs. (h : ℕ) → (h ≡ v.number → ⊥) → slice_get (map without_inbox stubs) h ≡ slice_get (map without_inbox e.stubs) h) (sym items) all.others in
+    subst₂ (λ (x : ExchangeView _) (y : GroupView _). (h : ℕ) → (h ≡ y.number → ⊥) → slice_get (map without_inbox (with_items f.stubs c.pass_on.new.stubs).items) h ≡ slice_get (map without_inbox x.stubs) h) c.self.view_is v_is others

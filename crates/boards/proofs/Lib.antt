@@ -1,0 +1,5 @@
+mod Cutting
+mod Moves
+pub mod Owning
+mod Standing
+mod Sums
