@@ -10,6 +10,7 @@ use Rattle.virtual_time.specs.Bags.{times}
 use Rattle.rollback.specs.Flight.{in_flight, item_of}
 use Rattle.rollback.specs.Laws.{AppendedIsAdded}
 use Rattle.task_seed.specs.Machines.{machine}
+use Rattle.group_exchange.specs.Compared.{AreTogether}
 use Rattle.group_exchange.specs.Moving.{IsCopied, among, is_message}
 
 -- a message with the same key, action and receiver is the same
@@ -35,3 +36,12 @@ counted appended sent copies is s j k a =
     let same : among s Plus j copies k a ≡ among s Plus j (insert_all (filter is_message sent) []) k a = ap (λ xs. among s Plus j xs k a) is in
     let fly : among s Plus j (filter is_message sent) k a ≡ among s Plus j sent k a = ap (λ xs. times (machine s) xs k a) (messages_fly j sent) in
     omega (arith, all, same, fly)
+
+-- and of two bags together
+pub both_copied : AppendedIsAdded → (one other both more all : List Signed) → both ≡ insert_all (filter is_message one) [] → more ≡ insert_all (filter is_message other) [] → all ≡ insert_all more both → AreTogether one other all
+both_copied appended one other both more all first second joined s j k a =
+    let sum = appended s Plus j k a more both in
+    let same : among s Plus j all k a ≡ among s Plus j (insert_all more both) k a = ap (λ xs. among s Plus j xs k a) joined in
+    let left = counted appended one both first s j k a in
+    let right = counted appended other more second s j k a in
+    omega (arith, sum, same, left, right)

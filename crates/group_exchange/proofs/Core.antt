@@ -1,6 +1,6 @@
 -- Calls lead the whole world by core steps.
 use Rattle.std.proofs.Common.{◌≡◌, ℕ, ◌≤◌, ◌⊎◌, inl, inr, Bool, cond, List, [], ◌∷◌, Result, Ok, Err, refl, ap, sym, subst, ◌∙◌}
-use Rattle.std.specs.Prelude.{IfOk, OnOk}
+use Rattle.std.specs.Prelude.{IfOk, OnErr}
 use Rattle.std.proofs.lemmas.Bool.{eq-eqb, ne_eqb, cases_eq}
 use Rattle.virtual_time.specs.Inverses.{meets_of}
 use Rattle.virtual_time.specs.Machine.{HasCount, Lawful, Machine}
@@ -152,7 +152,7 @@ pub ok_both : {A E : Type 0} {P Q R : A → Type 0} (r : Result A E) → ((a : A
 ok_both (Ok a) f p q = f a p q
 ok_both (Err e) f p q = tt
 
--- what follows where all is well holds where all is well
-pub on_ok : {A E P Q : Type 0} (r : Result A E) → (P → Q) → OnOk r P → OnOk r Q
-on_ok (Ok a) f p = f p
-on_ok (Err e) f p = tt
+-- what holds anyway holds where all is not well
+pub on_err : {A E P : Type 0} (r : Result A E) → P → OnErr r P
+on_err (Ok a) p = tt
+on_err (Err e) p = p

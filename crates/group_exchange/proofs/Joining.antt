@@ -7,6 +7,7 @@ use Rattle.terms.specs.Named.{Named}
 use Rattle.event_keys.specs.declared.message.Signed.{Signed}
 use Rattle.event_keys.specs.declared.outcome.Turned.{Turned}
 use Rattle.event_keys.specs.Ranks.{rank_of_bound}
+use Rattle.plans.specs.Plans.{composition}
 use Rattle.raw_events.specs.Around.{Around}
 use Rattle.raw_events.specs.Onto.{onto}
 use Rattle.antimessage.specs.Bags.{insert_all}
@@ -24,7 +25,7 @@ use Rattle.rollback.specs.declared.copied.Copies.{Copies}
 use Rattle.rollback.specs.ComponentView.{ComponentView, machine_of}
 use Rattle.task_seed.specs.declared.setup.Setup.{Setup}
 use Rattle.task_seed.specs.declared.turns.Turn.{Turn as TurnValue}
-use Rattle.task_seed.specs.Setups.{system}
+use Rattle.task_seed.specs.Setups.{plan_of, system}
 use Rattle.task_seed.specs.Taken.{turns_of}
 use Rattle.task_seed.specs.Turning.{System}
 use Rattle.task_seed.specs.Machines.{machine}
@@ -39,9 +40,10 @@ use Rattle.group_exchange.specs.LeaseView.{IsValidLease, KeepsMembers}
 use Rattle.group_exchange.specs.Moving.{AreCopies, HasPassedOn}
 use Rattle.group_exchange.specs.Held.{ArePuttable, HaveNothing, HavePutTo}
 use Rattle.group_exchange.specs.ExchangeView.{ExchangeView, IsValidExchange, exchange_of, group_at, inbox_of}
-use Rattle.group_exchange.specs.Seen.{IsKnown, KeepsOthers}
+use Rattle.group_exchange.specs.Seen.{HaveMet, IsKnown, IsMeeting, IsSoundExchange, KeepsOthers, Knows}
 use Rattle.group_exchange.proofs.Accepting.{ApartLaw, FallsLaw, MetLaw, SoundLaw, accepted, cut_member, group_beyond, mapped, mapped_at, others_kept}
 use Rattle.group_exchange.proofs.Below.{onto_back}
+use Rattle.group_exchange.proofs.Core.{MeetLaw, MetLaw as StaysSoundLaw, WorldLaw, meet_leads}
 use Rattle.group_exchange.proofs.Nothing.{have_nothing}
 use Rattle.group_exchange.proofs.Placing.{get_there}
 use Rattle.group_exchange.proofs.Putting.{MergedFalls, MergedOutcomes}
@@ -190,3 +192,25 @@ known_on m group n n' e e' v v' same k known met = record {
   members = λ j. ap (λ x. group j == x) k.1 ∙ known.members j ∙ sym (k.2 j);
   match = subst (λ x. Matches m group x (e'.stub x) (lease_of m v')) (sym k.1) met.matches;
 }
+
+module _ {T : Type 0} (turn_of : T → ℕ → ℕ → Option TurnValue) (old : ExchangeView (Setup T)) (lease : GroupView (Setup T)) (stubs : List Stub) (held : List (List Turned)) (new_lease : GroupView (Setup T)) (law : Lawful (machine_of turn_of old.setup)) where
+  abbrev met_exchange : ExchangeView (Setup T)
+  met_exchange = record old { stubs = stubs; held = held }
+
+  -- what was done is a meeting
+  pub meeting : WorldLaw (machine_of turn_of old.setup) law (group_at old.groups) → MeetLaw (machine_of turn_of old.setup) law (group_at old.groups) → StaysSoundLaw (machine_of turn_of old.setup) law (group_at old.groups)
+      → IsSoundExchange turn_of old → Knows turn_of old lease → HaveMet turn_of old lease met_exchange new_lease → KeepsOthers lease.number old met_exchange → length stubs ≡ length old.stubs → KeepsMembers lease new_lease → new_lease.window ≡ old.window
+      → IsMeeting turn_of old lease met_exchange new_lease
+  meeting world_law meet_law sound_law sound knows met others many keeps window =
+      let m = machine_of turn_of old.setup in
+      let G = group_at old.groups in
+      record {
+        met = met;
+        core = λ leases here. meet_leads m law G world_law meet_law sound_law (length (composition (plan_of old.setup))) lease.number (exchange_of m old) (exchange_of m met_exchange) (lease_of m lease) (lease_of m new_lease) sound met leases here;
+        known = known_on m G (length old.stubs) (length stubs) (exchange_of m old) (exchange_of m met_exchange) lease new_lease many keeps knows met;
+        others = others;
+        there = many;
+        rest = refl;
+        same = keeps;
+        window = window;
+      }

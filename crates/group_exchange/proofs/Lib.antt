@@ -20,3 +20,6 @@ mod Copied
 mod Joining
 mod Repeated
 mod Nothing
+mod Balanced
+mod Walked
+mod Windowed

@@ -24,6 +24,7 @@ use Rattle.task_seed.specs.declared.turns.Turn.{Turn}
 use Rattle.task_seed.specs.Setups.{plan_of, system}
 use Rattle.task_seed.specs.Turning.{System, key_of}
 use Rattle.partitions.specs.Partitions.{IsPartition}
+use Rattle.groups.specs.declared.window.Window.{Window}
 use Rattle.groups.specs.GroupView.{AreMembers, GroupView, group_in, lease_of}
 use Rattle.group_exchange.specs.declared.passage.Passage.{Passage}
 use Rattle.group_exchange.specs.declared.stub.Stub.{Stub}
@@ -31,7 +32,7 @@ use Rattle.group_exchange.specs.LeaseView.{IsValidLease}
 use Rattle.group_exchange.specs.ExchangeView.{ExchangeView, IsPassage, IsStub, IsValidExchange, exchange_of, group_at, inbox_of, stub_or_none}
 use Rattle.group_exchange.specs.Core.{StandFor}
 use Rattle.group_exchange.specs.Held.{AreInOrder, put_all}
-use Rattle.group_exchange.specs.Start.{AreStarted, IsStarted, lease_or_start, leases_of, start_passage, start_shared, stub_of_lease}
+use Rattle.group_exchange.specs.Start.{AreStarted, IsStarted, lease_or_start, leases_of, start_passage, start_shared, start_shared_within, stub_of_lease}
 use Rattle.group_exchange.proofs.Agreeing.{lease_agrees, matches_agrees}
 use Rattle.group_exchange.proofs.Accepting.{group_below, group_beyond}
 use Rattle.group_exchange.proofs.Owned.{none_owned}
@@ -49,7 +50,7 @@ made_at {X} f a (suc n) (suc j) o e = go (made_at f (a + 1) n j o e)
     go (inr h) = let l = h.1 in inr (h.0, omega (arith, l))
 
 -- one more at the end of a list
-last_at : {X : Type 0} (xs : List X) (x : X) (p : ℕ) (c : X) → slice_get (xs ++ x ∷ []) p ≡ Some c → (slice_get xs p ≡ Some c) ⊎ ((p ≡ length xs) × (c ≡ x))
+pub last_at : {X : Type 0} (xs : List X) (x : X) (p : ℕ) (c : X) → slice_get (xs ++ x ∷ []) p ≡ Some c → (slice_get xs p ≡ Some c) ⊎ ((p ≡ length xs) × (c ≡ x))
 last_at [] x zero c e = inr (refl, sym (one_some x c e))
 last_at [] x (suc p) c e = absurd (none_some c e)
 last_at (y ∷ ys) x zero c e = inl e
@@ -157,8 +158,8 @@ module _ {T : Type 0} (turn_of : T → ℕ → ℕ → Option Turn) (setup : Set
     given = 0;
   }
 
-  pub shared_kept : length leases < 65536 → IsSound (machine_of turn_of setup) (group_at groups) (length (composition (plan_of setup))) (start_exchange (machine_of turn_of setup) (group_at groups) (length (composition (plan_of setup)))) → IsValidExchange (system turn_of setup) (start_shared turn_of setup groups leases)
-  shared_kept few sound =
+  pub shared_kept : length leases < 65536 → IsSound (machine_of turn_of setup) (group_at groups) (length (composition (plan_of setup))) (start_exchange (machine_of turn_of setup) (group_at groups) (length (composition (plan_of setup)))) → (window : Option Window) → IsValidExchange (system turn_of setup) (start_shared_within turn_of setup groups window leases)
+  shared_kept few sound window =
       let many = length-map leases stub_of_lease in
       record {
         sound = subst (IsSound (machine_of turn_of setup) (group_at groups) (length (composition (plan_of setup)))) (sym seen) sound;
@@ -226,6 +227,10 @@ module _ {T : Type 0} (turn_of : T → ℕ → ℕ → Option Turn) (setup : Set
       subst (λ p. IsValidLease (machine_of turn_of p) (length (composition (plan_of p))) v) (sym started.setup_is)
       (start_valid (machine_of turn_of setup) (group_at groups) (length (composition (plan_of setup))) v (subst (λ n. AreMembers (group_at groups) n v.components) (sym started.number_is) started.members)
       (started.lease_is ∙ ap (start_lease (machine_of turn_of setup) (group_at groups) (length (composition (plan_of setup)))) (sym started.number_is)) (both v.number))
+
+-- a window changes nothing of it
+pub started_anew : {T : Type 0} (turn_of : T → ℕ → ℕ → Option Turn) (setup : Setup T) (groups : List ℕ) (number : ℕ) (v : GroupView (Setup T)) (window : Option Window) → IsStarted turn_of setup groups number v → IsStarted turn_of setup groups number (record v { window = window })
+started_anew turn_of setup groups number v window is = record { number_is = is.number_is; setup_is = is.setup_is; members = is.members; lease_is = is.lease_is }
 
 -- one more lease
 pub started_more : {T : Type 0} (turn_of : T → ℕ → ℕ → Option Turn) (setup : Setup T) (groups : List ℕ) (n : ℕ) (leases : List (GroupView (Setup T))) (lease : GroupView (Setup T)) → AreStarted turn_of setup groups n leases → IsStarted turn_of setup groups n lease → AreStarted turn_of setup groups (n + 1) (leases ++ lease ∷ [])

@@ -21,12 +21,14 @@ use Rattle.rollback.specs.Flight.{in_flight}
 use Rattle.task_seed.specs.Turning.{System, key_of}
 use Rattle.task_seed.specs.Machines.{machine, turn_rank}
 use Rattle.partitions.specs.Partitions.{IsPartition}
+use Rattle.groups.specs.declared.window.Window.{Window}
 use Rattle.group_exchange.specs.declared.passage.Passage.{Passage}
 use Rattle.group_exchange.specs.declared.stub.Stub.{Stub}
 use Rattle.group_exchange.specs.Held.{put_all, AreInOrder, AreOwned}
 
 -- a setup, of each component the number of its group, a stub for each group, for each component how far its turns are counted, the
--- committed bound, for each component the turns taken in and not given in a chunk, the first one first, and how many were given
+-- committed bound, for each component the turns taken in and not given in a chunk, the first one first, how many were given, and the
+-- window of its leases, if they have one
 pub record ExchangeView (P : Type 0) : Type 0 where
   pub setup : P
   pub groups : List ℕ
@@ -35,6 +37,7 @@ pub record ExchangeView (P : Type 0) : Type 0 where
   pub bound : Bound
   pub held : List (List Turned)
   pub given : ℕ
+  pub window : Option Window
 
 -- the group of component j, where a list has those of the first; any other is in none
 abbrev pub group_at : List ℕ → ℕ → ℕ

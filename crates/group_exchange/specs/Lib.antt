@@ -5,4 +5,7 @@ pub mod Chunks
 pub mod Held
 pub mod Moving
 pub mod Core
+pub mod Windows
 pub mod Seen
+pub mod Compared
+pub mod Refusals

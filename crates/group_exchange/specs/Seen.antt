@@ -18,8 +18,9 @@ use Rattle.rollback.specs.ComponentView.{machine_of}
 use Rattle.groups.specs.GroupView.{AreMembers, GroupView, lease_of}
 use Rattle.group_exchange.specs.Chunks.{IsGiven}
 use Rattle.group_exchange.specs.Core.{AreMeetings, Moves, SimulatesSteps, StaysKnown}
-use Rattle.group_exchange.specs.LeaseView.{IsValidLease}
+use Rattle.group_exchange.specs.LeaseView.{IsValidLease, KeepsMembers}
 use Rattle.group_exchange.specs.ExchangeView.{ExchangeView, exchange_of, group_at, without_inbox}
+use Rattle.group_exchange.specs.Windows.{HasFewWaiting, IsInWindow}
 
 -- a lease of a group of these components is the one that an exchange knows, which has so many groups
 pub record IsKnown {P : Type 0} (m : Machine (List Datum) Named) (group : ℕ → ℕ) (groups : ℕ) (e : Exchange Named) (lease : GroupView P) : Type 0 where
@@ -84,6 +85,10 @@ module _ {T : Type 0} (turn_of : T → ℕ → ℕ → Option Turn) (old : Excha
       → leases lease.number ≡ held lease
       → Simulates AreMeetings leases new (put_lease lease.number (held new_lease) leases)
 
+  -- where it has a window, so few messages and antimessages wait in all inboxes
+  abbrev pub HasFewInInboxes : Type 0
+  HasFewInInboxes = HasFewWaiting theory count old
+
   -- the turns, of which the first has this number, were held, and are the next ones of the reference
   abbrev pub HasGiven : ℕ → List (Taken Named) → ExchangeView (Setup T) → Type 0
   HasGiven first turns new = (b : ℕ) × IsChunk theory group count (seen old) b (seen new) turns × IsGiven theory first b turns
@@ -91,6 +96,25 @@ module _ {T : Type 0} (turn_of : T → ℕ → ℕ → Option Turn) (old : Excha
 -- of what is kept of the groups but this one only their inboxes have changed
 abbrev pub KeepsOthers : {P : Type 0} → ℕ → ExchangeView P → ExchangeView P → Type 0
 KeepsOthers number old new = (g : ℕ) → (g ≡ number → ⊥) → slice_get (map without_inbox new.stubs) g ≡ slice_get (map without_inbox old.stubs) g
+
+-- an exchange and the lease of a group have met, and have become these
+pub record IsMeeting {T : Type 0} (turn_of : T → ℕ → ℕ → Option Turn) (old : ExchangeView (Setup T)) (lease : GroupView (Setup T)) (new : ExchangeView (Setup T)) (new_lease : GroupView (Setup T)) : Type 0 where
+  -- in the theory, too, it is a meeting of the two
+  pub met : HaveMet turn_of old lease new new_lease
+  -- in the whole world messages meet their antimessages, and nothing else happens, wherever the other leases are
+  pub core : OnlyMeets turn_of old lease new new_lease
+  -- the exchange knows the lease afterwards
+  pub known : Knows turn_of new new_lease
+  -- of what is kept of the other groups only their inboxes have changed
+  pub others : KeepsOthers lease.number old new
+  -- there are as many groups as before
+  pub there : length new.stubs ≡ length old.stubs
+  -- of the exchange only the stubs have changed, and the turns taken in and not given
+  pub rest : new ≡ record old { stubs = new.stubs; held = new.held }
+  -- the lease is of the same group, with the same components
+  pub same : KeepsMembers lease new_lease
+  -- the lease has the window of the exchange, or none where that has none
+  pub window : new_lease.window ≡ old.window
 
 -- from a lease
 module _ {T : Type 0} (turn_of : T → ℕ → ℕ → Option Turn) (old : GroupView (Setup T)) where
@@ -109,3 +133,7 @@ module _ {T : Type 0} (turn_of : T → ℕ → ℕ → Option Turn) (old : Group
   -- it is sound, wherever the exchange and the other leases are
   abbrev pub IsSoundLease : Type 0
   IsSoundLease = IsValidLease (machine_of turn_of old.setup) (length (composition (plan_of old.setup))) old
+
+-- where a lease has a window, so little is done and pending of its components
+abbrev pub StaysInWindow : {T : Type 0} → GroupView (Setup T) → Type 0
+StaysInWindow lease = IsInWindow (length (composition (plan_of lease.setup))) lease

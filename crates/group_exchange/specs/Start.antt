@@ -12,6 +12,7 @@ use Rattle.task_seed.specs.declared.turns.Turn.{Turn}
 use Rattle.task_seed.specs.Setups.{system, plan_of}
 use Rattle.task_seed.specs.Turning.{System, key_of}
 use Rattle.rollback.specs.ComponentView.{lowest_bound, machine_of}
+use Rattle.groups.specs.declared.window.Window.{Window}
 use Rattle.groups.specs.GroupView.{AreMembers, GroupView, lease_of}
 use Rattle.group_exchange.specs.declared.passage.Passage.{Passage}
 use Rattle.group_exchange.specs.declared.stub.Stub.{Stub}
@@ -48,9 +49,9 @@ module _ {T : Type 0} (turn_of : T → ℕ → ℕ → Option Turn) (setup : Set
     pub many : length leases ≡ count
     pub each : (g : ℕ) (lease : GroupView (Setup T)) → slice_get leases g ≡ Some lease → IsStarted g lease
 
-  -- the exchange of these leases
-  abbrev pub start_shared : List (GroupView (Setup T)) → ExchangeView (Setup T)
-  start_shared leases =
+  -- the exchange of these leases with a window, or with none
+  abbrev pub start_shared_within : Option Window → List (GroupView (Setup T)) → ExchangeView (Setup T)
+  start_shared_within window leases =
       record {
         setup = setup;
         groups = groups;
@@ -59,7 +60,11 @@ module _ {T : Type 0} (turn_of : T → ℕ → ℕ → Option Turn) (setup : Set
         bound = lowest_bound;
         held = replicate (length (composition (plan_of setup))) [];
         given = 0;
+        window = window;
       }
+
+  abbrev pub start_shared : List (GroupView (Setup T)) → ExchangeView (Setup T)
+  start_shared = start_shared_within None
 
   -- an exchange and leases stand for the world at its start
   abbrev pub StandForStart : ExchangeView (Setup T) → List (GroupView (Setup T)) → Type 0

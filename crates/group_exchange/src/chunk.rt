@@ -15,7 +15,7 @@ use raw_events::EventList;
 use task_seed::Turns;
 use task_seed::laws::machine_is_lawful;
 use terms::{Action, State};
-use virtual_time::grouped::group_exchange_is_sound;
+use virtual_time::grouped::{group_exchange_is_sound, group_window_law};
 use virtual_time::reference::reference_is_counted;
 
 /// Turns that no chunk has given yet.
@@ -67,6 +67,7 @@ impl<T: Turns> Exchange<T> {
         machine_is_lawful(&self.setup);
         group_exchange_is_sound::<State, Action>();
         reference_is_counted::<State, Action>();
+        group_window_law::<State, Action>();
         is_few(self.setup.plan().components());
         self.notes.tally.give();
         let bound = least_base(&self.stubs);

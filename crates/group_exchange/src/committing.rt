@@ -8,7 +8,7 @@ ghost use Rattle.rollback.specs.ComponentView.{machine_of};
 ghost use Rattle.gvt.specs.Least.{IsLeast};
 ghost use Rattle.virtual_time.specs.Reference.{reference_below, point, turns_of};
 ghost use Rattle.group_exchange.specs.ExchangeView.{ArePassing, HavePassed, clear_until};
-ghost use Rattle.group_exchange.specs.Seen.{HasCommitted, IsOneCommit};
+ghost use Rattle.group_exchange.specs.Seen.{HasCommitted, HasFewInInboxes, IsOneCommit};
 
 use crate::exchange::Exchange;
 use crate::passage::Passage;
@@ -21,7 +21,7 @@ use task_seed::laws::machine_is_lawful;
 use task_seed::{Setup, Turns, Walk};
 use terms::{Action, State};
 use virtual_time::exchanges::exchange_is_core;
-use virtual_time::grouped::{group_exchange_is_core, group_exchange_is_sound};
+use virtual_time::grouped::{group_exchange_is_core, group_exchange_is_sound, group_window_law};
 use virtual_time::reference::reference_is_counted;
 
 // The least of all floors and of all keys in inboxes.
@@ -85,12 +85,15 @@ impl<T: Turns> Exchange<T> {
         ensures count { result ≡ length
             (reference_below (machine_of T.turn_of self.old.setup) (rank_of_bound self.new.bound)) }
         ensures core { IsOneCommit T.turn_of self.old self.new }
+        ensures inboxes { HasFewInInboxes T.turn_of self.new }
     {
         machine_is_lawful(self.setup());
         exchange_is_core::<State, Action>();
         group_exchange_is_core::<State, Action>();
         self.soundness_law();
-        self.raise_bound()
+        let count = self.raise_bound();
+        self.soundness_law();
+        count
     }
 
     fn raise_bound(&mut self) -> u64
@@ -105,6 +108,7 @@ impl<T: Turns> Exchange<T> {
         machine_is_lawful(&self.setup);
         group_exchange_is_sound::<State, Action>();
         reference_is_counted::<State, Action>();
+        group_window_law::<State, Action>();
         least_law();
         self.notes.tally.commit();
         let bound = least_clear(&self.stubs);

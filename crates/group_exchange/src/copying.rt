@@ -37,8 +37,8 @@ fn add_copy(alloc: Global, signed: &Signed, copies: &mut Bag) -> Result<(), NoMe
     }
 }
 
-// A copy of each message of these.
-fn copy_of(alloc: Global, sent: &Bag) -> Result<Bag, NoMemory>
+/// A copy of each message of these.
+pub(crate) fn copy_of(alloc: Global, sent: &Bag) -> Result<Bag, NoMemory>
     ensures { IfOk result (λ copies. copies ≡ insert_all (filter is_message sent.now) []) }
 {
     let mut copies = Bag::new();

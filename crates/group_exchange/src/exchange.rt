@@ -1,9 +1,12 @@
 //! What workers share who hold components in groups.
-ghost use Rattle.std.specs.Prelude.{◌≡◌, slice_get};
+ghost use Rattle.std.specs.Prelude.{◌≡◌, length, slice_get};
 ghost use Rattle.std.specs.List.{list_all};
-ghost use Rattle.task_seed.specs.Setups.{system};
+ghost use Rattle.plans.specs.Plans.{composition};
+ghost use Rattle.rollback.specs.ComponentView.{machine_of};
+ghost use Rattle.task_seed.specs.Setups.{system, plan_of};
 ghost use Rattle.group_exchange.specs.ExchangeView.{IsValidExchange, has_mail, is_end, is_ended};
-ghost use Rattle.group_exchange.specs.Seen.{IsSoundExchange};
+ghost use Rattle.group_exchange.specs.Seen.{HasFewInInboxes, IsSoundExchange};
+ghost use Rattle.group_exchange.specs.Windows.{HasWindow};
 
 use crate::notes::Notes;
 use crate::passage::Passage;
@@ -11,12 +14,16 @@ use crate::queue::Queue;
 use crate::stub::Stub;
 use crate::tally::Tally;
 use event_keys::Bound;
+use groups::Window;
 use std::marker::Model;
 use std::sync::Arc;
+use task_seed::laws::machine_is_lawful;
 use task_seed::{Setup, Turns, Walk};
+use terms::{Action, State};
+use virtual_time::grouped::group_window_law;
 
 /// What workers share who hold components in groups: for each group a stub, the committed bound, for each component how far its turns are
-/// counted and the turns taken in and not yet given, and how many were given.
+/// counted and the turns taken in and not yet given, how many were given, and the window of its leases, if they have one.
 #[derive(Drop)]
 pub struct Exchange<T: Turns> {
     pub(crate) setup: Arc<Setup<T>>,
@@ -30,6 +37,8 @@ pub struct Exchange<T: Turns> {
     // For each component its turns that were taken in and not given.
     pub(crate) held: Vec<Queue>,
     pub(crate) given: u64,
+    // The window of its leases, if they have one.
+    pub(crate) window: Option<Window>,
     pub(crate) notes: Notes,
 }
 
@@ -39,7 +48,9 @@ impl<T: Turns> Model for Exchange<T> {
     ghost use Rattle.plans.specs.Plans.{composition};
     ghost use Rattle.task_seed.specs.declared.setup.Setup.{Setup};
     ghost use Rattle.task_seed.specs.Setups.{plan_of, system};
+    ghost use Rattle.task_seed.specs.Machines.{machine};
     ghost use Rattle.group_exchange.specs.ExchangeView.{ExchangeView, IsValidExchange};
+    ghost use Rattle.group_exchange.specs.Windows.{HasWindow};
     ghost use Rattle.std.specs.Coded.{codes};
     ghost use Rattle.plans.specs.KnownLaws.{are_known_prop};
     ghost use Rattle.terms.specs.Datum.{datum_code};
@@ -67,6 +78,7 @@ impl<T: Turns> Model for Exchange<T> {
           bound = e.bound;
           held = e.held.items;
           given = e.given;
+          window = e.window;
         } };
 
     ghost invariant = { λ e. (length e.walks.items
@@ -80,6 +92,19 @@ impl<T: Turns> Model for Exchange<T> {
           bound = e.bound;
           held = e.held.items;
           given = e.given;
+          window = e.window;
+        })
+        × HasWindow (machine (system T.turn_of (arc_value e.setup)))
+        (length (composition (plan_of (arc_value e.setup))))
+        (record {
+          setup = arc_value e.setup;
+          groups = e.groups.items;
+          stubs = e.stubs.items;
+          passages = e.passages.items;
+          bound = e.bound;
+          held = e.held.items;
+          given = e.given;
+          window = e.window;
         }) };
 }
 
@@ -100,12 +125,17 @@ impl<T: Turns> Exchange<T> {
 
     /// Every exchange is sound, though every lease may be away: its bound lies between all bases and all floors, and no key in an inbox is below
     /// it; from the bound on, what groups have standing at others is what these have taken or have in their inboxes; below it, both are what the
-    /// reference sends; and what was taken in and given are the reference's turns. The call does nothing.
+    /// reference sends; and what was taken in and given are the reference's turns. Where it has a window, all inboxes together hold at most
+    /// twice as many messages and antimessages as that has turns for each pair of components of two groups. The call does nothing.
     pub fn soundness_law(&self)
         ensures sound { IsSoundExchange T.turn_of self.now }
         ensures shared { IsValidExchange (system T.turn_of self.now.setup) self.now }
+        ensures within { HasWindow (machine_of T.turn_of self.now.setup)
+            (length (composition (plan_of self.now.setup))) self.now }
+        ensures few { HasFewInInboxes T.turn_of self.now }
     {
-        let _given = self.given;
+        machine_is_lawful(&self.setup);
+        group_window_law::<State, Action>();
     }
 
     /// The bound that the last commit left: nothing below it can come any more. Before the first commit there is no key below it.
@@ -113,6 +143,13 @@ impl<T: Turns> Exchange<T> {
         ensures { result ≡ self.now.bound }
     {
         self.bound
+    }
+
+    /// The window of its leases, if they have one.
+    pub fn window(&self) -> Option<Window>
+        ensures { result ≡ self.now.window }
+    {
+        self.window
     }
 
     /// How many turns chunks have given.

@@ -1,5 +1,5 @@
 //! Meetings of a lease with what workers share.
-ghost use Rattle.std.specs.Prelude.{◌≡◌, ◌<◌, ◌++◌, ℕ, List, Some, [], length, slice_get, IfOk, OnOk, OnErr};
+ghost use Rattle.std.specs.Prelude.{◌≡◌, ◌<◌, ◌++◌, ℕ, List, Some, [], length, slice_get, IfOk, IfSome, OnOk, OnErr};
 ghost use Rattle.event_keys.specs.Ranks.{rank_of_bound};
 ghost use Rattle.antimessage.specs.Bags.{first_is_below, insert_all, without_below};
 ghost use Rattle.task_seed.specs.Setups.{system};
@@ -17,7 +17,7 @@ ghost use Rattle.rollback.specs.ComponentView.{ComponentView};
 ghost use Rattle.task_seed.specs.declared.setup.Setup.{Setup as SetupSeen};
 ghost use Rattle.group_exchange.specs.LeaseView.{KeepsMembers};
 ghost use Rattle.group_exchange.specs.Moving.{AllCome, HasMetStub, HasPassedOn, IsArrived, IsBrought, IsForgotten, IsHandedOver, IsSent, first_receiver};
-ghost use Rattle.group_exchange.specs.Seen.{HaveMet, KeepsOthers, Knows, OnlyMeets};
+ghost use Rattle.group_exchange.specs.Seen.{HasFewInInboxes, IsMeeting, Knows, StaysInWindow};
 
 use crate::exchange::Exchange;
 use crate::lease::Lease;
@@ -37,7 +37,9 @@ use task_seed::Turns;
 use task_seed::laws::machine_is_lawful;
 use terms::{Action, NoMemory, State};
 use virtual_time::exchanges::exchange_is_core;
-use virtual_time::grouped::{group_exchange_is_core, group_exchange_is_sound, group_meeting_law};
+use virtual_time::grouped::{
+    group_exchange_is_core, group_exchange_is_sound, group_meeting_law, group_window_law,
+};
 use virtual_time::merging::merging_law;
 
 // Moves all messages into a bag, each to its place. In an empty one they have their places.
@@ -152,8 +154,8 @@ fn next_receiver(out: &Bag, copies: &Bag) -> Option<u16>
     }
 }
 
-// The number of a component's group; one that no group has where it is in none.
-fn group_at(groups: &[u16], to: u16) -> usize
+/// The number of a component's group; one that no group has where it is in none.
+pub(crate) fn group_at(groups: &[u16], to: u16) -> usize
     ensures { result ≡ group_at groups.now to }
 {
     match groups.get(usize::from(to)) {
@@ -288,49 +290,51 @@ impl<T: Turns> Exchange<T> {
     /// keys. The answer is the bound.
     ///
     /// The lease is known to be the one that is kept of its group. Each that has met the exchange is, and stays it while it waits, whatever
-    /// other leases do. Nothing is compared, so that the time grows only with what moves, and, where the bound has risen, with the number of the
-    /// group's components. Where memory is refused, neither changes.
+    /// other leases do. Where the exchange has a window, the lease has it too; where it has none, the lease has none from then on. Nothing is
+    /// compared, so that the time grows only with what moves, and, where the bound has risen, with the number of the group's components. Where
+    /// memory is refused, neither changes.
     ///
     /// In the whole world that the exchange and its leases stand for, wherever these are, messages meet their antimessages, and nothing else
     /// happens.
     pub fn meet_known(&mut self, alloc: Global, lease: &mut Lease<T>) -> Result<Bound, NoMemory>
         requires own { system T.turn_of self.old.setup ≡ system T.turn_of lease.old.setup }
+        requires window { IfSome self.old.window (λ window. lease.old.window ≡ Some window) }
         requires known { Knows T.turn_of self.old lease.old }
         ensures bound { IfOk result (λ bound. bound ≡ self.old.bound) }
-        ensures met { OnOk result (HaveMet T.turn_of self.old lease.old self.new lease.new) }
+        ensures meeting { OnOk result (IsMeeting T.turn_of self.old lease.old self.new lease.new) }
         ensures there { length self.new.stubs ≡ length self.old.stubs }
-        ensures core { OnOk result (OnlyMeets T.turn_of self.old lease.old self.new lease.new) }
-        ensures known { OnOk result (Knows T.turn_of self.new lease.new) }
-        ensures others { OnOk result (KeepsOthers lease.old.number self.old self.new) }
         ensures rest { self.new ≡ record self.old { stubs = self.new.stubs; held = self.new.held } }
         ensures same { KeepsMembers lease.old lease.new }
+        ensures inboxes { HasFewInInboxes T.turn_of self.new }
+        ensures lease { StaysInWindow lease.new }
         ensures kept { OnErr result ((self.new ≡ self.old) × (lease.new ≡ lease.old)) }
     {
-        machine_is_lawful(self.setup());
-        exchange_is_core::<State, Action>();
-        group_exchange_is_core::<State, Action>();
-        group_exchange_is_sound::<State, Action>();
+        let met = self.join(alloc, lease);
         self.soundness_law();
-        self.join(alloc, lease)
+        lease.soundness_law();
+        met
     }
 
     // The meeting.
     fn join(&mut self, alloc: Global, lease: &mut Lease<T>) -> Result<Bound, NoMemory>
         requires own { system T.turn_of self.old.setup ≡ system T.turn_of lease.old.setup }
+        requires window { IfSome self.old.window (λ window. lease.old.window ≡ Some window) }
         requires known { Knows T.turn_of self.old lease.old }
         ensures bound { IfOk result (λ bound. bound ≡ self.old.bound) }
-        ensures met { OnOk result (HaveMet T.turn_of self.old lease.old self.new lease.new) }
+        ensures meeting { OnOk result (IsMeeting T.turn_of self.old lease.old self.new lease.new) }
         ensures there { length self.new.stubs ≡ length self.old.stubs }
-        ensures others { OnOk result (KeepsOthers lease.old.number self.old self.new) }
         ensures rest { self.new ≡ record self.old { stubs = self.new.stubs; held = self.new.held } }
         ensures same { KeepsMembers lease.old lease.new }
         ensures kept { OnErr result ((self.new ≡ self.old) × (lease.new ≡ lease.old)) }
     {
         machine_is_lawful(&self.setup);
         flight_law();
+        exchange_is_core::<State, Action>();
+        group_exchange_is_core::<State, Action>();
         group_meeting_law::<State, Action>();
         group_exchange_is_sound::<State, Action>();
         merging_law::<Action>();
+        group_window_law::<State, Action>();
         let copies = lease.take_copies(alloc)?;
         lease.group.soundness_law();
         take_in(alloc, &mut self.held, &mut lease.group, self.bound)?;
@@ -344,6 +348,8 @@ impl<T: Turns> Exchange<T> {
             copies,
             &mut self.notes,
         );
+        lease.group.soundness_law();
+        lease.group.set_window(self.window);
         Ok(self.bound)
     }
 }

@@ -6,7 +6,7 @@ ghost use Rattle.task_seed.specs.Setups.{plan_of};
 ghost use Rattle.task_seed.specs.Taken.{turns_of};
 ghost use Rattle.virtual_time.specs.Reference.{Falls};
 ghost use Rattle.group_exchange.specs.Held.{AreInOrder, all_below, all_from, put_all};
-ghost use Rattle.group_exchange.specs.Seen.{HasGiven, LeavesTheWorld};
+ghost use Rattle.group_exchange.specs.Seen.{HasFewInInboxes, HasGiven, LeavesTheWorld};
 
 use crate::chunk::{is_few, least_base};
 use crate::committing::is_bounded;
@@ -19,7 +19,7 @@ use std::marker::Model;
 use task_seed::Turns;
 use task_seed::laws::machine_is_lawful;
 use terms::{Action, NoMemory, State};
-use virtual_time::grouped::group_exchange_is_sound;
+use virtual_time::grouped::{group_exchange_is_sound, group_window_law};
 use virtual_time::reference::reference_is_counted;
 
 /// Turns of a chunk, of each component in the order of keys, all below a bound. To put them together takes longer than to take them from an exchange,
@@ -110,9 +110,12 @@ impl<T: Turns> Exchange<T> {
         ensures first { result ≡ self.old.given }
         ensures rest { self.new ≡ record self.old { held = self.new.held; given = self.new.given } }
         ensures core { LeavesTheWorld T.turn_of self.old self.new }
+        ensures inboxes { HasFewInInboxes T.turn_of self.new }
     {
         machine_is_lawful(self.setup());
-        self.give_apart(parcel)
+        let first = self.give_apart(parcel);
+        self.soundness_law();
+        first
     }
 
     fn give_apart(&mut self, parcel: &mut Parcel) -> u64
@@ -125,6 +128,7 @@ impl<T: Turns> Exchange<T> {
         machine_is_lawful(&self.setup);
         group_exchange_is_sound::<State, Action>();
         reference_is_counted::<State, Action>();
+        group_window_law::<State, Action>();
         is_few(self.setup.plan().components());
         self.notes.tally.give();
         let bound = least_base(&self.stubs);

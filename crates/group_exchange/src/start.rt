@@ -1,5 +1,5 @@
 //! The exchange of groups and its leases at the start.
-ghost use Rattle.std.specs.Prelude.{◌≡◌, ◌<◌, [], IfOk, length, map, replicate};
+ghost use Rattle.std.specs.Prelude.{◌≡◌, ◌<◌, [], IfOk, None, length, map, replicate};
 ghost use Rattle.std.specs.Arc.{arc_value};
 ghost use Rattle.std.specs.List.{range_with_len};
 ghost use Rattle.plans.specs.Plans.{composition};
@@ -9,7 +9,9 @@ ghost use Rattle.virtual_time.specs.Groups.Stubs.{start_exchange};
 ghost use Rattle.partitions.specs.Groups.{group_count, groups_of};
 ghost use Rattle.partitions.specs.Partitions.{IsPartition};
 ghost use Rattle.group_exchange.specs.ExchangeView.{exchange_of, group_at};
-ghost use Rattle.group_exchange.specs.Start.{AreStarted, IsStarted, StandForStart, start_passage, start_shared, stub_of_lease};
+ghost use Rattle.group_exchange.specs.Seen.{HasFewInInboxes, StaysInWindow};
+ghost use Rattle.group_exchange.specs.Start.{AreStarted, IsStarted, StandForStart, start_passage, start_shared, start_shared_within, stub_of_lease};
+ghost use Rattle.group_exchange.specs.Windows.{OfEachLease};
 
 use crate::exchange::Exchange;
 use crate::lease::{Lease, lease_of};
@@ -20,14 +22,14 @@ use crate::stub::Stub;
 use crate::tally::Tally;
 use antimessage::Bag;
 use event_keys::{Bound, Key};
-use groups::Group;
+use groups::{Group, Window};
 use partitions::Partition;
 use std::alloc::Global;
 use std::sync::Arc;
 use task_seed::laws::machine_is_lawful;
 use task_seed::{Setup, Turns, Walk};
 use terms::{Action, NoMemory, State};
-use virtual_time::grouped::{group_exchange_is_core, group_exchange_is_sound};
+use virtual_time::grouped::{group_exchange_is_core, group_exchange_is_sound, group_window_law};
 use virtual_time::worlds::{committed_is_reference, each_step_is_answered};
 
 // Below it there is no key.
@@ -60,36 +62,48 @@ fn start_passage<T: Turns>(setup: &Setup<T>, i: u16) -> Passage
     }
 }
 
-// The lease of a group.
+// The lease of a group, with a window or without.
 fn start_lease<T: Turns>(
     alloc: Global,
     setup: Arc<Setup<T>>,
+    window: Option<Window>,
     groups: &[u16],
     number: u16,
 ) -> Result<Lease<T>, NoMemory>
     requires { length groups.now ≡ length (composition (plan_of (arc_value setup))) }
-    ensures { IfOk result (IsStarted T.turn_of (arc_value setup) groups.now number) }
+    ensures lease { IfOk result (IsStarted T.turn_of (arc_value setup) groups.now number) }
+    ensures window { IfOk result (λ lease. lease.window ≡ window) }
+    ensures few { IfOk result StaysInWindow }
 {
     machine_is_lawful(&setup);
     group_exchange_is_sound::<State, Action>();
-    let group = Group::new(alloc, setup, groups, number)?;
-    Ok(lease_of(group))
+    group_window_law::<State, Action>();
+    let mut group = Group::new(alloc, setup, groups, number)?;
+    group.soundness_law();
+    group.set_window(window);
+    let lease = lease_of(group);
+    lease.soundness_law();
+    Ok(lease)
 }
 
 // A lease for each group, in order.
 fn start_leases<T: Turns>(
     alloc: Global,
     setup: &Arc<Setup<T>>,
+    window: Option<Window>,
     groups: &[u16],
     count: u16,
 ) -> Result<Vec<Lease<T>>, NoMemory>
     requires { length groups.now ≡ length (composition (plan_of (arc_value setup.now))) }
-    ensures { IfOk result (λ leases. AreStarted
+    ensures leases { IfOk result (λ leases. AreStarted
         T.turn_of (arc_value setup.now) groups.now count leases.items) }
+    ensures window { IfOk result
+        (λ leases. OfEachLease (λ lease. lease.window ≡ window) leases.items) }
+    ensures few { IfOk result (λ leases. OfEachLease StaysInWindow leases.items) }
 {
     let mut leases = Vec::new(alloc);
     for number in 0..count {
-        leases.push(start_lease(alloc, Arc::try_clone(setup)?, groups, number)?)?;
+        leases.push(start_lease(alloc, Arc::try_clone(setup)?, window, groups, number)?)?;
     }
     Ok(leases)
 }
@@ -168,23 +182,85 @@ impl<T: Turns> Exchange<T> {
             (groups_of partition.now) (group_count partition.now) both.1.items) }
         ensures start { IfOk result (λ both. StandForStart T.turn_of (arc_value setup)
             (groups_of partition.now) both.0 both.1.items) }
+        ensures window { IfOk result
+            (λ both. OfEachLease (λ lease. lease.window ≡ None) both.1.items) }
     {
-        machine_is_lawful(&setup);
-        group_exchange_is_core::<State, Action>();
-        group_exchange_is_sound::<State, Action>();
-        committed_is_reference::<State, Action>();
-        each_step_is_answered::<State, Action>();
-        let groups = partition.group_of();
-        let leases = start_leases(alloc, &setup, groups, partition.groups())?;
-        let exchange = begin(alloc, setup, groups, &leases)?;
+        Exchange::start(alloc, setup, partition, None)
+    }
+
+    /// The same with a window, or with none. With a window, from then on, whatever is called and in any order, each record has at most so many own
+    /// turns done, and as many messages of each other component done or pending; and all inboxes together hold at most twice as many messages
+    /// and antimessages for each pair of components of two groups.
+    pub fn start(
+        alloc: Global,
+        setup: Arc<Setup<T>>,
+        partition: &Partition,
+        window: Option<Window>,
+    ) -> Result<(Exchange<T>, Vec<Lease<T>>), NoMemory>
+        requires { length (groups_of partition.now)
+            ≡ length (composition (plan_of (arc_value setup))) }
+        ensures exchange { IfOk result (λ both. both.0
+            ≡ start_shared_within T.turn_of (arc_value setup) (groups_of partition.now) window
+            both.1.items) }
+        ensures seen { IfOk result (λ both. exchange_of
+            (machine_of T.turn_of (arc_value setup)) both.0
+            ≡ start_exchange (machine_of T.turn_of (arc_value setup))
+            (group_at (groups_of partition.now)) (length (composition (plan_of (arc_value setup))))) }
+        ensures leases { IfOk result (λ both. AreStarted T.turn_of (arc_value setup)
+            (groups_of partition.now) (group_count partition.now) both.1.items) }
+        ensures start { IfOk result (λ both. StandForStart T.turn_of (arc_value setup)
+            (groups_of partition.now) both.0 both.1.items) }
+        ensures window { IfOk result
+            (λ both. OfEachLease (λ lease. lease.window ≡ window) both.1.items) }
+        ensures inboxes { IfOk result (λ both. HasFewInInboxes T.turn_of both.0) }
+        ensures few { IfOk result (λ both. OfEachLease StaysInWindow both.1.items) }
+    {
+        let (exchange, leases) = start_both(alloc, setup, partition, window)?;
+        exchange.soundness_law();
         Ok((exchange, leases))
     }
+}
+
+// The same exchange and leases.
+fn start_both<T: Turns>(
+    alloc: Global,
+    setup: Arc<Setup<T>>,
+    partition: &Partition,
+    window: Option<Window>,
+) -> Result<(Exchange<T>, Vec<Lease<T>>), NoMemory>
+    requires { length (groups_of partition.now)
+        ≡ length (composition (plan_of (arc_value setup))) }
+    ensures exchange { IfOk result (λ both. both.0
+        ≡ start_shared_within T.turn_of (arc_value setup) (groups_of partition.now) window
+        both.1.items) }
+    ensures seen { IfOk result (λ both. exchange_of
+        (machine_of T.turn_of (arc_value setup)) both.0
+        ≡ start_exchange (machine_of T.turn_of (arc_value setup))
+        (group_at (groups_of partition.now)) (length (composition (plan_of (arc_value setup))))) }
+    ensures leases { IfOk result (λ both. AreStarted T.turn_of (arc_value setup)
+        (groups_of partition.now) (group_count partition.now) both.1.items) }
+    ensures start { IfOk result (λ both. StandForStart T.turn_of (arc_value setup)
+        (groups_of partition.now) both.0 both.1.items) }
+    ensures window { IfOk result
+        (λ both. OfEachLease (λ lease. lease.window ≡ window) both.1.items) }
+    ensures few { IfOk result (λ both. OfEachLease StaysInWindow both.1.items) }
+{
+    machine_is_lawful(&setup);
+    group_exchange_is_core::<State, Action>();
+    group_exchange_is_sound::<State, Action>();
+    committed_is_reference::<State, Action>();
+    each_step_is_answered::<State, Action>();
+    let groups = partition.group_of();
+    let leases = start_leases(alloc, &setup, window, groups, partition.groups())?;
+    let exchange = begin(alloc, setup, window, groups, &leases)?;
+    Ok((exchange, leases))
 }
 
 // The exchange at the start, where these are the leases.
 fn begin<T: Turns>(
     alloc: Global,
     setup: Arc<Setup<T>>,
+    window: Option<Window>,
     groups: &[u16],
     leases: &[Lease<T>],
 ) -> Result<Exchange<T>, NoMemory>
@@ -194,10 +270,11 @@ fn begin<T: Turns>(
     requires leases { AreStarted T.turn_of (arc_value setup) groups.now (length leases.now)
         leases.now }
     ensures { IfOk result (λ exchange. exchange
-        ≡ start_shared T.turn_of (arc_value setup) groups.now leases.now) }
+        ≡ start_shared_within T.turn_of (arc_value setup) groups.now window leases.now) }
 {
     machine_is_lawful(&setup);
     group_exchange_is_sound::<State, Action>();
+    group_window_law::<State, Action>();
     let stubs = start_stubs(alloc, leases)?;
     let counted = start_counted(alloc, &setup)?;
     let groups = listed(alloc, groups)?;
@@ -214,6 +291,7 @@ fn begin<T: Turns>(
         bound: FIRST,
         held: counted.held,
         given: 0,
+        window,
         notes,
     })
 }

@@ -1,6 +1,7 @@
 //! What an exchange and its leases count for who measures them. No clause speaks of the counts, and no promise rests on them.
 use antimessage::Bag;
 use event_keys::Sign;
+use groups::Losses;
 
 /// What happened at an exchange since its start. Each count ends at the greatest `u64`.
 #[derive(Clone, Copy, Default, PartialEq, Eq)]
@@ -19,11 +20,17 @@ pub struct Tally {
     pub annihilated: u64,
 }
 
-/// What was done of a group since its lease was last asked. The count ends at the greatest `u64`.
+/// What was done of a group since its lease was last asked. Each count ends at the greatest `u64`.
 #[derive(Clone, Copy, Default, PartialEq, Eq)]
 pub struct Effort {
     /// How many entries were processed: turns of its components, and messages that they received.
     pub processed: u64,
+    /// How many of these were taken back.
+    pub taken_back: u64,
+    /// How many times messages or antimessages took something back.
+    pub roll_backs: u64,
+    /// How many of these times it was a message, which came too late.
+    pub stragglers: u64,
 }
 
 impl Tally {
@@ -59,5 +66,22 @@ impl Effort {
     // So many entries are processed.
     pub(crate) fn process(&mut self, count: u32) {
         self.processed = self.processed.saturating_add(u64::from(count));
+    }
+
+    // So much is taken back.
+    pub(crate) fn lose(&mut self, losses: Losses) {
+        self.taken_back = self.taken_back.saturating_add(losses.taken_back);
+        self.roll_backs = self.roll_backs.saturating_add(losses.roll_backs);
+        self.stragglers = self.stragglers.saturating_add(losses.stragglers);
+    }
+
+    /// Both together.
+    pub fn and(self, other: Effort) -> Effort {
+        Effort {
+            processed: self.processed.saturating_add(other.processed),
+            taken_back: self.taken_back.saturating_add(other.taken_back),
+            roll_backs: self.roll_backs.saturating_add(other.roll_backs),
+            stragglers: self.stragglers.saturating_add(other.stragglers),
+        }
     }
 }

@@ -7,7 +7,7 @@ use Rattle.task_seed.specs.Machines.{end_rank}
 use Rattle.rollback.specs.ComponentView.{ComponentView}
 use Rattle.rollback.proofs.Sending.{end_is}
 use Rattle.groups.specs.GroupView.{key_of_next, least_next}
-use Rattle.groups.specs.Open.{IsFirst, NothingIsNext}
+use Rattle.groups.specs.Windows.{IsFirst, NothingIsNext}
 use Rattle.groups.proofs.Placed.{none_some, one_some}
 
 module _ {T : Type 0} (turn_of : T → ℕ → ℕ → Option Turn) (setup : Setup T) where

@@ -12,3 +12,4 @@ pub mod Floors
 pub mod Dropped
 pub mod Indexed
 pub mod Kept
+pub mod Roomy

@@ -8,7 +8,7 @@ use Rattle.event_keys.specs.declared.message.Sign.TheVariants.{Plus, Minus}
 use Rattle.event_keys.specs.declared.message.Signed.{Signed}
 use Rattle.event_keys.specs.Ranks.{rank_of_bound}
 use Rattle.virtual_time.specs.Machine.{Lawful, Machine}
-use Rattle.virtual_time.specs.Records.{next_of}
+use Rattle.virtual_time.specs.Records.{Record, next_of}
 use Rattle.virtual_time.specs.Reference.{reference_below}
 use Rattle.virtual_time.specs.Worlds.{Process}
 use Rattle.virtual_time.specs.Groups.Leases.{Does, alone}
@@ -18,9 +18,11 @@ use Rattle.task_seed.specs.declared.turns.Turn.{Turn}
 use Rattle.rollback.specs.ComponentView.{ComponentView, machine_of}
 use Rattle.rollback.specs.Flight.{goes, in_flight, is_sign}
 use Rattle.groups.specs.Crew.{AreSound, MembersView}
-use Rattle.groups.specs.GroupView.{AreMembers, GroupView, frames, is_member, lease_of}
-use Rattle.groups.specs.Moves.{AreLeastFirst, Delivers, IsAhead, IsSettled, IsStepped, KeepsGroup, Leads, MovesBy, Processes}
+use Rattle.groups.specs.GroupView.{AreMembers, GroupView, frames, history_of, is_member, lease_of}
+use Rattle.groups.specs.Moves.{AreLeastFirst, Delivers, IsAhead, IsSettled, IsStepped, IsSteppedWithin, KeepsGroup, Leads, MovesBy, Processes}
 use Rattle.groups.specs.Open.{AllInside, AllOutside, IsPassed, IsProcessed, open_world}
+use Rattle.groups.specs.declared.window.Window.{Window}
+use Rattle.groups.specs.Windows.{lets_through}
 use Rattle.groups.proofs.Passed.{its_frames, its_next, its_step, outside_same}
 use Rattle.groups.proofs.Placed.{history_there, member_there, members_same}
 
@@ -55,12 +57,12 @@ module _ {T : Type 0} (turn_of : T → ℕ → ℕ → Option Turn) where
 
   -- the group with these members, this tray and these messages that leave it
   abbrev pub with : GroupView (Setup T) → MembersView (Setup T) → List Signed → List Signed → GroupView (Setup T)
-  with g v tray out = record { number = g.number; setup = v.setup; base = v.base; components = v.components; floor = g.floor; tray = tray; out = out }
+  with g v tray out = record { number = g.number; setup = v.setup; base = v.base; components = v.components; floor = g.floor; tray = tray; out = out; window = g.window }
 
   module _ (old : GroupView (Setup T)) (inside : AllInside old.components old.tray) where
     keeps : (v : MembersView (Setup T)) (tray out : List Signed) → v.setup ≡ old.setup → v.base ≡ old.base → frames v.components ≡ frames old.components → KeepsGroup turn_of old (with old v tray out)
     keeps v tray out setup base frames_are =
-        record { rest = λ w. record { number = old.number; setup = setup w; base = base w; components = v.components; floor = old.floor; tray = tray; out = out }; same = frames_are }
+        record { rest = λ w. record { number = old.number; setup = setup w; base = base w; components = v.components; floor = old.floor; tray = tray; out = out; window = old.window }; same = frames_are }
 
     new_alone : (v : MembersView (Setup T)) (out : List Signed) → v.base ≡ old.base → frames v.components ≡ frames old.components → (group : ℕ → ℕ) → AreMembers group old.number old.components
         → alone (at old) group old.number (lease_of (at old) (with old v [] out)) ≡ open_world (at old) v [] out
@@ -81,25 +83,30 @@ module _ {T : Type 0} (turn_of : T → ℕ → ℕ → Option Turn) where
         })
 
     -- what waits to leave goes to others still
-    pub outside_on : (mid v : MembersView (Setup T)) (sent tray out : List Signed) → Lawful (at old) → AreSound turn_of (members_in old) → IsProcessed turn_of (members_in old) mid old.tray sent → IsPassed turn_of mid v sent tray old.out out → AllOutside old.components old.out → AllOutside v.components out
-    outside_on mid v sent tray out law sound p d h =
+    pub outside_on : (window : Option Window) (mid v : MembersView (Setup T)) (sent tray out : List Signed) → Lawful (at old) → AreSound turn_of (members_in old) → IsProcessed turn_of window (members_in old) mid old.tray sent → IsPassed turn_of mid v sent tray old.out out → AllOutside old.components old.out → AllOutside v.components out
+    outside_on window mid v sent tray out law sound p d h =
         d.outside (outside_same old.components mid.components (members_same old.components mid.components (its_frames turn_of (members_in old) mid law sound.place sound.apart sound.own old.tray sent old.out p)) old.out h)
 
     -- the next entry is processed, and what is then in flight is delivered
-    pub stepped_on : (mid v : MembersView (Setup T)) (sent tray out : List Signed) → Lawful (at old) → AreSound turn_of (members_in old) → IsProcessed turn_of (members_in old) mid old.tray sent → tray ≡ [] → IsPassed turn_of mid v sent tray old.out out → IsStepped turn_of old (with old v tray out)
-    stepped_on mid v sent tray out law sound p empty d =
-        subst (λ ys. IsStepped turn_of old (with old v ys out)) (sym empty)
-        (record {
-          i = p.c.number;
-          entry = p.entry;
-          member = member_there old.components p.place p.c p.there;
-          next = subst (λ r. next_of (at old) p.c.number r ≡ Some p.entry) (sym (history_there (at old) sound.place 0 old.components p.place p.c sound.apart p.there)) (its_next turn_of (members_in old) mid law sound.place sound.apart sound.own old.tray sent old.out p);
-          least = p.least;
-          keeps = keeps v [] out (d.setup ∙ mid_setup) (d.base ∙ mid_base) frames_are;
-          tray = refl;
-          moves = λ group mine. processes group mine;
-        })
+    pub stepped_on : (window : Option Window) (mid v : MembersView (Setup T)) (sent tray out : List Signed) → Lawful (at old) → AreSound turn_of (members_in old) → IsProcessed turn_of window (members_in old) mid old.tray sent → tray ≡ [] → IsPassed turn_of mid v sent tray old.out out → IsSteppedWithin turn_of window old (with old v tray out)
+    stepped_on window mid v sent tray out law sound p empty d =
+        subst (λ ys. IsSteppedWithin turn_of window old (with old v ys out)) (sym empty) (
+          record {
+            i = p.c.number;
+            entry = p.entry;
+            member = member_there old.components p.place p.c p.there;
+            next = subst (λ r. next_of (at old) p.c.number r ≡ Some p.entry) (sym history) (its_next turn_of (members_in old) mid law sound.place sound.apart sound.own old.tray sent old.out p);
+            least = p.least;
+            keeps = keeps v [] out (d.setup ∙ mid_setup) (d.base ∙ mid_base) frames_are;
+            tray = refl;
+            moves = λ group mine. processes group mine;
+          },
+          subst (λ (r : Record (List Datum) Named). lets_through window r.done (Some p.entry) ≡ true) (sym history) p.room,
+        )
       where
+        history : history_of (at old) old.components p.c.number ≡ p.c.history
+        history = history_there (at old) sound.place 0 old.components p.place p.c sound.apart p.there
+
         mid_setup : mid.setup ≡ old.setup
         mid_setup = ap (λ (x : MembersView _). x.setup) p.becomes
 
@@ -168,8 +175,11 @@ module _ {T : Type 0} (turn_of : T → ℕ → ℕ → Option Turn) where
           subst (λ x. Leads (machine_of turn_of x) group old.number (alone (machine_of turn_of x) group old.number (lease_of (machine_of turn_of x) mid)) (alone (machine_of turn_of x) group old.number (lease_of (machine_of turn_of x) new))) before.1
           (subst (λ n. Leads (at mid) group n (alone (at mid) group n (lease_of (at mid) mid)) (alone (at mid) group n (lease_of (at mid) new))) before.0 lead)
 
-  pub ahead_more : (old mid new : GroupView (Setup T)) (count : ℕ) → IsAhead turn_of old mid count → IsStepped turn_of mid new → IsAhead turn_of old new (suc count)
-  ahead_more old mid new count ahead step = (mid, ahead, step)
+  pub step_window : (old new : GroupView (Setup T)) → IsStepped turn_of old new → new.window ≡ old.window
+  step_window old new s = ap (λ (x : GroupView _). x.window) s.keeps.rest
+
+  pub ahead_more : (old mid new : GroupView (Setup T)) (count : ℕ) → IsAhead turn_of old mid count → IsSteppedWithin turn_of mid.window mid new → IsAhead turn_of old new (suc count)
+  ahead_more old mid new count ahead step = (mid, ahead, step.0, step.1)
 
 pub none_inside : {P : Type 0} (cs : List (ComponentView P)) (tray : List Signed) → tray ≡ [] → AllInside cs tray
 none_inside cs tray e = subst (AllInside cs) (sym e) tt

@@ -29,9 +29,12 @@ use Rattle.groups.specs.Crew.{AreApart, AreOf, MembersView}
 use Rattle.groups.specs.GroupView.{AreMembers, frames, is_member}
 use Rattle.groups.specs.Moves.{Delivers}
 use Rattle.groups.specs.Open.{AllInside, AllOutside, IsDelivered, IsPassed, IsProcessed, depth_of, open_world}
+use Rattle.groups.specs.declared.window.Window.{Window}
+use Rattle.groups.specs.Windows.{HaveDone}
 use Rattle.groups.proofs.Depths.{come_depth, depth_put}
 use Rattle.groups.proofs.Opened.{antimessage_does, least_both, least_open, left_open, message_does, process_does}
 use Rattle.groups.proofs.Placed.{frames_put, members_same, own_there}
+use Rattle.groups.proofs.Roomy.{come_kept}
 
 pub split : (x : Signed) (xs rest : List Signed) → Some x ≡ head xs → rest ≡ tail xs → xs ≡ x ∷ rest
 split x [] rest e left = cc
@@ -75,7 +78,7 @@ module _ {T : Type 0} (turn_of : T → ℕ → ℕ → Option Turn) where
   at p = machine_of turn_of p
 
   pub passed_none : (old : MembersView (Setup T)) (sent out : List Signed) → IsPassed turn_of old old sent sent out out
-  passed_none old sent out = record { setup = refl; base = refl; same = refl; outside = λ h. h; moves = λ group g mine. delivers_none (at old.setup) group g (open_world (at old.setup) old sent out) }
+  passed_none old sent out = record { setup = refl; base = refl; same = refl; outside = λ h. h; turns = λ most h. h; moves = λ group g mine. delivers_none (at old.setup) group g (open_world (at old.setup) old sent out) }
 
   pub passed_both : (old mid new : MembersView (Setup T)) (s0 s1 s2 o0 o1 o2 : List Signed) → IsPassed turn_of old mid s0 s1 o0 o1 → IsPassed turn_of mid new s1 s2 o1 o2 → IsPassed turn_of old new s0 s2 o0 o2
   passed_both old mid new s0 s1 s2 o0 o1 o2 p q =
@@ -84,6 +87,7 @@ module _ {T : Type 0} (turn_of : T → ℕ → ℕ → Option Turn) where
         base = q.base ∙ p.base;
         same = q.same ∙ p.same;
         outside = λ h. q.outside (p.outside h);
+        turns = λ most h. q.turns most (p.turns most h);
         moves = λ group g mine. delivers_both (at old.setup) group g (open_world (at old.setup) old s0 o0) (open_world (at old.setup) mid s1 o1) (open_world (at old.setup) new s2 o2) (p.moves group g mine) (later group g mine);
       }
     where
@@ -109,6 +113,7 @@ module _ {T : Type 0} (turn_of : T → ℕ → ℕ → Option Turn) where
         base = refl;
         same = refl;
         outside = outside_more old.components x out alien;
+        turns = λ most h. h;
         moves = λ group g mine.
             subst (Delivers (at old.setup) group g (open_world (at old.setup) old (x ∷ sent) out)) (left_open (system turn_of old.setup) law old x sent out alien order fits)
             (delivers_none (at old.setup) group g (open_world (at old.setup) old (x ∷ sent) out));
@@ -123,6 +128,7 @@ module _ {T : Type 0} (turn_of : T → ℕ → ℕ → Option Turn) where
           base = ap (λ (v : MembersView _). v.base) d.becomes;
           same = frames_are;
           outside = outside_same old.components new.components (members_same old.components new.components frames_are) out;
+          turns = λ most h. subst (λ (v : MembersView _). HaveDone most v.components) (sym d.becomes) (come_kept turn_of old.components d.place c x (subst (λ p. Lawful (at p)) (sym of) law) d.there most h);
           moves = λ group g mine. subst (λ v. Delivers (at old.setup) group g (open_world (at old.setup) old (x ∷ sent) out) (open_world (at old.setup) v new_sent out)) (sym d.becomes) (go group g mine x.sign refl posted);
         }
       where
@@ -174,7 +180,7 @@ module _ {T : Type 0} (turn_of : T → ℕ → ℕ → Option Turn) where
         omega (arith, put, came, now, many)
 
     -- the member with the least next key processed that entry
-    module _ (sent new_sent out : List Signed) (p : IsProcessed turn_of old new sent new_sent) where
+    module _ {window : Option Window} (sent new_sent out : List Signed) (p : IsProcessed turn_of window old new sent new_sent) where
       abbrev b : ComponentView (Setup T)
       b = p.c
 

@@ -11,7 +11,7 @@ use Rattle.rollback.specs.ComponentView.{ComponentView, machine_of}
 use Rattle.groups.specs.declared.seats.Seat.{Seat}
 use Rattle.groups.specs.Crew.{ArePlaced, AreSeated, AreSeatedBut, AreSeatedIn, AreSeatedTo, IsSeatOf, place_in}
 use Rattle.groups.specs.GroupView.{is_member, key_of_next}
-use Rattle.groups.specs.Open.{IsFirst, NothingIsNext}
+use Rattle.groups.specs.Windows.{IsFirst, NothingIsNext}
 use Rattle.groups.specs.Tournament.{IsTournament, empty, key_at, node}
 use Rattle.groups.proofs.Placed.{member_at, member_there, one_some, set_other, set_there}
 use Rattle.groups.proofs.Played.{all_empty, root_low, root_reached}

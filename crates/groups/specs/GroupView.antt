@@ -19,9 +19,10 @@ use Rattle.task_seed.specs.Setups.{plan_of}
 use Rattle.rollback.specs.Flight.{in_flight}
 use Rattle.rollback.specs.ComponentView.{ComponentView, machine_of, next_key, start_held, start_record}
 use Rattle.rollback.specs.Stepped.{next_entry}
+use Rattle.groups.specs.declared.window.Window.{Window}
 
 -- a group: its number, the setup and the bound of the base of its components, these in order of their numbers, the floor of its last
--- meeting, its tray of messages that came and are not delivered yet, and the messages that leave it
+-- meeting, its tray of messages that came and are not delivered yet, the messages that leave it, and its window, if it has one
 pub record GroupView (P : Type 0) : Type 0 where
   pub number : ℕ
   pub setup : P
@@ -30,6 +31,7 @@ pub record GroupView (P : Type 0) : Type 0 where
   pub floor : Bound
   pub tray : List Signed
   pub out : List Signed
+  pub window : Option Window
 
 -- the number is among these
 abbrev pub has_number : ℕ → List ℕ → Bool

@@ -1,5 +1,5 @@
 -- What a group does, as steps of its components in the theory.
-use Rattle.std.specs.Prelude.{◌≡◌, ℕ, zero, suc, ◌<◌, true, Option, Some, List, [], ◌∷◌}
+use Rattle.std.specs.Prelude.{◌≡◌, ℕ, zero, suc, ◌<◌, true, false, Option, Some, List, [], ◌∷◌}
 use Rattle.terms.specs.Datum.{Datum}
 use Rattle.terms.specs.Named.{Named}
 use Rattle.virtual_time.specs.Machine.{Machine}
@@ -12,8 +12,10 @@ use Rattle.task_seed.specs.declared.setup.Setup.{Setup}
 use Rattle.task_seed.specs.declared.turns.Turn.{Turn}
 use Rattle.rollback.specs.ComponentView.{machine_of}
 use Rattle.groups.specs.declared.running.Stop.{Stop}
-use Rattle.groups.specs.declared.running.Stop.TheVariants.{Budget, End, NoMemory}
+use Rattle.groups.specs.declared.running.Stop.TheVariants.{Budget, End, NoMemory, NoRoom}
 use Rattle.groups.specs.GroupView.{AreMembers, GroupView, frames, history_of, is_member, lease_of, least_next}
+use Rattle.groups.specs.declared.window.Window.{Window}
+use Rattle.groups.specs.Windows.{IsFirstWith, lets_through}
 
 -- no message or antimessage in flight to the group's components has a lesser key
 abbrev pub IsLeastIn : {S A : Type 0} → (ℕ → ℕ) → ℕ → World S A → Item A → Type 0
@@ -85,18 +87,26 @@ module _ {T : Type 0} (turn_of : T → ℕ → ℕ → Option Turn) where
     pub tray : new.tray ≡ []
     pub moves : IsAlone (λ group. Processes (theory old) group old.number i) old new
 
-  -- so many entries were processed, one after the other
+  -- the window had room for the entry that was processed
+  abbrev pub HadRoom : Option Window → (old new : GroupView (Setup T)) → IsStepped old new → Type 0
+  HadRoom window old new step = lets_through window (history_of (theory old) old.components step.i).done (Some step.entry) ≡ true
+
+  abbrev pub IsSteppedWithin : Option Window → GroupView (Setup T) → GroupView (Setup T) → Type 0
+  IsSteppedWithin window old new = (step : IsStepped old new) × HadRoom window old new step
+
+  -- so many entries were processed, one after the other, and for each the group's window had room
   abbrev pub IsAhead : GroupView (Setup T) → GroupView (Setup T) → ℕ → Type 0
   IsAhead old new zero = new ≡ old
-  IsAhead old new (suc count) = (mid : GroupView (Setup T)) × IsAhead old mid count × IsStepped mid new
+  IsAhead old new (suc count) = (mid : GroupView (Setup T)) × IsAhead old mid count × (step : IsStepped mid new) × HadRoom mid.window mid new step
 
   -- the least key that its components have to do, or the end
   abbrev pub next_rank : GroupView (Setup T) → ℕ
   next_rank g = least_next turn_of g.setup g.components
 
-  -- why a group stopped that ran ahead by so many entries of a budget, and is now this: the budget is used up, nothing is next, or something
-  -- is next and memory was refused
+  -- why a group stopped that ran ahead by so many entries of a budget, and is now this: the budget is used up, nothing is next, something
+  -- is next for which its window has room and memory was refused, or its window has no room for what is next
   abbrev pub HasStopped : (budget count : ℕ) → Stop → GroupView (Setup T) → Type 0
   HasStopped budget count Budget g = count ≡ budget
   HasStopped budget count End g = next_rank g ≡ (theory g).top
-  HasStopped budget count NoMemory g = (count < budget) × (next_rank g ≡ (theory g).top → ⊥)
+  HasStopped budget count NoMemory g = (count < budget) × (next_rank g ≡ (theory g).top → ⊥) × IsFirstWith turn_of g.window true g.components
+  HasStopped budget count NoRoom g = (count < budget) × IsFirstWith turn_of g.window false g.components

@@ -1,5 +1,5 @@
 -- A group within a call, where what is on its way to its components and to others is in one bag.
-use Rattle.std.specs.Prelude.{◌≡◌, ℕ, ◌+◌, ◌<◌, ◌≤◌, ◌^◌, cond, true, false, Option, Some, List, [], ◌∷◌, length, slice_get, slice_set}
+use Rattle.std.specs.Prelude.{◌≡◌, ℕ, ◌+◌, cond, true, false, Option, Some, List, [], ◌∷◌, length, slice_get, slice_set}
 use Rattle.terms.specs.Datum.{Datum}
 use Rattle.terms.specs.Named.{Named}
 use Rattle.event_keys.specs.declared.message.Sign.TheVariants.{Plus, Minus}
@@ -18,8 +18,10 @@ use Rattle.rollback.specs.Flight.{in_flight}
 use Rattle.rollback.specs.ComponentView.{ComponentView, machine_of}
 use Rattle.rollback.specs.Stepped.{HasNextKey, IsNextSent, IsUnsent, next_entry, stepped, taken_back, with_coming}
 use Rattle.groups.specs.Crew.{MembersView}
-use Rattle.groups.specs.GroupView.{AreMembers, frames, history_of, is_member, key_of_next, least_next, part_with}
+use Rattle.groups.specs.GroupView.{AreMembers, frames, history_of, is_member, least_next, part_with}
 use Rattle.groups.specs.Moves.{Delivers}
+use Rattle.groups.specs.declared.window.Window.{Window}
+use Rattle.groups.specs.Windows.{HaveDone, IsFirst, lets_through}
 
 -- a bag to which these are posted, one after the other
 abbrev pub joined : Machine (List Datum) Named → List (Item Named) → List (Item Named) → List (Item Named)
@@ -67,21 +69,12 @@ module _ {T : Type 0} (turn_of : T → ℕ → ℕ → Option Turn) where
   IsComeTo place cs sent new new_sent signed =
       OfComponent place cs (λ c. (new ≡ slice_set cs place (with_coming turn_of c signed)) × IsUnsent turn_of c (taken_back turn_of c signed) sent new_sent)
 
-  -- the component at a place has something to do, and none has anything to do before it
-  pub record IsFirst (cs : List (ComponentView (Setup T))) (place : ℕ) : Type 0 where
-    pub c : ComponentView (Setup T)
-    pub there : slice_get cs place ≡ Some c
-    pub key : key_of_next turn_of c < 2 ^ 144
-    pub least : (q : ℕ) (d : ComponentView (Setup T)) → slice_get cs q ≡ Some d → key_of_next turn_of c ≤ key_of_next turn_of d
-
-  abbrev pub HasFirst : List (ComponentView (Setup T)) → Type 0
-  HasFirst cs = (place : ℕ) × IsFirst cs place
-
-  -- that component did its next entry, which has this key
-  pub record IsFirstDone (key : Key) (cs : List (ComponentView (Setup T))) (sent : List Signed) (new : List (ComponentView (Setup T))) (new_sent : List Signed) : Type 0 where
+  -- a component that is first did its next entry, which has this key, and for which the window had room
+  pub record IsFirstDone (window : Option Window) (key : Key) (cs : List (ComponentView (Setup T))) (sent : List Signed) (new : List (ComponentView (Setup T))) (new_sent : List Signed) : Type 0 where
     pub place : ℕ
-    pub first : IsFirst cs place
+    pub first : IsFirst turn_of cs place
     pub has : HasNextKey turn_of first.c key
+    pub room : lets_through window first.c.history.done (next_entry turn_of first.c) ≡ true
     pub becomes : new ≡ slice_set cs place (stepped turn_of first.c)
     pub posts : IsNextSent turn_of first.c sent new_sent
 
@@ -95,18 +88,15 @@ module _ {T : Type 0} (turn_of : T → ℕ → ℕ → Option Turn) where
     pub posts : IsUnsent turn_of c (taken_back turn_of c signed) sent new_sent
     pub many : count ≡ length (taken_back turn_of c signed)
 
-  -- no component has anything to do
-  abbrev pub NothingIsNext : List (ComponentView (Setup T)) → Type 0
-  NothingIsNext cs = (q : ℕ) (d : ComponentView (Setup T)) → slice_get cs q ≡ Some d → 2 ^ 144 ≤ key_of_next turn_of d
-
-  -- the member with the least next key did that entry
-  pub record IsProcessed (old new : MembersView (Setup T)) (sent new_sent : List Signed) : Type 0 where
+  -- the member with the least next key did that entry, for which the window had room
+  pub record IsProcessed (window : Option Window) (old new : MembersView (Setup T)) (sent new_sent : List Signed) : Type 0 where
     pub place : ℕ
     pub c : ComponentView (Setup T)
     pub there : slice_get old.components place ≡ Some c
     pub entry : Entry Named
     pub next : next_entry turn_of c ≡ Some entry
     pub least : entry_key entry ≡ least_next turn_of old.setup old.components
+    pub room : lets_through window c.history.done (Some entry) ≡ true
     pub becomes : new ≡ record old { components = slice_set old.components place (stepped turn_of c) }
     pub posts : IsNextSent turn_of c sent new_sent
 
@@ -126,5 +116,6 @@ module _ {T : Type 0} (turn_of : T → ℕ → ℕ → Option Turn) where
     pub base : new.base ≡ old.base
     pub same : frames new.components ≡ frames old.components
     pub outside : AllOutside old.components out → AllOutside new.components new_out
+    pub turns : (most : ℕ) → HaveDone most old.components → HaveDone most new.components
     pub moves : (group : ℕ → ℕ) (g : ℕ) → AreMembers group g old.components
         → Delivers (machine_of turn_of old.setup) group g (open_world (machine_of turn_of old.setup) old sent out) (open_world (machine_of turn_of old.setup) new new_sent new_out)

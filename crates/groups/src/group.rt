@@ -1,5 +1,5 @@
 //! A group of components that a worker holds.
-ghost use Rattle.std.specs.Prelude.{◌≡◌, ◌≤◌, ◌↔◌, ℕ, [], true, IfOk, IsErrOf, OnErr, OnOk};
+ghost use Rattle.std.specs.Prelude.{◌≡◌, ◌≤◌, ◌↔◌, ℕ, [], true, None, IfErr, IfOk, IsErrOf, OnErr, OnOk};
 ghost use Rattle.std.specs.Arc.{arc_value};
 ghost use Rattle.antimessage.specs.Bags.{insert_all};
 ghost use Rattle.event_keys.specs.Ranks.{rank, rank_of_bound};
@@ -9,12 +9,15 @@ ghost use Rattle.virtual_time.specs.Groups.Leases.{IsFloor, start_lease};
 ghost use Rattle.groups.specs.Crew.{AreSound};
 ghost use Rattle.groups.specs.Dropping.{AreGivenUp, cut_all};
 ghost use Rattle.groups.specs.GroupView.{AreMembers, count_of, group_in, is_member, lease_of, start_components};
-ghost use Rattle.groups.specs.Moves.{HasStopped, IsAhead, IsSettled, IsStepped, MovesBy, next_rank, theory};
+ghost use Rattle.groups.specs.Moves.{HasStopped, IsAhead, IsSettled, IsStepped, IsSteppedWithin, MovesBy, next_rank, theory};
 ghost use Rattle.groups.specs.Open.{AllInside, AllOutside};
+ghost use Rattle.groups.specs.Windows.{IsHalted, KeepRoom, KeepsWindow, MayGoOn, refusal_of};
 
+use crate::losses::Losses;
 use crate::members::Members;
 use crate::passing::pass_all;
 use crate::running::{Ran, Stop};
+use crate::window::Window;
 use antimessage::Bag;
 use antimessage::laws::order_law;
 use event_keys::{Bound, Key, Turned, lesser};
@@ -29,8 +32,21 @@ use task_seed::laws::machine_is_lawful;
 use task_seed::{Setup, Turns};
 use terms::NoMemory;
 
+// Why an entry was refused where there is no window.
+fn refusal(stop: Stop) -> ProcessRefused
+    ensures { result ≡ refusal_of stop }
+{
+    match stop {
+        Stop::End => ProcessRefused::NothingPending,
+        Stop::Budget => ProcessRefused::NoMemory,
+        Stop::NoMemory => ProcessRefused::NoMemory,
+        Stop::NoRoom => ProcessRefused::NoMemory,
+    }
+}
+
 /// The components of a group, away from what workers share: with the tray of messages that came to them and aren't delivered yet, the
-/// messages that leave the group, and its floor, the least key that it had to do at its last meeting. It can't be cloned.
+/// messages that leave the group, its floor, the least key that it had to do at its last meeting, and its window, if it has one. It can't be
+/// cloned.
 #[derive(Drop)]
 pub struct Group<T: Turns> {
     number: u16,
@@ -38,6 +54,7 @@ pub struct Group<T: Turns> {
     tray: Bag,
     out: Bag,
     floor: Bound,
+    window: Option<Window>,
 }
 
 impl<T: Turns> Model for Group<T> {
@@ -71,6 +88,7 @@ impl<T: Turns> Model for Group<T> {
           floor = g.floor;
           tray = g.tray;
           out = g.out;
+          window = g.window;
         } };
 
     ghost invariant = { λ g. AllInside g.members.components g.tray
@@ -88,6 +106,7 @@ impl<T: Turns> Group<T> {
     ) -> Result<Group<T>, NoMemory>
         ensures group { IfOk result (λ group. (group.number ≡ number)
             × (group.setup ≡ arc_value setup) × (group.tray ≡ []) × (group.out ≡ [])) }
+        ensures window { IfOk result (λ group. group.window ≡ None) }
         ensures components { IfOk result (λ group. group.components
             ≡ start_components T.turn_of (arc_value setup)
             (group_in (count_of (arc_value setup)) group_of.now)
@@ -107,6 +126,7 @@ impl<T: Turns> Group<T> {
             tray: Bag::new(),
             out: Bag::new(),
             floor,
+            window: None,
         })
     }
 
@@ -152,6 +172,13 @@ impl<T: Turns> Group<T> {
         self.floor
     }
 
+    /// Its window, if it has one.
+    pub fn window(&self) -> Option<Window>
+        ensures { result ≡ self.now.window }
+    {
+        self.window
+    }
+
     /// Its components, in order of their numbers.
     pub fn components(&self) -> &[Component<T>]
         ensures { result.now ≡ self.now.components }
@@ -173,6 +200,14 @@ impl<T: Turns> Group<T> {
         self.members.next()
     }
 
+    /// Whether its window, if it has one, has room for what is next: an own turn has room where its component has fewer done since the base, and
+    /// an input always has. Where nothing is next, it has room too.
+    pub fn may_go_on(&self) -> bool
+        ensures { MayGoOn T.turn_of self.now.window result self.now.components }
+    {
+        self.members.may_go_on(self.window)
+    }
+
     /// The least key of what it has to do: of its components' next keys and of what is in flight to them. It is the end where there is
     /// nothing.
     pub fn least(&self) -> Bound
@@ -192,6 +227,13 @@ impl<T: Turns> Group<T> {
         ensures { result ≡ is_nonempty self.now.out }
     {
         !self.out.is_empty()
+    }
+
+    /// The messages and antimessages that came to its components and aren't delivered yet.
+    pub fn tray(&self) -> &Bag
+        ensures { result.now ≡ self.now.tray }
+    {
+        &self.tray
     }
 
     /// The messages and antimessages that wait to leave.
@@ -226,8 +268,15 @@ impl<T: Turns> Group<T> {
         self.floor = floor;
     }
 
-    /// The component with the least next key does that entry. What is then in flight within the group, and what follows of it there, is
-    /// delivered at once. A refusal changes nothing.
+    /// Gives it a window, or none.
+    pub fn set_window(&mut self, window: Option<Window>)
+        ensures { self.new ≡ record self.old { window = window } }
+    {
+        self.window = window;
+    }
+
+    /// The component with the least next key does that entry, whatever the window is. What is then in flight within the group, and what
+    /// follows of it there, is delivered at once. A refusal changes nothing.
     pub fn process(&mut self, alloc: Global) -> Result<Key, ProcessRefused>
         ensures key { IfOk result (λ key. rank key ≡ next_rank T.turn_of self.old) }
         ensures step { OnOk result (IsStepped T.turn_of self.old self.new) }
@@ -235,27 +284,46 @@ impl<T: Turns> Group<T> {
             ↔ (next_rank T.turn_of self.old ≡ (theory T.turn_of self.old).top) }
         ensures kept { OnErr result (self.new ≡ self.old) }
     {
+        match self.process_within(None, alloc) {
+            Ok(key) => Ok(key),
+            Err(stop) => Err(refusal(stop)),
+        }
+    }
+
+    // The same where the window has room for the entry.
+    fn process_within(&mut self, window: Option<Window>, alloc: Global) -> Result<Key, Stop>
+        ensures key { IfOk result (λ key. rank key ≡ next_rank T.turn_of self.old) }
+        ensures step { OnOk result (IsSteppedWithin T.turn_of window self.old self.new) }
+        ensures within { OnOk result (KeepRoom window self.old.components self.new.components) }
+        ensures stop { IfErr result
+            (λ stop. IsHalted T.turn_of window stop self.old.components) }
+        ensures nothing { IsErrOf result Stop.End
+            ↔ (next_rank T.turn_of self.old ≡ (theory T.turn_of self.old).top) }
+        ensures kept { OnErr result (self.new ≡ self.old) }
+    {
         machine_is_lawful(self.members.setup());
         self.members.members_law();
-        let key = self.members.process(alloc, &mut self.tray)?;
+        let key = self.members.process(window, alloc, &mut self.tray)?;
         pass_all(&mut self.members, &mut self.tray, &mut self.out);
         Ok(key)
     }
 
     /// Delivers all that is in flight within the group, and what follows of it there. It takes no memory.
     pub fn settle(&mut self)
-        ensures { IsSettled T.turn_of self.old self.new }
+        ensures settled { IsSettled T.turn_of self.old self.new }
+        ensures window { KeepsWindow self.old self.new }
     {
         pass_all(&mut self.members, &mut self.tray, &mut self.out);
     }
 
-    /// Processes entries, at most `budget` of them, and tells how many, and why there were no more. Where memory was refused, what was
-    /// processed before stays.
+    /// Processes entries, at most `budget` of them, and tells how many, and why there were no more: it stops before an own turn for which the
+    /// window has no room. Where memory was refused, what was processed before stays.
     pub fn run_ahead(&mut self, alloc: Global, budget: u32) -> Ran
         ensures ahead { IsAhead T.turn_of self.old self.new result.count }
         ensures most { result.count ≤ budget }
         ensures stop { HasStopped T.turn_of budget result.count result.stop self.new }
         ensures moves { MovesBy T.turn_of self.old self.new }
+        ensures window { KeepsWindow self.old self.new }
         ensures kept { result.count ≡ 0 → self.new ≡ self.old }
     {
         self.run_some(alloc, budget)
@@ -266,20 +334,27 @@ impl<T: Turns> Group<T> {
         ensures ahead { IsAhead T.turn_of self.old self.new result.count }
         ensures most { result.count ≤ budget }
         ensures stop { HasStopped T.turn_of budget result.count result.stop self.new }
+        ensures window { KeepsWindow self.old self.new }
         ensures kept { result.count ≡ 0 → self.new ≡ self.old }
     {
         for count in 0..budget {
-            let stop = match self.process(alloc) {
+            let window = self.window;
+            match self.process_within(window, alloc) {
                 Ok(_) => continue,
-                Err(ProcessRefused::NothingPending) => Stop::End,
-                Err(ProcessRefused::NoMemory) => Stop::NoMemory,
-            };
-            return Ran { count, stop };
+                Err(stop) => return Ran { count, stop },
+            }
         }
         Ran {
             count: budget,
             stop: Stop::Budget,
         }
+    }
+
+    /// What was taken back since this was last asked, counted.
+    pub fn take_losses(&mut self) -> Losses
+        ensures { self.new ≡ self.old }
+    {
+        self.members.take_losses()
     }
 
     /// Adds spare cells of turns that are of no use any more. They serve for its components' next turns, which then take no memory for it.

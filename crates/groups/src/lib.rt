@@ -3,12 +3,16 @@
 
 mod dropping;
 pub mod group;
+pub mod losses;
 mod members;
 mod passing;
 pub mod running;
 mod seating;
 mod seats;
 mod start;
+pub mod window;
 
 pub use group::Group;
+pub use losses::Losses;
 pub use running::{Ran, Stop};
+pub use window::Window;

@@ -1,5 +1,5 @@
 //! The components of a group.
-ghost use Rattle.std.specs.Prelude.{◌≡◌, ◌<◌, ◌↔◌, ◌++◌, [], true, IfOk, IsErrOf, OnErr, OnOk, length, map};
+ghost use Rattle.std.specs.Prelude.{◌≡◌, ◌<◌, ◌↔◌, ◌++◌, [], true, IfErr, IfOk, IsErrOf, OnErr, OnOk, length, map};
 ghost use Rattle.std.specs.Arc.{arc_value};
 ghost use Rattle.event_keys.specs.Ranks.{rank, rank_of_bound};
 ghost use Rattle.task_seed.specs.declared.setup.Setup.{Setup as SetupValue};
@@ -8,17 +8,24 @@ ghost use Rattle.groups.specs.Crew.{AreSound, MembersView, place_in};
 ghost use Rattle.groups.specs.Dropping.{AreGivenUp, cut_all};
 ghost use Rattle.groups.specs.GroupView.{count_of, group_in, is_member, least_next, start_components};
 ghost use Rattle.groups.specs.Open.{IsDelivered, IsProcessed};
+ghost use Rattle.groups.specs.Windows.{IsHalted, MayGoOn};
 
 use crate::dropping::{drop_all, no_turns};
-use crate::seating::{deliver_placed, has_place, least_bound, process_first, seats_of};
+use crate::losses::Losses;
+use crate::running::Stop;
+use crate::seating::{
+    deliver_placed, first_may_go_on, has_place, least_bound, process_first, seats_of,
+};
 use crate::seats::Seat;
 use crate::start::start_placed;
+use crate::window::Window;
 use antimessage::Bag;
 use event_keys::{Bound, Key, Signed, Turned};
 use raw_events::{EventCell, EventList};
-use rollback::{Component, ProcessRefused};
+use rollback::Component;
 use std::alloc::Global;
 use std::marker::Model;
+use std::mem::replace;
 use std::sync::Arc;
 use task_seed::{Setup, Turns};
 use terms::NoMemory;
@@ -34,6 +41,7 @@ pub(crate) struct Members<T: Turns> {
     seats: Vec<Seat>,
     // Cells of turns that are of no use any more.
     spare: EventList<Turned>,
+    losses: Losses,
 }
 
 impl<T: Turns> Model for Members<T> {
@@ -94,6 +102,7 @@ impl<T: Turns> Members<T> {
             places: placed.places,
             seats,
             spare: EventList::new(),
+            losses: Losses::default(),
         })
     }
 
@@ -129,6 +138,13 @@ impl<T: Turns> Members<T> {
         least_bound(&self.components, &self.seats)
     }
 
+    // Whether a window has room for what is next; where nothing is, it has.
+    pub(crate) fn may_go_on(&self, window: Option<Window>) -> bool
+        ensures { MayGoOn T.turn_of window result self.now.components }
+    {
+        first_may_go_on(&self.components, &self.seats, window)
+    }
+
     // Whether a component is a member.
     pub(crate) fn has(&self, number: u16) -> bool
         ensures { result ≡ is_member self.now.components number }
@@ -136,17 +152,25 @@ impl<T: Turns> Members<T> {
         has_place(&self.components, &self.places, number)
     }
 
-    // The member with the least next key does that entry.
-    pub(crate) fn process(&mut self, alloc: Global, sent: &mut Bag) -> Result<Key, ProcessRefused>
+    // The member with the least next key does that entry, where the window has room for it.
+    pub(crate) fn process(
+        &mut self,
+        window: Option<Window>,
+        alloc: Global,
+        sent: &mut Bag,
+    ) -> Result<Key, Stop>
         ensures key { IfOk result (λ key. rank key
             ≡ least_next T.turn_of self.old.setup self.old.components) }
-        ensures done { OnOk result (IsProcessed T.turn_of self.old self.new sent.old sent.new) }
-        ensures nothing { IsErrOf result ProcessRefused.NothingPending
+        ensures done { OnOk result
+            (IsProcessed T.turn_of window self.old self.new sent.old sent.new) }
+        ensures stop { IfErr result
+            (λ stop. IsHalted T.turn_of window stop self.old.components) }
+        ensures nothing { IsErrOf result Stop.End
             ↔ (least_next T.turn_of self.old.setup self.old.components
             ≡ (machine_of T.turn_of self.old.setup).top) }
         ensures kept { OnErr result ((self.new ≡ self.old) × (sent.new ≡ sent.old)) }
     {
-        process_first(&mut self.components, &mut self.seats, alloc, sent)
+        process_first(&mut self.components, &mut self.seats, window, alloc, sent)
     }
 
     // A message or an antimessage comes to its receiver, a member. The answer is the number of the entries that were taken back.
@@ -155,13 +179,23 @@ impl<T: Turns> Members<T> {
         ensures came { IsDelivered T.turn_of cell result self.old self.new sent.old sent.new }
         ensures quiet { result ≡ 0 → sent.new ≡ sent.old }
     {
-        deliver_placed(
+        let sign = cell.value().sign;
+        let taken_back = deliver_placed(
             &mut self.components,
             &self.places,
             &mut self.seats,
             cell,
             sent,
-        )
+        );
+        self.losses.note(taken_back, sign);
+        taken_back
+    }
+
+    // What was taken back since this was last asked, counted.
+    pub(crate) fn take_losses(&mut self) -> Losses
+        ensures { self.new ≡ self.old }
+    {
+        replace(&mut self.losses, Losses::default())
     }
 
     // Adds spare cells of turns.

@@ -7,8 +7,10 @@ pub enum Stop {
     Budget,
     /// Nothing is next.
     End,
-    /// Something is next, and memory was refused.
+    /// Something is next, the window has room for it, and memory was refused.
     NoMemory,
+    /// An own turn is next, and as many are done as the window has.
+    NoRoom,
 }
 
 /// How far a group ran ahead.

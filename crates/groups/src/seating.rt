@@ -1,14 +1,17 @@
 //! Components with their seats in a tournament.
-ghost use Rattle.std.specs.Prelude.{◌≡◌, ◌<◌, Some, None, IfOk, IfSome, IsErrOf, OnOk, OnErr, true, length, slice_get};
+ghost use Rattle.std.specs.Prelude.{◌≡◌, ◌<◌, Some, None, IfErr, IfOk, IfSome, OnOk, OnErr, true, length, slice_get};
 ghost use Rattle.event_keys.specs.Ranks.{rank_of_bound};
 ghost use Rattle.task_seed.specs.declared.setup.Setup.{Setup as SetupValue};
 ghost use Rattle.rollback.specs.ComponentView.{ComponentView};
-ghost use Rattle.rollback.specs.Stepped.{HasNextKey, taken_back};
+ghost use Rattle.rollback.specs.Stepped.{HasNextKey, next_entry, taken_back};
 ghost use Rattle.groups.specs.Crew.{ArePlaced, AreSeated, AreSeatedBut, AreSeatedTo, IsSeatOf, place_in};
-ghost use Rattle.groups.specs.Open.{HasCome, HasFirst, IsComeTo, IsFirst, IsFirstDone, IsSteppedAt, NothingIsNext, OfComponent};
+ghost use Rattle.groups.specs.Open.{HasCome, IsComeTo, IsFirstDone, IsSteppedAt, OfComponent};
+ghost use Rattle.groups.specs.Windows.{IsFirst, IsHalted, MayGoOn, NothingIsNext, lets_through};
 ghost use Rattle.groups.specs.GroupView.{is_member, least_next};
 
+use crate::running::Stop;
 use crate::seats::{Seat, empty, has_next, put, seat_at};
+use crate::window::Window;
 use antimessage::Bag;
 use antimessage::laws::order_law;
 use event_keys::{Bound, Key, Signed};
@@ -116,29 +119,57 @@ pub(crate) fn deliver_at<T: Turns>(
     count
 }
 
-/// The component that is next first does that entry.
+// Whether a window has room for the next entry of the component at a place; where there is no window there always is room.
+fn may_go_on<T: Turns>(components: &[Component<T>], place: usize, window: Option<Window>) -> bool
+    requires { place < length components.now }
+    ensures { OfComponent place components.now (λ c. result
+        ≡ lets_through window c.history.done (next_entry T.turn_of c)) }
+{
+    match window {
+        None => true,
+        Some(window) => components[place].has_room(window.turns),
+    }
+}
+
+/// Whether a window has room for what is next; where nothing is, it has.
+pub(crate) fn first_may_go_on<T: Turns>(
+    components: &[Component<T>],
+    seats: &[Seat],
+    window: Option<Window>,
+) -> bool
+    requires seated { AreSeated T.turn_of components.now seats.now }
+    ensures { MayGoOn T.turn_of window result components.now }
+{
+    match first_place(components, seats) {
+        None => true,
+        Some(place) => may_go_on(components, place, window),
+    }
+}
+
+/// The component that is next first does that entry, where the window has room for it.
 pub(crate) fn process_first<T: Turns>(
     components: &mut [Component<T>],
     seats: &mut [Seat],
+    window: Option<Window>,
     alloc: Global,
     sent: &mut Bag,
-) -> Result<Key, ProcessRefused>
+) -> Result<Key, Stop>
     requires few { length components.old < 65536 }
     requires seated { AreSeated T.turn_of components.old seats.old }
-    ensures done { IfOk result (λ key. IsFirstDone T.turn_of key components.old sent.old
+    ensures done { IfOk result (λ key. IsFirstDone T.turn_of window key components.old sent.old
         components.new sent.new) }
-    ensures nothing { IsErrOf result ProcessRefused.NothingPending
-        → NothingIsNext T.turn_of components.old }
-    ensures something { (IsErrOf result ProcessRefused.NothingPending → ⊥)
-        → HasFirst T.turn_of components.old }
+    ensures stop { IfErr result (λ stop. IsHalted T.turn_of window stop components.old) }
     ensures seated { AreSeated T.turn_of components.new seats.new }
     ensures kept { OnErr result ((components.new ≡ components.old) × (sent.new ≡ sent.old)) }
 {
     let Some(place) = first_place(components, seats) else {
-        return Err(ProcessRefused::NothingPending);
+        return Err(Stop::End);
     };
+    if !may_go_on(components, place, window) {
+        return Err(Stop::NoRoom);
+    }
     let Ok(key) = process_at(components, alloc, place, sent) else {
-        return Err(ProcessRefused::NoMemory);
+        return Err(Stop::NoMemory);
     };
     seat_anew(components, seats, place);
     Ok(key)

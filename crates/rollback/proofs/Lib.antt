@@ -22,3 +22,4 @@ pub mod Lowest
 mod Leaving
 mod Even
 mod Numbered
+mod Resent

@@ -13,6 +13,7 @@ mod matching;
 pub mod refused;
 mod room;
 mod same;
+mod sent;
 mod spares;
 
 pub use component::Component;

@@ -2,7 +2,7 @@ use Rattle.std.proofs.Common.{◌≡◌, ◌<◌, ◌≤◌, ◌^◌, ◌∙◌,
 use Rattle.std.specs.Prelude.{slice_get, length}
 use Rattle.std.proofs.lemmas.Bool.{ltb-false, ltb-true}
 use Rattle.std.proofs.lemmas.Option.{slice_get_read}
-use Rattle.groups.specs.Open.{IsFirst}
+use Rattle.groups.specs.Windows.{IsFirst}
 use Rattle.groups.specs.Tournament.{key_at}
 use Rattle.groups.proofs.Seated.{first_of, none_of}
 use Rattle.groups.proofs.seating.first_place.Goals as goal

@@ -13,4 +13,4 @@ returns-clause-core g c leases =
     let own = c.args.self.now in
     let m = machine_of t own.setup in
     let law : Lawful m = subst (λ p. Lawful (machine_of t p)) c.setup.ensures c.machine_is_lawful.ensures.lawful in
-    commit_leads m law (group_at own.groups) (c.exchange_is_core.ensures.world m) (c.group_exchange_is_core.ensures.commit m (group_at own.groups)) (length (composition (plan_of own.setup))) (exchange_of m own) (exchange_of m c.raise_bound.new.self) c.soundness_law.ensures.sound c.raise_bound.ensures.commit leases
+    commit_leads m law (group_at own.groups) (c.exchange_is_core.ensures.world m) (c.group_exchange_is_core.ensures.commit m (group_at own.groups)) (length (composition (plan_of own.setup))) (exchange_of m own) (exchange_of m c.raise_bound-count.new.self) c.soundness_law.ensures.sound c.raise_bound-count.ensures.commit leases

@@ -1,4 +1,4 @@
-use Rattle.std.proofs.Common.{◌≡◌, ◌<◌, ◌+◌, ℕ, map, length, sym, ap, subst, ◌∙◌, arith}
+use Rattle.std.proofs.Common.{◌≡◌, ◌<◌, ◌+◌, ℕ, map, length, refl, sym, ap, subst, ◌∙◌, arith}
 use Rattle.std.specs.Arc.{arc_value}
 use Rattle.std.specs.Vec.{with_items}
 use Rattle.std.proofs.lemmas.List.{length-map, with_items_is}
@@ -15,6 +15,8 @@ use Rattle.gvt.specs.Least.{IsLeast}
 use Rattle.group_exchange.specs.ExchangeView.{ExchangeView, IsValidExchange, exchange_of, group_at}
 use Rattle.group_exchange.specs.Chunks.{base_of, first_from, IsGiven}
 use Rattle.group_exchange.specs.Held.{AreInOrder, put_all, all_below, all_from}
+use Rattle.group_exchange.specs.Windows.{HasWindow}
+use Rattle.group_exchange.proofs.Windowed.{chunk_within}
 use Rattle.group_exchange.proofs.Chunking.{after, chunk, kept, few, taken_in_order}
 use Rattle.group_exchange.proofs.exchange.Exchange.give.Goals as goal
 
@@ -24,7 +26,7 @@ take_all_below-taken-requires-clause-order g c =
     let f = c.self.inside in
     let p = arc_value f.setup in
     let s = system t p in
-    let e : ExchangeView _ = record { setup = p; groups = f.groups.items; stubs = f.stubs.items; passages = f.passages.items; bound = f.bound; held = f.held.items; given = f.given } in
+    let e : ExchangeView _ = record { setup = p; groups = f.groups.items; stubs = f.stubs.items; passages = f.passages.items; bound = f.bound; held = f.held.items; given = f.given; window = f.window } in
     let is = c.self.invariant.1 in
     subst AreInOrder (sym c.deref_mut.ensures.value) is.order
 
@@ -36,7 +38,7 @@ take_all_below-taken-requires-clause-falls g c =
     let s = system t p in
     let bound = c.least_base-bound.result in
     let b = rank_of_bound bound in
-    let e : ExchangeView _ = record { setup = p; groups = f.groups.items; stubs = f.stubs.items; passages = f.passages.items; bound = f.bound; held = f.held.items; given = f.given } in
+    let e : ExchangeView _ = record { setup = p; groups = f.groups.items; stubs = f.stubs.items; passages = f.passages.items; bound = f.bound; held = f.held.items; given = f.given; window = f.window } in
     let is = c.self.invariant.1 in
     let least : IsLeast (map base_of f.stubs.items) bound = subst (λ l. IsLeast (map base_of l) bound) c.deref-3.ensures.value c.least_base-bound.ensures in
     let end = c.is_bounded.ensures in
@@ -50,7 +52,7 @@ take_all_below-taken-requires-clause-few g c =
     let s = system t p in
     let bound = c.least_base-bound.result in
     let b = rank_of_bound bound in
-    let e : ExchangeView _ = record { setup = p; groups = f.groups.items; stubs = f.stubs.items; passages = f.passages.items; bound = f.bound; held = f.held.items; given = f.given } in
+    let e : ExchangeView _ = record { setup = p; groups = f.groups.items; stubs = f.stubs.items; passages = f.passages.items; bound = f.bound; held = f.held.items; given = f.given; window = f.window } in
     let is = c.self.invariant.1 in
     let law : Lawful (machine s) = subst (λ x. Lawful (machine (system t x))) c.deref.ensures c.machine_is_lawful.ensures.lawful in
     let counted : HasCount (machine s) (length s.composition) = subst (λ x. HasCount (machine (system t x)) (length (composition (plan_of x)))) c.deref.ensures c.machine_is_lawful.ensures.counted in
@@ -70,7 +72,7 @@ overflow_add-self g c =
     let s = system t p in
     let bound = c.least_base-bound.result in
     let b = rank_of_bound bound in
-    let e : ExchangeView _ = record { setup = p; groups = f.groups.items; stubs = f.stubs.items; passages = f.passages.items; bound = f.bound; held = f.held.items; given = f.given } in
+    let e : ExchangeView _ = record { setup = p; groups = f.groups.items; stubs = f.stubs.items; passages = f.passages.items; bound = f.bound; held = f.held.items; given = f.given; window = f.window } in
     let is = c.self.invariant.1 in
     let law : Lawful (machine s) = subst (λ x. Lawful (machine (system t x))) c.deref.ensures c.machine_is_lawful.ensures.lawful in
     let counted : HasCount (machine s) (length s.composition) = subst (λ x. HasCount (machine (system t x)) (length (composition (plan_of x)))) c.deref.ensures c.machine_is_lawful.ensures.counted in
@@ -90,7 +92,7 @@ invariant_of-self g c =
     let s = system t p in
     let bound = c.least_base-bound.result in
     let b = rank_of_bound bound in
-    let e : ExchangeView _ = record { setup = p; groups = f.groups.items; stubs = f.stubs.items; passages = f.passages.items; bound = f.bound; held = f.held.items; given = f.given } in
+    let e : ExchangeView _ = record { setup = p; groups = f.groups.items; stubs = f.stubs.items; passages = f.passages.items; bound = f.bound; held = f.held.items; given = f.given; window = f.window } in
     let is = c.self.invariant.1 in
     let law : Lawful (machine s) = subst (λ x. Lawful (machine (system t x))) c.deref.ensures c.machine_is_lawful.ensures.lawful in
     let counted : HasCount (machine s) (length s.composition) = subst (λ x. HasCount (machine (system t x)) (length (composition (plan_of x)))) c.deref.ensures c.machine_is_lawful.ensures.counted in
@@ -104,6 +106,9 @@ invariant_of-self g c =
       c.self.invariant.0,
       subst (λ l. IsValidExchange s (record e { held = l; given = f.given + c.take_all_below-taken.result.count })) (sym items)
           (subst (λ n. IsValidExchange s (record e { held = all_from b f.held.items; given = f.given + n })) (sym count) made),
+      subst (λ l. HasWindow (machine s) (length s.composition) (record e { held = l; given = f.given + c.take_all_below-taken.result.count })) (sym items)
+          (subst (λ n. HasWindow (machine s) (length s.composition) (record e { held = all_from b f.held.items; given = f.given + n })) (sym count)
+          (chunk_within (machine s) (length s.composition) b (put_all (all_below b f.held.items)) e (after s e is bound least end) (c.group_window_law.ensures.chunk (machine s) (group_at f.groups.items)) refl refl (chunk s e is bound least end) c.self.invariant.2)),
     )
 
 pub returns-clause-chunk : goal.returns-clause-chunk
@@ -114,7 +119,7 @@ returns-clause-chunk g c =
     let s = system t p in
     let bound = c.least_base-bound.result in
     let b = rank_of_bound bound in
-    let e : ExchangeView _ = record { setup = p; groups = f.groups.items; stubs = f.stubs.items; passages = f.passages.items; bound = f.bound; held = f.held.items; given = f.given } in
+    let e : ExchangeView _ = record { setup = p; groups = f.groups.items; stubs = f.stubs.items; passages = f.passages.items; bound = f.bound; held = f.held.items; given = f.given; window = f.window } in
     let is = c.self.invariant.1 in
     let law : Lawful (machine s) = subst (λ x. Lawful (machine (system t x))) c.deref.ensures c.machine_is_lawful.ensures.lawful in
     let counted : HasCount (machine s) (length s.composition) = subst (λ x. HasCount (machine (system t x)) (length (composition (plan_of x)))) c.deref.ensures c.machine_is_lawful.ensures.counted in

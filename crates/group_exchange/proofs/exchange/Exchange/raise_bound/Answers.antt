@@ -1,4 +1,4 @@
-use Rattle.std.proofs.Common.{◌≡◌, ℕ, map, length, sym, ap, subst, ◌∙◌}
+use Rattle.std.proofs.Common.{◌≡◌, ℕ, map, length, refl, sym, ap, subst, ◌∙◌}
 use Rattle.std.specs.Prelude.{slice_get, option_map, Some}
 use Rattle.std.specs.Arc.{arc_value}
 use Rattle.std.specs.Vec.{with_items}
@@ -12,6 +12,8 @@ use Rattle.rollback.specs.ComponentView.{machine_of}
 use Rattle.gvt.specs.Least.{IsLeast}
 use Rattle.group_exchange.specs.declared.passage.Passage.{Passage}
 use Rattle.group_exchange.specs.ExchangeView.{ExchangeView, IsValidExchange, IsPassing, exchange_of, group_at, clear_until, passing}
+use Rattle.group_exchange.specs.Windows.{HasWindow}
+use Rattle.group_exchange.proofs.Windowed.{commit_within}
 use Rattle.group_exchange.proofs.Raising.{committed, kept, passing_before}
 use Rattle.group_exchange.proofs.exchange.Exchange.raise_bound.Goals as goal
 
@@ -20,7 +22,7 @@ pass_all-count-requires-clause-passing g c = λ _ _.
     let t = g.T.Turns.turn_of in
     let f = c.self.inside in
     let s = system t (arc_value f.setup) in
-    let e : ExchangeView _ = record { setup = arc_value f.setup; groups = f.groups.items; stubs = f.stubs.items; passages = f.passages.items; bound = f.bound; held = f.held.items; given = f.given } in
+    let e : ExchangeView _ = record { setup = arc_value f.setup; groups = f.groups.items; stubs = f.stubs.items; passages = f.passages.items; bound = f.bound; held = f.held.items; given = f.given; window = f.window } in
     let law : Lawful (machine s) = subst (λ p. Lawful (machine (system t p))) c.deref.ensures c.machine_is_lawful.ensures.lawful in
     let least : IsLeast (map clear_until f.stubs.items) c.least_clear-bound.result = subst (λ l. IsLeast (map clear_until l) c.least_clear-bound.result) c.deref-2.ensures.value c.least_clear-bound.ensures in
     let all = passing_before s e c.self.invariant.1 c.least_clear-bound.result least c.is_bounded.ensures c.least_law.ensures.low c.least_law.ensures.most (λ i n. c.reference_is_counted.ensures.before (machine s) (rank_of_bound f.bound) i n law) in
@@ -33,7 +35,7 @@ invariant_of-self g c =
     let f = c.self.inside in
     let s = system t (arc_value f.setup) in
     let bound = c.least_clear-bound.result in
-    let e : ExchangeView _ = record { setup = arc_value f.setup; groups = f.groups.items; stubs = f.stubs.items; passages = f.passages.items; bound = f.bound; held = f.held.items; given = f.given } in
+    let e : ExchangeView _ = record { setup = arc_value f.setup; groups = f.groups.items; stubs = f.stubs.items; passages = f.passages.items; bound = f.bound; held = f.held.items; given = f.given; window = f.window } in
     let law : Lawful (machine s) = subst (λ p. Lawful (machine (system t p))) c.deref.ensures c.machine_is_lawful.ensures.lawful in
     let least : IsLeast (map clear_until f.stubs.items) bound = subst (λ l. IsLeast (map clear_until l) bound) c.deref-2.ensures.value c.least_clear-bound.ensures in
     let all = c.pass_all-count in
@@ -50,6 +52,8 @@ invariant_of-self g c =
     = ap length (with_items_is f.walks all.new.walks (all.ensures.items ∙ c.deref_mut-2.ensures.len)) ∙ all.ensures.items ∙ ap length c.deref_mut-2.ensures.value ∙ c.self.invariant.0 in (
       walks,
       subst (λ l. IsValidExchange s (record e { bound = bound; passages = l })) (sym items) (kept s e c.self.invariant.1 bound least c.is_bounded.ensures c.least_law.ensures.low c.least_law.ensures.most all.new.passages passed sound many passing_all),
+      subst (λ l. HasWindow (machine s) (length s.composition) (record e { bound = bound; passages = l })) (sym items)
+          (commit_within (machine s) (length s.composition) e (record e { bound = bound; passages = all.new.passages }) (c.group_window_law.ensures.commit (machine s) (group_at f.groups.items)) refl refl (committed s e c.self.invariant.1 bound least c.is_bounded.ensures c.least_law.ensures.low c.least_law.ensures.most all.new.passages passed) c.self.invariant.2),
     )
 
 pub returns-clause-commit : goal.returns-clause-commit
@@ -58,7 +62,7 @@ returns-clause-commit g c =
     let f = c.self.inside in
     let s = system t (arc_value f.setup) in
     let bound = c.least_clear-bound.result in
-    let e : ExchangeView _ = record { setup = arc_value f.setup; groups = f.groups.items; stubs = f.stubs.items; passages = f.passages.items; bound = f.bound; held = f.held.items; given = f.given } in
+    let e : ExchangeView _ = record { setup = arc_value f.setup; groups = f.groups.items; stubs = f.stubs.items; passages = f.passages.items; bound = f.bound; held = f.held.items; given = f.given; window = f.window } in
     let law : Lawful (machine s) = subst (λ p. Lawful (machine (system t p))) c.deref.ensures c.machine_is_lawful.ensures.lawful in
     let least : IsLeast (map clear_until f.stubs.items) bound = subst (λ l. IsLeast (map clear_until l) bound) c.deref-2.ensures.value c.least_clear-bound.ensures in
     let all = c.pass_all-count in

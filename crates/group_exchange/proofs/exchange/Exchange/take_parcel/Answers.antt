@@ -14,5 +14,5 @@ returns-clause-core g c leases =
     let own = c.args.self.now in
     let m = machine_of t own.setup in
     let law : Lawful m = subst (λ p. Lawful (machine_of t p)) c.setup.ensures c.machine_is_lawful.ensures.lawful in
-    let chunk = c.give_apart.ensures.chunk in
-    chunk_leads m law (group_at own.groups) (length (composition (plan_of own.setup))) chunk.0 (exchange_of m own) (exchange_of m c.give_apart.new.self) (put_all c.give_apart.new.parcel) chunk.1 leases
+    let chunk = c.give_apart-first.ensures.chunk in
+    chunk_leads m law (group_at own.groups) (length (composition (plan_of own.setup))) chunk.0 (exchange_of m own) (exchange_of m c.give_apart-first.new.self) (put_all c.give_apart-first.new.parcel) chunk.1 leases

@@ -12,7 +12,7 @@ pub returns : goal.returns
 returns g c =
     let t = g.T.Turns.turn_of in
     let f = c.self.inside in
-    let own : GroupView _ = record { number = f.number; setup = f.members.setup; base = f.members.base; components = f.members.components; floor = f.floor; tray = f.tray; out = f.out } in
+    let own : GroupView _ = record { number = f.number; setup = f.members.setup; base = f.members.base; components = f.members.components; floor = f.floor; tray = f.tray; out = f.out; window = f.window } in
     let b = rank_of_bound c.lesser.result in
     let law : Lawful (machine_of t f.members.setup) = subst (λ p. Lawful (machine_of t p)) c.setup.ensures c.machine_is_lawful.ensures.lawful in
     subst (λ (v : GroupView _). (group : ℕ → ℕ) → AreMembers group v.number v.components → IsFloor (theory t v) group v.number b (lease_of (theory t v) v).part) c.self.view_is

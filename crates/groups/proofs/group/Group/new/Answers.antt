@@ -1,4 +1,4 @@
-use Rattle.std.proofs.Common.{◌≡◌, ◌<◌, rules, refl, sym, subst, ap, ◌∙◌}
+use Rattle.std.proofs.Common.{◌≡◌, ◌<◌, None, rules, refl, sym, subst, ap, ◌∙◌}
 use Rattle.std.specs.Arc.{arc_value}
 use Rattle.virtual_time.specs.Machine.{Lawful}
 use Rattle.virtual_time.specs.Groups.Leases.{start_lease}
@@ -24,5 +24,5 @@ returns-clause-lease g c =
     let law : Lawful (machine_of t setup) = subst (λ p. Lawful (machine_of t p)) c.deref.ensures c.machine_is_lawful.ensures.lawful in
     let is = c.in_ok-members.ensures in
     let floor = c.next-floor.ensures ∙ ap (λ (v : MembersView _). least_next t v.setup v.components) is in
-    subst (λ (v : MembersView _). lease_of (machine_of t v.setup) (record { number = number; setup = v.setup; base = v.base; components = v.components; floor = c.next-floor.result; tray = c.new-2.result; out = c.new-3.result }) ≡ start_lease (machine_of t setup) group (count_of setup) number) (sym is)
-    (lease_start t setup group number law (count_of setup) (record { number = number; setup = setup; base = lowest_bound; components = start_components t setup group (count_of setup) number; floor = c.next-floor.result; tray = c.new-2.result; out = c.new-3.result }) refl refl c.new-2.ensures c.new-3.ensures floor)
+    subst (λ (v : MembersView _). lease_of (machine_of t v.setup) (record { number = number; setup = v.setup; base = v.base; components = v.components; floor = c.next-floor.result; tray = c.new-2.result; out = c.new-3.result; window = None }) ≡ start_lease (machine_of t setup) group (count_of setup) number) (sym is)
+    (lease_start t setup group number law (count_of setup) (record { number = number; setup = setup; base = lowest_bound; components = start_components t setup group (count_of setup) number; floor = c.next-floor.result; tray = c.new-2.result; out = c.new-3.result; window = None }) refl refl c.new-2.ensures c.new-3.ensures floor)

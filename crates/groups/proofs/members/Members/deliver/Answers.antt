@@ -11,7 +11,7 @@ pub invariant_of-self : goal.invariant_of-self
 invariant_of-self g c =
     let t = g.T.Turns.turn_of in
     let f = c.self.inside in
-    let p = c.deliver_placed in
+    let p = c.deliver_placed-taken_back in
     let xs = p.new.components in
     let ss = p.new.seats in
     let came = subst (λ ys. HasCome t c.args.cell p.result ys c.args.sent.now xs p.new.sent) c.deref_mut.ensures.value p.ensures.came in
@@ -25,7 +25,7 @@ pub returns-clause-came : goal.returns-clause-came
 returns-clause-came g c =
     let t = g.T.Turns.turn_of in
     let f = c.self.inside in
-    let p = c.deliver_placed in
+    let p = c.deliver_placed-taken_back in
     let xs = p.new.components in
     let came = subst (λ ys. HasCome t c.args.cell p.result ys c.args.sent.now xs p.new.sent) c.deref_mut.ensures.value p.ensures.came in
     let items : (with_items f.components xs).items ≡ xs = with_items_is f.components xs (p.auto.components ∙ c.deref_mut.ensures.len) in

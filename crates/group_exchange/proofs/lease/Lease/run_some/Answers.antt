@@ -6,8 +6,11 @@ use Rattle.rollback.specs.ComponentView.{machine_of}
 use Rattle.groups.specs.GroupView.{GroupView}
 use Rattle.group_exchange.specs.LeaseView.{IsValidLease, KeepsMembers}
 use Rattle.group_exchange.specs.Seen.{MovesAlone, StaysTheSame}
+use Rattle.groups.proofs.Placed.{members_same}
+use Rattle.group_exchange.specs.Windows.{KeepsToWindow}
+use Rattle.group_exchange.proofs.Windowed.{ahead_end, moved_within}
 use Rattle.group_exchange.proofs.Leased.{ahead_keeps, known, members_kept, moved, valid_on}
-use Rattle.group_exchange.proofs.lease.Lease.run_ahead.Goals as goal
+use Rattle.group_exchange.proofs.lease.Lease.run_some.Goals as goal
 
 pub invariant_of-self : goal.invariant_of-self
 invariant_of-self g c =
@@ -20,7 +23,15 @@ invariant_of-self g c =
     let counted : HasCount m n = subst (λ p. HasCount (machine_of t p) (length (composition (plan_of p)))) c.setup.ensures c.machine_is_lawful.ensures.counted in
     let k = ahead_keeps t old new c.run_ahead-ran.result.count c.run_ahead-ran.ensures.ahead in
     let valid = valid_on t old new k c.soundness_law.ensures.tray c.soundness_law-2.ensures.tray c.soundness_law-2.ensures.out (c.run_ahead-ran.ensures.moves) law (c.group_lease_law.ensures.is m) n counted (λ group. c.group_exchange_is_sound.ensures.alone m group) c.self.invariant.0 in
-    (subst (λ p. IsValidLease (machine_of t p) (length (composition (plan_of p))) new) (sym k.setup) valid, tt)
+    let after = c.soundness_law-2.ensures.members in
+    let within = moved_within m law (λ group. c.group_window_law.ensures.start m group) (λ group. c.group_window_law.ensures.settled m group) n old new c.run_ahead-ran.ensures.window k.number (members_same old.components new.components k.same) after.place after.apart
+    valid.lease
+    (λ group mine. known t old new k c.soundness_law.ensures.tray c.soundness_law-2.ensures.tray c.soundness_law-2.ensures.out (c.run_ahead-ran.ensures.moves) law (c.group_lease_law.ensures.is m) group mine n c.self.invariant.0 (c.group_exchange_is_sound.ensures.alone m group))
+    (ahead_end t old new c.run_ahead-ran.result.count c.run_ahead-ran.ensures.ahead) c.self.invariant.2 in (
+      subst (λ p. IsValidLease (machine_of t p) (length (composition (plan_of p))) new) (sym k.setup) valid,
+      tt,
+      subst (λ p. KeepsToWindow (machine_of t p) (length (composition (plan_of p))) new) (sym k.setup) within,
+    )
 
 pub returns-clause-moves : goal.returns-clause-moves
 returns-clause-moves g c =
