@@ -1,21 +1,17 @@
-//! What steers the workers: which lease is next and how far it runs, when the bound is raised, and when a worker keeps out of the others' way. No
-//! promise rests on it. And the counts of what workers did.
+//! What steers the workers: how far a group runs ahead, when its worker visits the exchange, when the bound is raised, and how a worker waits. No promise
+//! rests on it. And the counts of what workers did.
 #![tactic(auto)]
 
-pub mod away;
 pub mod nap;
-pub mod pace;
-pub mod patience;
-pub mod places;
 mod policy;
+pub mod raises;
 pub mod ready;
-pub mod rounds;
+pub mod signals;
 pub mod stats;
+pub mod vigil;
 
-pub use away::Away;
-pub use pace::Pace;
-pub use patience::Patience;
-pub use places::{Least, Places};
+pub use raises::Raises;
 pub use ready::Ready;
-pub use rounds::Rounds;
+pub use signals::Signals;
 pub use stats::Stats;
+pub use vigil::Vigil;

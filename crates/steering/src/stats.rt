@@ -5,6 +5,12 @@
 pub struct Stats {
     /// How many turns there were, written or not.
     pub turns: u64,
+    /// In how many groups the components were, each with a worker of its own.
+    pub groups: u64,
+    /// How many pairs of components there are of which the first can send to the second, as far as they were looked for: for one group none is.
+    pub pairs: u64,
+    /// How many of these are in two groups.
+    pub cut: u64,
     /// How many entries were processed: turns, idle ones too, and received messages.
     pub processed: u64,
     /// How many of these weren't taken back.
@@ -15,13 +21,15 @@ pub struct Stats {
     pub roll_backs: u64,
     /// How many of these times it was a message, which came too late.
     pub stragglers: u64,
-    /// How many messages were sent, one for each receiver.
-    pub messages: u64,
-    /// How many antimessages were.
+    /// How many messages were received within their group and not taken back.
+    pub inside: u64,
+    /// How many messages went to other groups, one for each receiver.
+    pub across: u64,
+    /// How many antimessages did.
     pub antimessages: u64,
     /// How many antimessages met their message before the receiver had either.
     pub annihilated: u64,
-    /// How many times a worker took a lease.
+    /// How many times a worker took the exchange.
     pub visits: u64,
     /// How many times a lease met the exchange.
     pub meetings: u64,
@@ -29,6 +37,8 @@ pub struct Stats {
     pub commits: u64,
     /// How many chunks the calling thread took.
     pub chunks: u64,
+    /// How many ticks a group was let run ahead of all others at most.
+    pub leash: u64,
     /// How many microseconds workers slept at least, until each had the exchange for the last time.
     pub waited: u64,
 }

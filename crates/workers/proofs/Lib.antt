@@ -1,10 +1,10 @@
 mod Crossing
 mod Ended
-mod Fronted
-mod Growing
-mod Known
+pub mod Fronted
+mod Gathered
+pub mod Growing
+mod Held
 mod Portioned
-mod Settled
-mod Started
-mod Written
 mod Putting
+mod Sending
+pub mod Written

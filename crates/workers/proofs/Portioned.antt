@@ -2,23 +2,22 @@
 use Rattle.std.proofs.Common.{◌≡◌, ◌+◌, ◌≤◌, List, [], length, ap, sym, subst₂, ◌∙◌, ℕ, arith}
 use Rattle.std.specs.List.{list_all}
 use Rattle.terms.specs.Named.{Named}
-use Rattle.virtual_time.specs.Exchange.Meetings.{IsChunk}
+use Rattle.virtual_time.specs.Groups.Meetings.{IsChunk}
 use Rattle.virtual_time.specs.Reference.{Turn}
 use Rattle.task_seed.specs.Machines.{machine, end_rank}
 use Rattle.task_seed.specs.Turning.{System}
 use Rattle.task_seed.specs.Taken.{turns_of}
-use Rattle.exchange.specs.Chunks.{IsGiven}
-use Rattle.exchange.specs.ExchangeView.{ExchangeView, IsValidExchange, exchange_of, is_ended}
-use Rattle.workers.specs.declared.writing.Cut.{Cut}
-use Rattle.workers.specs.declared.writing.Portion.{Portion}
+use Rattle.group_exchange.specs.Chunks.{IsGiven}
+use Rattle.group_exchange.specs.ExchangeView.{ExchangeView, IsValidExchange, exchange_of, group_at, is_ended}
+use Rattle.workers.specs.declared.portions.Cut.{Cut}
+use Rattle.workers.specs.declared.portions.Portion.{Portion}
 use Rattle.workers.specs.Portions.{IsCutOf, IsPortion}
 use Rattle.workers.proofs.Ended.{all_ended}
 use Rattle.workers.proofs.Growing.{length_turns}
 
 pub cut_off : {P : Type 0} (s : System) (e new : ExchangeView P) → IsValidExchange s e → (cut : Cut) (turns : List (Turn Named)) → cut.first ≡ e.given → cut.given ≡ new.given → cut.is_last ≡ list_all is_ended e.stubs
-    → (b : ℕ) → IsChunk (machine s) (length s.composition) (exchange_of (machine s) e) b (exchange_of (machine s) new) turns → IsGiven (machine s) cut.first b turns → IsCutOf s cut turns
+    → (b : ℕ) → IsChunk (machine s) (group_at e.groups) (length s.composition) (exchange_of (machine s) e) b (exchange_of (machine s) new) turns → IsGiven (machine s) cut.first b turns → IsCutOf s cut turns
 cut_off s e new shared cut turns first given last b chunk next =
-    let many = shared.many in
     let grew : new.given ≡ e.given + length turns = ap (λ x. x.given) chunk.rest in
     let low : b ≤ end_rank = chunk.end in
     record {
@@ -27,7 +26,7 @@ cut_off s e new shared cut turns first given last b chunk next =
       next = next;
       count = omega (arith, given, grew, first);
       last = λ yes.
-          let high = chunk.most end_rank (omega arith) (λ j under. all_ended s e.stubs (sym last ∙ yes) j (omega (arith, under, many))) in
+          let high = chunk.most end_rank (omega arith) (λ j under. all_ended s e.stubs e.groups (length s.composition) shared.partition (sym last ∙ yes) j under) in
           omega (arith, high, low);
     }
 

@@ -11,7 +11,7 @@ use Rattle.task_seed.specs.Turning.{System}
 use Rattle.task_seed.specs.Taken.{turns_of}
 use Rattle.schedules.specs.Schedules.{AreAllTurns, AreSchedule, HasSchedulesBelow, KeysFit}
 use Rattle.schedules.proofs.Told.{AreFollowed, fit_joined, followed, turns_joined}
-use Rattle.exchange.specs.Chunks.{IsGiven}
+use Rattle.group_exchange.specs.Chunks.{IsGiven}
 use Rattle.trace.specs.declared.counted.Counted.{Counted}
 use Rattle.trace.specs.declared.fault.WriteFault.{WriteFault}
 use Rattle.trace.specs.declared.lines.Lines.{Lines}
@@ -21,7 +21,7 @@ use Rattle.trace.specs.Puts.{Puts, Stops}
 use Rattle.trace.specs.Went.{IsWritten}
 use Rattle.workers.specs.declared.fault.WorkFault.{WorkFault}
 use Rattle.workers.specs.declared.fault.WorkFault.TheVariants.{NoMemory, Meeting, ThreadRefused}
-use Rattle.workers.specs.declared.writing.Portion.{Portion}
+use Rattle.workers.specs.declared.portions.Portion.{Portion}
 use Rattle.workers.specs.Portions.{IsPortion, IsStoppedIn}
 use Rattle.workers.specs.Refusals.{run_fault}
 use Rattle.workers.specs.Runs.{IsBegun, IsCut, IsUnfinished, IsWhole}

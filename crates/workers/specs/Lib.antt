@@ -3,4 +3,3 @@ pub mod Gates
 pub mod Portions
 pub mod Refusals
 pub mod Runs
-pub mod Leases

@@ -8,14 +8,14 @@ use Rattle.task_seed.specs.Machines.{machine, end_rank}
 use Rattle.task_seed.specs.Turning.{System}
 use Rattle.task_seed.specs.Taken.{turns_of}
 use Rattle.schedules.specs.Schedules.{KeysFit}
-use Rattle.exchange.specs.Chunks.{IsGiven}
+use Rattle.group_exchange.specs.Chunks.{IsGiven}
 use Rattle.trace.specs.declared.counted.Counted.{Counted}
 use Rattle.trace.specs.declared.fault.WriteFault.{WriteFault}
 use Rattle.trace.specs.declared.lines.Lines.{Lines}
 use Rattle.trace.specs.Lines.{text_of}
 use Rattle.trace.specs.Puts.{Stops}
-use Rattle.workers.specs.declared.writing.Cut.{Cut}
-use Rattle.workers.specs.declared.writing.Portion.{Portion}
+use Rattle.workers.specs.declared.portions.Cut.{Cut}
+use Rattle.workers.specs.declared.portions.Portion.{Portion}
 
 -- after the turns that were given these are the next ones of the reference, up to a bound, which is the end where they are the last
 pub record IsCutOf (s : System) (cut : Cut) (turns : List (Turn Named)) : Type 0 where

@@ -1,6 +1,6 @@
 -- The numbers of a run's faults.
 use Rattle.std.specs.Prelude.{ℕ}
-use Rattle.exchange.specs.Refusals.{meet_number}
+use Rattle.group_exchange.specs.Refusals.{meet_number}
 use Rattle.trace.specs.Refusals.{fault_number}
 use Rattle.workers.specs.declared.fault.RunFault.{RunFault}
 use Rattle.workers.specs.declared.fault.RunFault.TheVariants.{NoMemory, Meeting, Write, ThreadRefused, OutOfPlace}

@@ -1,68 +1,56 @@
 //! What the workers of a run do, as it is counted.
 ghost use Rattle.std.specs.Prelude.{◌≡◌};
 
-use exchange::{Effort, Tally};
+use group_exchange::{Effort, Tally};
+use partitions::Cut;
 use steering::Stats;
 
-// How many visits there were, and how long workers slept.
-#[derive(Clone, Copy, Default)]
-pub(crate) struct Visits {
-    count: u64,
-    waited: u64,
-}
-
-// The same, what was done of the components, and what the exchange counted.
+// How many visits there were, how long workers slept, how many ticks a group was let run ahead of all others at most, and what was done of the groups.
 #[derive(Clone, Copy, Default)]
 pub(crate) struct Activity {
-    pub(crate) visits: Visits,
-    pub(crate) effort: Effort,
+    visits: u64,
+    waited: u64,
+    leash: u64,
+    effort: Effort,
     pub(crate) tally: Tally,
 }
 
-impl Visits {
-    // A visit is over.
-    pub(crate) fn end_one(&mut self) {
-        self.count = self.count.saturating_add(1);
-    }
-
-    // A worker slept for so many microseconds.
-    pub(crate) fn wait(&mut self, micros: u64) {
-        self.waited = self.waited.saturating_add(micros);
-    }
-}
-
-// Both together.
-pub(crate) fn sum(first: Effort, second: Effort) -> Effort {
-    Effort {
-        processed: first.processed.saturating_add(second.processed),
-        taken_back: first.taken_back.saturating_add(second.taken_back),
-        roll_backs: first.roll_backs.saturating_add(second.roll_backs),
-        stragglers: first.stragglers.saturating_add(second.stragglers),
-    }
-}
-
 impl Activity {
-    // The same with the number of the turns.
-    pub(crate) fn stats(&self, turns: u64) -> Stats
+    // A worker visits, after it did so much, slept for so many microseconds, and might run so many ticks ahead.
+    pub(crate) fn visit(&mut self, effort: Effort, waited: u64, leash: u64) {
+        self.visits = self.visits.saturating_add(1);
+        self.waited = self.waited.saturating_add(waited);
+        self.leash = self.leash.max(leash);
+        self.effort = self.effort.and(effort);
+    }
+
+    // The same with the number of the turns, and that of the groups with the pairs that they cut.
+    pub(crate) fn stats(&self, turns: u64, groups: u16, cut: Cut) -> Stats
         ensures { result.turns ≡ turns }
     {
-        let Visits { count, waited } = self.visits;
         let effort = self.effort;
+        let kept = effort.processed.saturating_sub(effort.taken_back);
+        let arrived = self.tally.messages.saturating_sub(self.tally.antimessages);
         Stats {
             turns,
+            groups: u64::from(groups),
+            pairs: cut.edges as u64,
+            cut: cut.cut as u64,
             processed: effort.processed,
-            kept: effort.processed.saturating_sub(effort.taken_back),
+            kept,
             taken_back: effort.taken_back,
             roll_backs: effort.roll_backs,
             stragglers: effort.stragglers,
-            messages: self.tally.messages,
+            inside: kept.saturating_sub(turns).saturating_sub(arrived),
+            across: self.tally.messages,
             antimessages: self.tally.antimessages,
             annihilated: self.tally.annihilated,
-            visits: count,
+            visits: self.visits,
             meetings: self.tally.meetings,
             commits: self.tally.commits,
             chunks: self.tally.chunks,
-            waited,
+            leash: self.leash,
+            waited: self.waited,
         }
     }
 }

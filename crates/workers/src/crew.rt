@@ -1,57 +1,60 @@
 //! What a thread has for itself, and what threads lend each other.
-ghost use Rattle.std.specs.Prelude.{◌≡◌};
 
 use crate::activity::Activity;
-use crate::depot::Depot;
+use crate::desk::Desk;
+use boards::{Pass, Sectioned};
 use event_keys::Turned;
-use exchange::{Lease, Parcel};
+use group_exchange::{Lease, Parcel, Stub, Window};
 use gvt::Seat;
-use pools::{Numbered, Pass};
+use partitions::Cut;
 use raw_events::EventList;
-use steering::Pace;
+use std::collections::LinkedList;
+use steering::Vigil;
 use task_seed::{Setup, Turns};
 
-// A lease, and how far its component is let run ahead.
-#[derive(Drop)]
-pub(crate) struct Paced<T: Turns> {
-    pub(crate) lease: Lease<T>,
-    pub(crate) pace: Pace,
+/// Of an exchange what never changes: its setup, of each component the number of its group, and its window, if it has one. No value of it is made.
+pub struct Division<T: Turns> {
+    pub setup: Setup<T>,
+    pub groups: LinkedList<u16>,
+    pub window: Option<Window>,
 }
 
-// The same as it goes from hand to hand, which is often.
-#[derive(Drop)]
-pub(crate) struct Handed<T: Turns> {
-    pub(crate) paced: Box<Paced<T>>,
-}
-
-// The exchange with the leases that wait, which one thread at a time has.
+// The exchange, which one thread at a time has. Its sections are what is kept of the groups, but for their inboxes: what only the worker of the
+// group changes.
 #[derive(Drop)]
 pub(crate) struct Lent<T: Turns> {
-    pub(crate) depot: Box<Depot<T>>,
+    pub(crate) desk: Box<Desk<T>>,
 }
 
-impl<T: Turns> Numbered<Setup<T>> for Lent<T> {
-    ghost number_of = { λ lent. 0 };
+impl<T: Turns> Sectioned<Division<T>, Stub> for Lent<T> {
+    ghost use Rattle.std.specs.Prelude.{map};
+    ghost use Rattle.group_exchange.specs.ExchangeView.{without_inbox};
 
-    ghost kind_of = { λ lent. lent.depot.value };
+    ghost kind_of = { λ lent. record {
+      setup = lent.desk.value.exchange.setup;
+      groups = lent.desk.value.exchange.groups;
+      window = lent.desk.value.exchange.window;
+    } };
+
+    ghost sections_of = { λ lent. map without_inbox lent.desk.value.exchange.stubs };
 }
 
-// A worker's number, from 0, its pass of the exchange, its seat of the published count, and its spare cells.
+// A worker: its pass of the exchange, its seat of the published count, its group, spare cells for the turns of that, and how it waits.
 #[derive(Drop)]
 pub(crate) struct Worker<T: Turns> {
-    pub(crate) number: u16,
-    pub(crate) lock: Pass<Lent<T>, Setup<T>>,
+    pub(crate) pass: Pass<Lent<T>, Division<T>, Stub>,
     pub(crate) seat: Seat,
-    // Cells for the turns of the lease that it works on.
-    pub(crate) spare: EventList<Turned>,
+    pub(crate) lease: Lease<T>,
+    pub(crate) vigil: Vigil,
 }
 
-// The calling thread's pass of the exchange, its seat of the published count, and what was counted when it took turns last.
+// The calling thread's pass of the exchange, its seat of the published count, what was counted when it took turns last, where chunks come, and how
+// many pairs of components the groups cut.
 #[derive(Drop)]
 pub(crate) struct Caller<T: Turns> {
-    pub(crate) lock: Pass<Lent<T>, Setup<T>>,
+    pub(crate) pass: Pass<Lent<T>, Division<T>, Stub>,
     pub(crate) seat: Seat,
     pub(crate) activity: Activity,
-    // Where chunks come.
     pub(crate) parcel: Parcel,
+    pub(crate) cut: Cut,
 }

@@ -3,7 +3,7 @@ ghost use Rattle.std.specs.Prelude.{◌≡◌};
 ghost use Rattle.workers.specs.declared.fault.RunFault.TheVariants.{NoMemory as OutOfMemory};
 ghost use Rattle.workers.specs.Refusals.{run_fault};
 
-use exchange::MeetRefused;
+use group_exchange::MeetRefused;
 use std::alloc::{AllocError, AllocFailed};
 use terms::{NoMemory, Refusal};
 use thiserror::Error;
@@ -28,16 +28,16 @@ pub enum RunFault {
     OutOfPlace,
 }
 
-// What befalls a worker, or keeps one from being started.
+/// What befalls a worker, or keeps one from being started.
 #[derive(Clone, Copy, PartialEq, Eq)]
-pub(crate) enum WorkFault {
+pub enum WorkFault {
     NoMemory,
     Meeting(MeetRefused),
     ThreadRefused,
 }
 
-// The fault with which the run ends for it.
-pub(crate) fn run_fault(fault: WorkFault) -> RunFault
+/// The fault with which the run ends for it.
+pub fn run_fault(fault: WorkFault) -> RunFault
     ensures { result ≡ run_fault fault }
 {
     match fault {

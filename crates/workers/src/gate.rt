@@ -1,20 +1,20 @@
-//! What stands between a worker and the lease that it runs ahead.
+//! What stands between a worker and the group that it runs ahead.
 ghost use Rattle.std.specs.Prelude.{◌≡◌, ◌≤◌};
-ghost use Rattle.rollback.specs.ComponentView.{machine_of};
-ghost use Rattle.exchange.specs.LeaseView.{HasStopped, IsAhead};
+ghost use Rattle.groups.specs.Moves.{HasStopped, IsAhead};
 ghost use Rattle.task_seed.specs.Any.{any_turn};
 ghost use Rattle.workers.specs.Gates.{StaysItself};
 
-use exchange::{Lease, Ran};
+use group_exchange::Lease;
+use groups::Ran;
 use std::alloc::Global;
 use task_seed::{AnyTurns, Turns};
 
-/// What a worker asks before it is started and each time that it runs a lease ahead. A gate may hold a lease up, run fewer entries or none,
-/// or look on; it is called by many workers at once, without the lock round what they share. A gate that holds nothing up calls [`run_ahead`],
-/// as [`Unheld`] does.
+/// What a worker asks before it is started and each time that it runs its group ahead. A gate may hold a group up, run fewer entries or none, or look
+/// on; it is called by many workers at once, without the lock round what they share. A gate that holds nothing up calls [`run_ahead`], as
+/// [`Unheld`] does.
 pub trait Gate<T: Turns>: Sync {
-    /// Runs a lease ahead by at most `budget` entries, and answers how many and why there were no more. The lease stays that of its component: its
-    /// number, setup, window, base, floor, taken messages and standing sends stay.
+    /// Runs a group ahead by at most `budget` entries, and answers how many and why there were no more. The lease stays that of its group: who knew
+    /// it before knows it afterwards.
     ///
     /// Where memory was refused for the first entry, the run ends with that fault.
     fn ahead(&self, alloc: Global, lease: &mut Lease<T>, budget: u32) -> Ran
@@ -35,8 +35,7 @@ pub struct Unheld;
 impl Gate<AnyTurns> for Unheld {
     fn ahead(&self, alloc: Global, lease: &mut Lease<AnyTurns>, budget: u32) -> Ran
         ensures same { StaysItself any_turn lease.old lease.new }
-        ensures ahead { IsAhead (machine_of any_turn lease.old.component.setup) lease.old lease.new
-            result.count }
+        ensures ahead { IsAhead any_turn lease.old lease.new result.count }
         ensures most { result.count ≤ budget }
         ensures stop { HasStopped any_turn budget result.count result.stop lease.new }
     {
@@ -44,16 +43,14 @@ impl Gate<AnyTurns> for Unheld {
     }
 }
 
-/// Runs a lease ahead: what the body of a gate's `ahead` does where nothing is held up. It is `Lease::run_and_tell`, with what a gate owes: at most
-/// `budget` entries are done, and it stops short only where no more are there, where its window has no room, or where memory is refused. Where none
-/// is done the lease hasn't changed.
+/// Runs a group ahead: what the body of a gate's `ahead` does where nothing is held up. At most `budget` entries are done, the least first, and it
+/// stops short only where no more are there or memory is refused. Where none is done the lease hasn't changed.
 pub fn run_ahead<T: Turns>(alloc: Global, lease: &mut Lease<T>, budget: u32) -> Ran
     ensures same { StaysItself T.turn_of lease.old lease.new }
-    ensures ahead { IsAhead (machine_of T.turn_of lease.old.component.setup) lease.old lease.new
-        result.count }
+    ensures ahead { IsAhead T.turn_of lease.old lease.new result.count }
     ensures most { result.count ≤ budget }
     ensures stop { HasStopped T.turn_of budget result.count result.stop lease.new }
     ensures kept { result.count ≡ 0 → lease.new ≡ lease.old }
 {
-    lease.run_and_tell(alloc, budget)
+    lease.run_ahead(alloc, budget)
 }

@@ -1,20 +1,24 @@
-//! Workers: threads that hold leases in turn, run them ahead and share what they did, while the calling thread writes what is committed.
+//! Workers that hold groups of components: each thread keeps its group, runs it ahead and shares what it did, while the calling thread writes what is
+//! committed.
 #![tactic(auto)]
 
 mod activity;
 mod crew;
-mod depot;
+mod desk;
 pub mod fault;
 pub mod gate;
+mod portions;
 pub mod running;
 mod shared;
-mod waiting;
+mod trial;
+mod visiting;
 mod working;
 mod writing;
 
-pub use exchange::{Ran, Stop, Window};
 pub use fault::RunFault;
 pub use gate::{Gate, Unheld};
-pub use pools::{Hand, Numbered, Pass, Pool};
-pub use running::{Summary, run, run_with_stats, run_within};
+pub use group_exchange::{Lease, Window};
+pub use groups::{Ran, Stop};
+pub use running::{Job, Summary, run, run_with_stats};
 pub use steering::Stats;
+pub use trial::groups_by_trial;

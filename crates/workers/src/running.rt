@@ -1,27 +1,25 @@
 //! A run: workers in threads of their own, and the calling thread, which writes.
-ghost use Rattle.std.specs.Prelude.{◌≡◌, ◌≤◌, All, IfErr, IfOk, length};
+ghost use Rattle.std.specs.Prelude.{◌≡◌, ◌+◌, ◌≤◌, All, IfErr, IfOk, length};
 ghost use Rattle.std.specs.Arc.{arc_value};
 ghost use Rattle.gvt.specs.Seats.{IsSeatOf};
-ghost use Rattle.pools.specs.Passes.{IsOf as IsOfPool};
 ghost use Rattle.schedules.specs.Schedules.{HasSchedulesBelow};
 ghost use Rattle.task_seed.specs.Setups.{plan_of, system};
-ghost use Rattle.workers.specs.Crews.{IsCallerOf, IsOf, IsOfAll};
-ghost use Rattle.workers.specs.Leases.{setup_of};
 ghost use Rattle.workers.specs.Runs.{WroteAll, WroteAllIn, WroteSome, WroteSomeIn};
+ghost use Rattle.workers.specs.Crews.{AreHeld, IsCallerOf, IsOf, IsOfAll, IsStart};
 
 use crate::activity::Activity;
-use crate::crew::{Caller, Handed, Lent, Paced, Worker};
-use crate::depot::Depot;
+use crate::crew::{Caller, Division, Lent, Worker};
+use crate::desk::Desk;
 use crate::fault::{RunFault, WorkFault};
 use crate::gate::Gate;
 use crate::shared::{Shared, end, note};
-use crate::waiting::Waiting;
 use crate::working::work;
-use crate::writing::write_all;
+use crate::writing::{Page, write_all};
+use boards::{Board, Made, Pass};
 use core::mem::replace_with;
-use exchange::{Exchange, Lease, Parcel, Window};
+use group_exchange::{Exchange, Lease, Parcel, Parted, Stub, Window, partition_of};
 use gvt::{Published, Seat};
-use pools::{Pass, Pool};
+use partitions::Cut;
 use raw_events::EventList;
 use schedules::laws::turns_are_schedule;
 use std::alloc::Global;
@@ -30,10 +28,10 @@ use std::sync::atomic::{AtomicBool, AtomicU64};
 use std::sync::{Arc, Mutex, Wait};
 use std::thread;
 use std::thread::Threads;
-use steering::{Away, Pace, Places, Ready, Stats};
+use steering::{Raises, Ready, Signals, Stats, Vigil};
 use task_seed::{Setup, Turns};
 use terms::NoMemory;
-use trace::{Counted, Form, Lines, write_front};
+use trace::{Counted, Form, write_front};
 
 /// What a run came to.
 #[derive(Clone, Copy, PartialEq, Eq)]
@@ -42,9 +40,19 @@ pub struct Summary {
     pub turns: u64,
 }
 
-/// Simulates a setup by so many workers, 1 to 64, of which each runs a component ahead by at most `budget` entries, 1 to 65,535, before it
-/// shares what it did; and writes the lines of the turns as they are committed for good, in the order of keys. The calling thread writes; it
-/// and the workers may wait for each other, so that what is promised holds if the call returns.
+/// How a setup is run: by how many workers, 1 to 64; how many entries each does at most before it looks round, 1 to 65,535; within which window, if
+/// there is one: how many turns of its own each component may have done since its base; and in which form the turns are written.
+#[derive(Clone, Copy)]
+pub struct Job {
+    pub workers: u16,
+    pub budget: u32,
+    pub window: Option<Window>,
+    pub form: Form,
+}
+
+/// Simulates a setup by workers, each of which keeps a group of its components: it runs the group ahead and shares what it did; and writes the lines of
+/// the turns as they are committed for good, in the order of keys, behind a head where it is asked for. There are no more workers than components.
+/// The calling thread writes; it and the workers may wait for each other, so that what is promised holds if the call returns.
 ///
 /// What was written is a beginning of the text of the one-thread simulator that always takes the least key, and all of it where the answer
 /// isn't a fault; the actions of these turns are a schedule of the composition. That several threads ran, and that what is written comes of
@@ -53,378 +61,354 @@ pub struct Summary {
 /// # Errors
 ///
 /// The first fault that is met ends the run: want of memory (1), a failed write (60), where `written` counts every byte of the run, or a worker
-/// that wasn't started (61). That no lease is refused (40, 41) and no chunk is out of place (62) is shown by tests.
+/// that wasn't started (61). That no chunk is out of place (62) is shown by tests.
 pub fn run<T: Turns, W: Write + Drop, G: Gate<T>, R: Threads + Wait + Sync>(
     rt: &R,
     alloc: Global,
     setup: Arc<Setup<T>>,
-    workers: u16,
-    budget: u32,
+    job: Job,
     gate: &G,
-    lines: Lines,
     out: &mut Counted<W>,
 ) -> Result<Summary, RunFault>
-    requires workers { (1 ≤ workers) × (workers ≤ 64) }
-    requires budget { (1 ≤ budget) × (budget ≤ 65535) }
-    ensures whole { IfOk result (λ summary. WroteAll T.turn_of W.contents
-        (arc_value setup) lines out.old out.new summary.turns) }
+    requires workers { (1 ≤ job.workers) × (job.workers ≤ 64) }
+    requires budget { (1 ≤ job.budget) × (job.budget ≤ 65535) }
+    ensures whole { IfOk result (λ summary. WroteAllIn T.turn_of W.contents (arc_value setup)
+        job.form out.old out.new summary.turns) }
     ensures unfinished { IfErr result
-        (WroteSome T.turn_of W.contents (arc_value setup) lines out.old out.new 0) }
+        (WroteSomeIn T.turn_of W.contents (arc_value setup) job.form out.old out.new) }
 {
-    run_lines(rt, alloc, None, setup, workers, budget, gate, lines, out)
-}
-
-/// Does the same as [`run`], with its promises and faults, where each component may have at most `window` turns of its own done since its base,
-/// 1 to 65,535. So what is kept of it, and what waits in all, is bounded by a count.
-pub fn run_within<T: Turns, W: Write + Drop, G: Gate<T>, R: Threads + Wait + Sync>(
-    rt: &R,
-    alloc: Global,
-    window: u32,
-    setup: Arc<Setup<T>>,
-    workers: u16,
-    budget: u32,
-    gate: &G,
-    lines: Lines,
-    out: &mut Counted<W>,
-) -> Result<Summary, RunFault>
-    requires window { (1 ≤ window) × (window ≤ 65535) }
-    requires workers { (1 ≤ workers) × (workers ≤ 64) }
-    requires budget { (1 ≤ budget) × (budget ≤ 65535) }
-    ensures whole { IfOk result (λ summary. WroteAll T.turn_of W.contents (arc_value setup) lines
-        out.old out.new summary.turns) }
-    ensures unfinished { IfErr result (WroteSome T.turn_of W.contents (arc_value setup) lines
-        out.old out.new 0) }
-{
-    let window = Some(Window::new(window));
-    run_lines(rt, alloc, window, setup, workers, budget, gate, lines, out)
-}
-
-// Runs with a window or without.
-fn run_lines<T: Turns, W: Write + Drop, G: Gate<T>, R: Threads + Wait + Sync>(
-    rt: &R,
-    alloc: Global,
-    window: Option<Window>,
-    setup: Arc<Setup<T>>,
-    workers: u16,
-    budget: u32,
-    gate: &G,
-    lines: Lines,
-    out: &mut Counted<W>,
-) -> Result<Summary, RunFault>
-    requires workers { (1 ≤ workers) × (workers ≤ 64) }
-    requires budget { (1 ≤ budget) × (budget ≤ 65535) }
-    ensures whole { IfOk result (λ summary. WroteAll T.turn_of W.contents (arc_value setup) lines
-        out.old out.new summary.turns) }
-    ensures unfinished { IfErr result (WroteSome T.turn_of W.contents (arc_value setup) lines
-        out.old out.new 0) }
-{
-    let form = Form { lines, head: false };
-    match run_with_stats(rt, alloc, window, setup, workers, budget, gate, form, out) {
+    match run_with_stats(rt, alloc, setup, job, gate, out) {
         Ok(stats) => Ok(Summary { turns: stats.turns }),
         Err(fault) => Err(fault),
     }
 }
 
-/// Does the same as [`run`], or as [`run_within`] where there is a window, with the same faults, and answers what the workers did too. A head that
-/// is asked for goes out before any turn, and `written` counts its bytes.
+/// Does the same as [`run`], with the same faults, and answers what the workers did too.
 pub fn run_with_stats<T: Turns, W: Write + Drop, G: Gate<T>, R: Threads + Wait + Sync>(
     rt: &R,
     alloc: Global,
-    window: Option<Window>,
     setup: Arc<Setup<T>>,
-    workers: u16,
-    budget: u32,
+    job: Job,
     gate: &G,
-    form: Form,
     out: &mut Counted<W>,
 ) -> Result<Stats, RunFault>
-    requires workers { (1 ≤ workers) × (workers ≤ 64) }
-    requires budget { (1 ≤ budget) × (budget ≤ 65535) }
-    ensures whole { IfOk result (λ stats. WroteAllIn T.turn_of W.contents (arc_value setup) form
-        out.old out.new stats.turns) }
-    ensures unfinished { IfErr result (WroteSomeIn T.turn_of W.contents (arc_value setup) form
-        out.old out.new) }
+    requires workers { (1 ≤ job.workers) × (job.workers ≤ 64) }
+    requires budget { (1 ≤ job.budget) × (job.budget ≤ 65535) }
+    ensures whole { IfOk result (λ stats. WroteAllIn T.turn_of W.contents (arc_value setup)
+        job.form out.old out.new stats.turns) }
+    ensures unfinished { IfErr result
+        (WroteSomeIn T.turn_of W.contents (arc_value setup) job.form out.old out.new) }
 {
     turns_are_schedule(&setup);
-    match write_front(form.head, out) {
-        Ok(before) => run_on(
-            rt, alloc, window, &setup, workers, budget, gate, form.lines, before, out,
-        ),
+    match write_front(job.form.head, out) {
+        Ok(before) => run_on(Means { rt, alloc, gate }, &setup, job, before, out),
         Err(fault) => Err(RunFault::Write(fault)),
     }
 }
 
-// Runs, where so many bytes went out before the lines.
-fn run_on<T: Turns, W: Write + Drop, G: Gate<T>, R: Threads + Wait + Sync>(
-    rt: &R,
+// What a run runs on: threads, memory, and the gate before its groups.
+#[derive(Drop)]
+struct Means<'x, G, R> {
+    rt: &'x R,
     alloc: Global,
-    window: Option<Window>,
+    gate: &'x G,
+}
+
+// Runs, where so many bytes went out before the lines.
+fn run_on<'x, T: Turns, W: Write + Drop, G: Gate<T>, R: Threads + Wait + Sync>(
+    means: Means<'x, G, R>,
     setup: &Arc<Setup<T>>,
-    workers: u16,
-    budget: u32,
-    gate: &G,
-    lines: Lines,
+    job: Job,
     before: u64,
     out: &mut Counted<W>,
 ) -> Result<Stats, RunFault>
-    requires workers { (1 ≤ workers) × (workers ≤ 64) }
-    requires budget { (1 ≤ budget) × (budget ≤ 65535) }
+    requires workers { (1 ≤ job.workers) × (job.workers ≤ 64) }
     requires known { HasSchedulesBelow (plan_of (arc_value setup.now))
         (system T.turn_of (arc_value setup.now)) }
     ensures whole { IfOk result (λ stats. WroteAll T.turn_of W.contents (arc_value setup.now)
-        lines out.old out.new stats.turns) }
+        job.form.lines out.old out.new stats.turns) }
     ensures unfinished { IfErr result (WroteSome T.turn_of W.contents (arc_value setup.now)
-        lines out.old out.new before) }
+        job.form.lines out.old out.new before) }
 {
-    match start(rt, alloc, window, setup, workers) {
-        Ok(begun) => run_begun(rt, alloc, setup, begun, budget, gate, lines, before, out),
+    let lines = job.form.lines;
+    match start(means.rt, means.alloc, setup, job) {
+        Ok(begun) => run_begun(means, setup, begun, Page { lines, before }, out),
         Err(_refused) => Err(RunFault::NoMemory),
     }
 }
 
-// What the threads share, the workers, and what the calling thread has.
+// The workers, and what the calling thread has.
 #[derive(Drop)]
-struct Begun<T: Turns> {
-    shared: Shared<T>,
+struct Hands<T: Turns> {
     crew: Vec<Worker<T>>,
     caller: Caller<T>,
 }
 
-// Makes what the threads share, and gives each worker its pass and its seat.
-fn start<T: Turns, R: Wait>(
+// What the threads share, and the threads' own.
+#[derive(Drop)]
+struct Begun<T: Turns> {
+    shared: Shared<T>,
+    hands: Hands<T>,
+}
+
+// What the workers get, one of each.
+#[derive(Drop)]
+struct Shares<T: Turns> {
+    passes: Vec<Pass<Lent<T>, Division<T>, Stub>>,
+    leases: Vec<Lease<T>>,
+    seats: Vec<Seat>,
+}
+
+// The exchange at its start, as it waits for its workers, and a lease for each.
+#[derive(Drop)]
+struct Parts<T: Turns> {
+    made: Made<Lent<T>, Division<T>, Stub>,
+    leases: Vec<Lease<T>>,
+    groups: u16,
+    cut: Cut,
+}
+
+// Divides the components into groups, one for each worker, and makes the exchange of these.
+fn divide<T: Turns, R: Wait>(
     rt: &R,
     alloc: Global,
-    window: Option<Window>,
     setup: &Arc<Setup<T>>,
-    workers: u16,
-) -> Result<Begun<T>, NoMemory>
-    requires workers { (1 ≤ workers) × (workers ≤ 64) }
-    ensures crew { IfOk result (λ begun. All (IsOf begun.shared) begun.crew.items) }
-    ensures caller { IfOk result (λ begun. IsCallerOf begun.shared
-        (arc_value setup.now) begun.caller) }
+    job: Job,
+) -> Result<Parts<T>, NoMemory>
+    requires { job.workers ≤ 64 }
+    ensures few { IfOk result (λ parts. parts.groups ≤ 64) }
+    ensures start { IfOk result (λ parts. IsStart T.turn_of (arc_value setup.now) parts.made
+        parts.leases.items) }
+    ensures count { IfOk result (λ parts. (length parts.made.passes.items ≡ parts.groups)
+        × (length parts.leases.items ≡ parts.groups)) }
 {
-    let lent = Vec::from_array(alloc, [lend_out(alloc, window, setup, workers)?])?;
-    let (exchange, mut locks) = Pool::new(rt, alloc, lent, workers + 1)?;
-    let (published, mut seats) = Published::new(alloc, workers + 1)?;
-    let (Some(lock), Some(seat)) = (locks.pop(), seats.pop()) else {
-        unreachable!()
-    };
-    let crew = gather(alloc, &exchange, &published, locks, seats)?;
-    let shared = Shared {
+    let Parted { partition, cut } = partition_of(alloc, setup.plan(), job.workers)?;
+    let groups = partition.groups();
+    let own = Arc::try_clone(setup)?;
+    let (exchange, leases) = Exchange::start(alloc, own, &partition, job.window)?;
+    let desk = Desk {
         exchange,
-        fault: Mutex::new(None),
-        ends: AtomicBool::new(false),
-        looks: AtomicU64::new(0),
-        published,
+        raises: Raises::new(setup.plan().components()),
+        count: 0,
+        ready: Ready::new(alloc, groups)?,
+        spare: EventList::new(),
+        activity: Activity::default(),
+        lost: 0,
     };
-    let activity = Activity::default();
-    let parcel = Parcel::new(alloc, setup.plan().components())?;
-    let caller = Caller {
-        lock,
-        seat,
-        activity,
-        parcel,
-    };
-    Ok(Begun {
-        shared,
-        crew,
-        caller,
+    let desk = Box::new(alloc, desk)?;
+    let made = Board::new(rt, alloc, Lent { desk }, groups)?;
+    Ok(Parts {
+        made,
+        leases,
+        groups,
+        cut,
     })
 }
 
-// The exchange of a setup at its start, with its leases, as it waits in its pool for so many workers.
-fn lend_out<T: Turns>(
+// Makes what the threads share, and gives each worker its group, its pass and its seat.
+fn start<T: Turns, R: Wait>(
+    rt: &R,
     alloc: Global,
-    window: Option<Window>,
     setup: &Arc<Setup<T>>,
-    workers: u16,
-) -> Result<Lent<T>, NoMemory>
-    ensures { IfOk result (λ lent. lent.depot.value ≡ arc_value setup.now) }
+    job: Job,
+) -> Result<Begun<T>, NoMemory>
+    requires workers { (1 ≤ job.workers) × (job.workers ≤ 64) }
+    ensures crew { IfOk result
+        (λ begun. All (IsOf T.turn_of begun.shared) begun.hands.crew.items) }
+    ensures caller { IfOk result (λ begun. IsCallerOf begun.shared
+        (arc_value setup.now) begun.hands.caller) }
 {
-    let (exchange, leases) = start_exchange(alloc, window, setup)?;
-    let components = exchange.setup().plan().components();
-    let waiting = Waiting::new(alloc, exchange)?;
-    let places = Places::new(alloc, components)?;
-    let away = Away::new(alloc, workers)?;
-    let ready = Ready::new(alloc, components)?;
-    let mut depot = Depot::new(waiting, places, away, ready);
-    put_all(alloc, &mut depot, leases)?;
-    let depot = Box::new(alloc, depot)?;
-    Ok(Lent { depot })
+    let Parts {
+        made,
+        leases,
+        groups,
+        cut,
+    } = divide(rt, alloc, setup, job)?;
+    let Made {
+        board,
+        passes,
+        reader,
+    } = made;
+    let signals = Signals::new(alloc, groups)?;
+    let (published, mut seats) = Published::new(alloc, groups + 1)?;
+    let Some(seat) = seats.pop() else {
+        unreachable!()
+    };
+    let vigil = Vigil::new(job.budget, groups);
+    let shares = Shares {
+        passes,
+        leases,
+        seats,
+    };
+    let crew = gather(alloc, &board, &published, shares, vigil)?;
+    let parcel = Parcel::new(alloc, setup.plan().components())?;
+    Ok(Begun {
+        shared: Shared {
+            board,
+            signals,
+            fault: Mutex::new(None),
+            ends: AtomicBool::new(groups == 0),
+            looks: AtomicU64::new(0),
+            published,
+        },
+        hands: Hands {
+            crew,
+            caller: Caller {
+                pass: reader,
+                seat,
+                activity: Activity::default(),
+                parcel,
+                cut,
+            },
+        },
+    })
 }
 
-// All leases of a setup wait, each with a pace.
-fn put_all<T: Turns>(
-    alloc: Global,
-    depot: &mut Depot<T>,
-    leases: Vec<Lease<T>>,
-) -> Result<(), NoMemory>
-    requires { All (λ lease. setup_of lease ≡ depot.old) leases.items }
-    ensures { depot.new ≡ depot.old }
-{
-    for lease in leases {
-        let pace = Pace::new();
-        let paced = Box::new(alloc, Paced { lease, pace })?;
-        depot.put_back(Handed { paced });
-    }
-    Ok(())
-}
-
-// The exchange of a setup at its start, with its leases, with a window or without.
-fn start_exchange<T: Turns>(
-    alloc: Global,
-    window: Option<Window>,
-    setup: &Arc<Setup<T>>,
-) -> Result<(Exchange<T>, Vec<Lease<T>>), NoMemory>
-    ensures leases { IfOk result (λ both. All
-        (λ lease. setup_of lease ≡ arc_value setup.now) both.1.items) }
-    ensures exchange { IfOk result (λ both. both.0.setup ≡ arc_value setup.now) }
-{
-    Ok(Exchange::start(alloc, Arc::try_clone(setup)?, window)?)
-}
-
-// A worker for each pass of the exchange, with a seat for each.
+// A worker for each group, with its pass and a seat, the last one first.
 fn gather<T: Turns>(
     alloc: Global,
-    exchange: &Pool<Lent<T>, Setup<T>>,
+    board: &Board<Lent<T>, Division<T>, Stub>,
     published: &Published,
-    locks: Vec<Pass<Lent<T>, Setup<T>>>,
-    mut seats: Vec<Seat>,
+    shares: Shares<T>,
+    vigil: Vigil,
 ) -> Result<Vec<Worker<T>>, NoMemory>
-    requires locks { All (λ lock. IsOfPool exchange.now lock) locks.items }
-    requires seats { All (λ seat. IsSeatOf published.now seat) seats.items }
-    requires many_seats { length locks.items ≤ length seats.items }
-    ensures { IfOk result (λ crew. All (IsOfAll exchange.now published.now) crew.items) }
+    requires held { AreHeld T.turn_of board.now shares.passes.items shares.leases.items }
+    requires seats { All (λ seat. IsSeatOf published.now seat) shares.seats.items }
+    requires many { length shares.leases.items ≡ length shares.passes.items }
+    requires many_seats { length shares.passes.items ≤ length shares.seats.items }
+    ensures { IfOk result
+        (λ crew. All (IsOfAll T.turn_of board.now published.now) crew.items) }
 {
-    let mut crew = Vec::with_capacity(alloc, locks.len())?;
-    let mut number = 0u16;
-    for lock in locks {
-        let Some(seat) = seats.pop() else {
+    let Shares {
+        mut passes,
+        mut leases,
+        mut seats,
+    } = shares;
+    let mut crew = Vec::with_capacity(alloc, passes.len())?;
+    while let Some(pass) = passes.pop() {
+        let (Some(lease), Some(seat)) = (leases.pop(), seats.pop()) else {
             unreachable!()
         };
         crew.push(Worker {
-            number,
-            lock,
+            pass,
             seat,
-            spare: EventList::new(),
+            lease,
+            vigil,
         })?;
-        number = number.wrapping_add(1);
     }
     Ok(crew)
 }
 
 // Has the workers work while the calling thread writes.
-fn run_begun<T: Turns, W: Write + Drop, G: Gate<T>, R: Threads + Wait + Sync>(
-    rt: &R,
-    alloc: Global,
+fn run_begun<'x, T: Turns, W: Write + Drop, G: Gate<T>, R: Threads + Wait + Sync>(
+    means: Means<'x, G, R>,
     own: &Setup<T>,
     begun: Begun<T>,
-    budget: u32,
-    gate: &G,
-    lines: Lines,
-    before: u64,
+    page: Page,
     out: &mut Counted<W>,
 ) -> Result<Stats, RunFault>
-    requires crew { All (IsOf begun.shared) begun.crew.items }
-    requires caller { IsCallerOf begun.shared own.now begun.caller }
+    requires crew { All (IsOf T.turn_of begun.shared) begun.hands.crew.items }
+    requires caller { IsCallerOf begun.shared own.now begun.hands.caller }
     ensures whole { IfOk result
-        (λ stats. WroteAll T.turn_of W.contents own.now lines out.old out.new stats.turns) }
+        (λ stats. WroteAll T.turn_of W.contents own.now page.lines out.old out.new stats.turns) }
     ensures unfinished { IfErr result
-        (WroteSome T.turn_of W.contents own.now lines out.old out.new before) }
+        (WroteSome T.turn_of W.contents own.now page.lines out.old out.new page.before) }
 {
-    let Begun {
-        shared,
-        crew,
-        caller,
-    } = begun;
-    lend(
-        rt, alloc, &shared, own, crew, caller, budget, gate, lines, before, out,
-    )
+    let Begun { shared, hands } = begun;
+    lend(means, &shared, own, hands, page, out)
 }
 
 // Lends the writer to the scope by value, since a scope's closure tells nothing of what is behind a `&mut`.
-fn lend<'x, T: Turns, W: Write + Drop, G: Gate<T>, R: Threads + Wait + Sync>(
-    rt: &'x R,
-    alloc: Global,
-    shared: &'x Shared<T>,
-    own: &'x Setup<T>,
-    crew: Vec<Worker<T>>,
-    caller: Caller<T>,
-    budget: u32,
-    gate: &'x G,
-    lines: Lines,
-    before: u64,
+fn lend<'x, 'y, T: Turns, W: Write + Drop, G: Gate<T>, R: Threads + Wait + Sync>(
+    means: Means<'x, G, R>,
+    shared: &'y Shared<T>,
+    own: &'y Setup<T>,
+    hands: Hands<T>,
+    page: Page,
     out: &mut Counted<W>,
 ) -> Result<Stats, RunFault>
-    requires crew { All (IsOf shared.now) crew.items }
-    requires caller { IsCallerOf shared.now own.now caller }
+    requires crew { All (IsOf T.turn_of shared.now) hands.crew.items }
+    requires caller { IsCallerOf shared.now own.now hands.caller }
     ensures whole { IfOk result
-        (λ stats. WroteAll T.turn_of W.contents own.now lines out.old out.new stats.turns) }
+        (λ stats. WroteAll T.turn_of W.contents own.now page.lines out.old out.new stats.turns) }
     ensures unfinished { IfErr result
-        (WroteSome T.turn_of W.contents own.now lines out.old out.new before) }
+        (WroteSome T.turn_of W.contents own.now page.lines out.old out.new page.before) }
 {
+    let Means { rt, alloc, gate } = means;
+    let Hands { crew, caller } = hands;
+    let Page { lines, before } = page;
     replace_with(
         out,
         (crew, caller),
-        move |lent: Counted<W>, hands: (Vec<Worker<T>>, Caller<T>)| -> (
+        move |lent: Counted<W>, lent_hands: (Vec<Worker<T>>, Caller<T>)| -> (
             Counted<W>,
             Result<Stats, RunFault>,
         )
-            requires { All (IsOf shared.now) hands.0.items × IsCallerOf shared.now own.now hands.1 }
+            requires { All (IsOf T.turn_of shared.now) lent_hands.0.items
+                × IsCallerOf shared.now own.now lent_hands.1 }
             ensures whole { IfOk result.1
                 (λ stats. WroteAll T.turn_of W.contents own.entry.now lines lent result.0
                 stats.turns) }
             ensures unfinished { IfErr result.1
                 (WroteSome T.turn_of W.contents own.entry.now lines lent result.0 before) }
         {
+            let hands = Hands {
+                crew: lent_hands.0,
+                caller: lent_hands.1,
+            };
             in_scope(
-                rt, alloc, shared, own, hands.0, hands.1, budget, gate, lines, before, lent,
+                Means { rt, alloc, gate },
+                shared,
+                own,
+                hands,
+                Page { lines, before },
+                lent,
             )
         },
     )
 }
 
 // The workers in threads of a scope, while this thread writes.
-fn in_scope<'x, T: Turns, W: Write + Drop, G: Gate<T>, R: Threads + Wait + Sync>(
-    rt: &'x R,
-    alloc: Global,
-    shared: &'x Shared<T>,
-    own: &'x Setup<T>,
-    crew: Vec<Worker<T>>,
-    caller: Caller<T>,
-    budget: u32,
-    gate: &'x G,
-    lines: Lines,
-    before: u64,
+fn in_scope<'x, 'y, T: Turns, W: Write + Drop, G: Gate<T>, R: Threads + Wait + Sync>(
+    means: Means<'x, G, R>,
+    shared: &'y Shared<T>,
+    own: &'y Setup<T>,
+    hands: Hands<T>,
+    page: Page,
     out: Counted<W>,
 ) -> (Counted<W>, Result<Stats, RunFault>)
-    requires crew { All (IsOf shared.now) crew.items }
-    requires caller { IsCallerOf shared.now own.now caller }
+    requires crew { All (IsOf T.turn_of shared.now) hands.crew.items }
+    requires caller { IsCallerOf shared.now own.now hands.caller }
     ensures whole { IfOk result.1
-        (λ stats. WroteAll T.turn_of W.contents own.now lines out result.0 stats.turns) }
+        (λ stats. WroteAll T.turn_of W.contents own.now page.lines out result.0 stats.turns) }
     ensures unfinished { IfErr result.1
-        (WroteSome T.turn_of W.contents own.now lines out result.0 before) }
+        (WroteSome T.turn_of W.contents own.now page.lines out result.0 page.before) }
 {
+    let Means { rt, alloc, gate } = means;
+    let Hands { crew, caller } = hands;
     thread::scope(
         thread::scope_env(),
         rt,
         move |scope| -> (Counted<W>, Result<Stats, RunFault>)
-            requires { All (IsOf shared.now) crew.items × IsCallerOf shared.now own.now caller }
+            requires { All (IsOf T.turn_of shared.now) crew.items
+                × IsCallerOf shared.now own.now caller }
             ensures whole { IfOk result.1
-                (λ stats. WroteAll T.turn_of W.contents own.entry.now lines out result.0
+                (λ stats. WroteAll T.turn_of W.contents own.entry.now page.lines out result.0
                 stats.turns) }
             ensures unfinished { IfErr result.1
-                (WroteSome T.turn_of W.contents own.entry.now lines out result.0 before) }
+                (WroteSome T.turn_of W.contents own.entry.now page.lines out result.0 page.before) }
         {
+            let mut number = 0u16;
             for worker in crew {
-                if !gate.may_start(worker.number) {
+                if !gate.may_start(number) {
                     note(rt, shared, WorkFault::ThreadRefused);
                     break;
                 }
+                number = number.wrapping_add(1);
                 let child = scope.spawn(
                     move ||
-                        requires { IsOf shared.now worker }
-                    { work(rt, alloc, shared, gate, worker, budget) },
+                        requires { IsOf T.turn_of shared.now worker }
+                    { work(rt, alloc, shared, gate, worker) },
                 );
                 if child.is_err() {
                     note(rt, shared, WorkFault::ThreadRefused);
@@ -433,7 +417,7 @@ fn in_scope<'x, T: Turns, W: Write + Drop, G: Gate<T>, R: Threads + Wait + Sync>
             }
             let mut caller = caller;
             let mut out = out;
-            let result = write_all(rt, shared, own, &mut caller, lines, before, &mut out);
+            let result = write_all(rt, shared, own, &mut caller, page, &mut out);
             if result.is_err() {
                 end(shared);
             }

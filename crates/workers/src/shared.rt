@@ -1,47 +1,45 @@
 //! What the threads of a run share.
-ghost use Rattle.std.specs.Prelude.{◌≡◌};
-ghost use Rattle.pools.specs.Passes.{holding, IsOf};
-ghost use Rattle.workers.specs.Crews.{HasExchange};
+ghost use Rattle.std.specs.Prelude.{◌≡◌, IfNone, IfSome, Some};
+ghost use Rattle.boards.specs.Passes.{IsOf, Owns, sight};
+ghost use Rattle.workers.specs.Crews.{HasTaken};
 
-use crate::crew::Lent;
+use crate::crew::{Division, Lent};
 use crate::fault::WorkFault;
+use boards::{Board, Pass};
 use crossbeam_utils::Backoff;
+use group_exchange::Stub;
 use gvt::Published;
-use pools::{Pass, Pool};
 use std::sync::atomic::{AtomicBool, AtomicU64, Ordering};
 use std::sync::{Mutex, Wait};
-use task_seed::{Setup, Turns};
+use steering::Signals;
+use task_seed::Turns;
 
-// The exchange with the leases that wait, which one thread at a time has, the first fault, whether a worker has ended, how often the calling thread
-// looked for turns, and the count of committed turns.
+// The exchange, which one thread at a time has, what workers tell each other without it, the first fault, whether a worker has ended, how often
+// the calling thread looked for turns, and the count of committed turns.
 #[derive(Drop)]
 pub(crate) struct Shared<T: Turns> {
-    pub(crate) exchange: Pool<Lent<T>, Setup<T>>,
+    pub(crate) board: Board<Lent<T>, Division<T>, Stub>,
+    pub(crate) signals: Signals,
     pub(crate) fault: Mutex<Option<WorkFault>>,
     pub(crate) ends: AtomicBool,
     pub(crate) looks: AtomicU64,
     pub(crate) published: Published,
 }
 
-// Waits for the exchange by looking again and again: who has it gives it back shortly, and a thread that slept would come late. The looks that
-// were in vain are added to `looks`.
+// Waits for the exchange by looking again and again: who has it gives it back shortly, and a thread that slept would come late.
 pub(crate) fn hold<T: Turns, R: Wait>(
     rt: &R,
     shared: &Shared<T>,
-    lock: &mut Pass<Lent<T>, Setup<T>>,
-    looks: &mut u32,
+    pass: &mut Pass<Lent<T>, Division<T>, Stub>,
 ) -> Lent<T>
-    requires { IsOf shared.now.exchange lock.old }
-    ensures lock { IsOf shared.now.exchange lock.new }
-    ensures kind { (holding lock.new).kind ≡ (holding lock.old).kind }
-    ensures held { HasExchange lock.new result }
+    requires { IsOf shared.now.board pass.old }
+    ensures { HasTaken shared.now.board pass.old result pass.new }
 {
     let backoff = Backoff::new();
     for _ in rt.forever() {
-        if let Some(lent) = shared.exchange.take(rt, lock) {
+        if let Some(lent) = shared.board.take(rt, pass) {
             return lent;
         }
-        *looks = looks.saturating_add(1);
         backoff.snooze();
     }
     unreachable!()

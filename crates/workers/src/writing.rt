@@ -1,55 +1,33 @@
 //! What the calling thread does: it writes the turns that are committed for good.
-ghost use Rattle.std.specs.Prelude.{◌≡◌, IfErr, IfOk, OnOk, [], length};
-ghost use Rattle.exchange.specs.Held.{put_all};
+ghost use Rattle.std.specs.Prelude.{◌≡◌, IfErr, IfOk, length};
 ghost use Rattle.plans.specs.Plans.{composition};
 ghost use Rattle.task_seed.specs.Setups.{plan_of, system};
-ghost use Rattle.schedules.specs.Schedules.{KeysFit};
-ghost use Rattle.trace.specs.Lines.{text_of};
-ghost use Rattle.trace.specs.Puts.{Puts};
-ghost use Rattle.workers.specs.Crews.{IsCallerOf};
-ghost use Rattle.workers.specs.Portions.{IsCutOf, IsDuePortion, IsPortion, IsStoppedIn};
+ghost use Rattle.group_exchange.specs.Held.{put_all};
+ghost use Rattle.workers.specs.Portions.{IsCutOf, IsDuePortion, IsPortion};
 ghost use Rattle.workers.specs.Runs.{WroteAll, WroteSome};
+ghost use Rattle.workers.specs.Crews.{IsCallerOf, StaysDivided};
 
 use crate::crew::Caller;
 use crate::fault::{RunFault, WorkFault, run_fault};
+use crate::portions::{Cut, Portion, put_portion};
 use crate::shared::{Shared, ends, hold, note_look, noted};
 use event_keys::Turned;
-use exchange::{Exchange, Parcel};
-use plans::Plan;
+use group_exchange::{Exchange, Parcel};
 use raw_events::EventList;
-use schedules::fits;
 use schedules::laws::turns_are_schedule;
 use std::io::Write;
 use std::sync::Wait;
 use steering::Stats;
 use steering::nap::nap;
 use task_seed::{Setup, Turns};
-use trace::{Counted, Lines, WriteFault, append_turn};
-
-// Turns that no chunk has given before, how many were given before them and with them, and whether they are the last ones.
-#[derive(Drop)]
-pub(crate) struct Portion {
-    pub(crate) turns: EventList<Turned>,
-    pub(crate) first: u64,
-    pub(crate) given: u64,
-    pub(crate) is_last: bool,
-}
-
-// The same of turns that aren't put together yet.
-#[derive(Clone, Copy)]
-pub(crate) struct Cut {
-    pub(crate) first: u64,
-    pub(crate) given: u64,
-    pub(crate) is_last: bool,
-}
+use trace::{Counted, Lines};
 
 // The next chunk of an exchange, in a parcel.
-pub(crate) fn take_cut<T: Turns>(exchange: &mut Exchange<T>, parcel: &mut Parcel) -> Cut
+fn take_cut<T: Turns>(exchange: &mut Exchange<T>, parcel: &mut Parcel) -> Cut
     requires many { length parcel.old ≡ length (composition (plan_of exchange.old.setup)) }
     ensures cut { IsCutOf (system T.turn_of exchange.old.setup) result (put_all parcel.new) }
     ensures many { length parcel.new ≡ length parcel.old }
-    ensures setup { exchange.new.setup ≡ exchange.old.setup }
-    ensures window { exchange.new.window ≡ exchange.old.window }
+    ensures divided { StaysDivided exchange.old exchange.new }
     ensures stubs { exchange.new.stubs ≡ exchange.old.stubs }
 {
     exchange.soundness_law();
@@ -78,8 +56,29 @@ fn put_together<T: Turns>(own: &Setup<T>, cut: Cut, parcel: &mut Parcel) -> Port
     }
 }
 
-// The next portion, where the published count tells that there may be one, or a worker has ended. The lock isn't taken else. The cells of what
-// was written go back to the workers.
+// With the exchange: the next chunk comes into the parcel, and the cells of what was written go to the workers.
+fn collect<T: Turns, R: Wait>(
+    rt: &R,
+    shared: &Shared<T>,
+    own: &Setup<T>,
+    caller: &mut Caller<T>,
+    spare: &mut EventList<Turned>,
+) -> Cut
+    requires { IsCallerOf shared.now own.now caller.old }
+    ensures caller { IsCallerOf shared.now own.now caller.new }
+    ensures cut { IsCutOf (system T.turn_of own.now) result (put_all caller.new.parcel) }
+{
+    let _ = own;
+    let mut lent = hold(rt, shared, &mut caller.pass);
+    let cut = take_cut(&mut lent.desk.exchange, &mut caller.parcel);
+    caller.activity = lent.desk.activity;
+    caller.activity.tally = lent.desk.exchange.tally();
+    lent.desk.spare.append_all(spare);
+    shared.board.give_back(rt, &mut caller.pass, lent);
+    cut
+}
+
+// The next portion, where the published count tells that there may be one, or a worker has ended. The lock isn't taken else.
 fn next_portion<T: Turns, R: Wait>(
     rt: &R,
     shared: &Shared<T>,
@@ -100,39 +99,8 @@ fn next_portion<T: Turns, R: Wait>(
     if let Some(fault) = noted(rt, shared) {
         return Err(fault);
     }
-    let mut looks = 0;
-    let mut lent = hold(rt, shared, &mut caller.lock, &mut looks);
-    let cut = lent.depot.take_cut(&mut caller.parcel);
-    if cut.is_last {
-        caller.activity = lent.depot.take_activity();
-    }
-    lent.depot.add_spare(spare);
-    shared.exchange.give_back(rt, &mut caller.lock, lent);
+    let cut = collect(rt, shared, own, caller, spare);
     Ok(Some(put_together(own, cut, &mut caller.parcel)))
-}
-
-// Writes the lines of a portion's turns, where so many bytes went out before. It stays a call, so that its loop has the registers to itself.
-#[inline(never)]
-fn put_portion<W: Write>(
-    plan: &Plan,
-    turns: &EventList<Turned>,
-    lines: Lines,
-    before: u64,
-    out: &mut Counted<W>,
-) -> Result<u64, WriteFault>
-    requires front { turns.now.before ≡ [] }
-    ensures keys { OnOk result (KeysFit turns.now.after) }
-    ensures ok { IfOk result (λ after. Puts W.contents out.old out.new before after
-        (text_of plan.now lines turns.now.after)) }
-    ensures err { IfErr result
-        (IsStoppedIn W.contents plan.now lines out.old out.new before turns.now.after) }
-{
-    let mut written = before;
-    for turned in turns.iter() {
-        fits(turned.key);
-        written = append_turn(plan, turned, lines, written, out)?;
-    }
-    Ok(written)
 }
 
 // Naps, unless a worker has ended: then what is left can be had at once.
@@ -142,26 +110,32 @@ fn rest<T: Turns, R: Wait>(rt: &R, shared: &Shared<T>) {
     }
 }
 
-// Writes portions until the last, where so many bytes went out before. What was written is a beginning of the text of all turns, whose actions
+// Which lines are written, and how many bytes went out before them.
+#[derive(Clone, Copy)]
+pub(crate) struct Page {
+    pub(crate) lines: Lines,
+    pub(crate) before: u64,
+}
+
+// Writes portions until the last. What was written is a beginning of the text of all turns, whose actions
 // are a schedule.
 pub(crate) fn write_all<T: Turns, W: Write, R: Wait>(
     rt: &R,
     shared: &Shared<T>,
     own: &Setup<T>,
     caller: &mut Caller<T>,
-    lines: Lines,
-    before: u64,
+    page: Page,
     out: &mut Counted<W>,
 ) -> Result<Stats, RunFault>
     requires { IsCallerOf shared.now own.now caller.old }
     ensures whole { IfOk result
-        (λ stats. WroteAll T.turn_of W.contents own.now lines out.old out.new stats.turns) }
+        (λ stats. WroteAll T.turn_of W.contents own.now page.lines out.old out.new stats.turns) }
     ensures unfinished { IfErr result
-        (WroteSome T.turn_of W.contents own.now lines out.old out.new before) }
+        (WroteSome T.turn_of W.contents own.now page.lines out.old out.new page.before) }
 {
     turns_are_schedule(own);
     let mut written = 0;
-    let mut bytes = before;
+    let mut bytes = page.before;
     let mut spare = EventList::new();
     for _ in rt.forever() {
         let mut portion = match next_portion(rt, shared, own, caller, written, &mut spare) {
@@ -175,14 +149,18 @@ pub(crate) fn write_all<T: Turns, W: Write, R: Wait>(
         if portion.first != written {
             return Err(RunFault::OutOfPlace);
         }
-        match put_portion(own.plan(), &portion.turns, lines, bytes, out) {
+        match put_portion(own.plan(), &portion.turns, page.lines, bytes, out) {
             Ok(after) => bytes = after,
             Err(fault) => return Err(RunFault::Write(fault)),
         }
         spare.append_all(&mut portion.turns);
         written = portion.given;
         if portion.is_last {
-            return Ok(caller.activity.stats(written));
+            return Ok(
+                caller
+                    .activity
+                    .stats(written, shared.signals.groups(), caller.cut),
+            );
         }
         rest(rt, shared);
     }

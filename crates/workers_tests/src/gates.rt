@@ -1,14 +1,13 @@
 //! That leases run ahead side by side, without the lock, and that what is written comes of them.
 
 use crate::rings::{TEXT, run_ring};
-use exchange::{Lease, Ran, Stop};
 use std::alloc::Global;
 use std::io::{self, Write};
 use std::sync::atomic::{AtomicBool, AtomicU64, Ordering};
 use std::thread;
 use task_seed::AnyTurns;
 use trace::Counted;
-use workers::{Gate, Summary};
+use workers::{Gate, Lease, Ran, Stop, Summary};
 
 // How many rounds a gate waits at most.
 const MOST: u32 = 1_000_000;
@@ -45,7 +44,7 @@ impl Gate<AnyTurns> for Together {
             1 => self.second.store(number, Ordering::SeqCst),
             _ => {}
         }
-        lease.run_and_tell(alloc, budget)
+        lease.run_ahead(alloc, budget)
     }
 }
 
@@ -114,14 +113,14 @@ impl<'a> Holding<'a> {
 
 impl<'a> Gate<AnyTurns> for Holding<'a> {
     fn ahead(&self, alloc: Global, lease: &mut Lease<AnyTurns>, budget: u32) -> Ran {
-        if lease.number() == 0 && self.holds() {
+        if lease.has(0) && self.holds() {
             thread::yield_now();
             return Ran {
                 count: 0,
                 stop: Stop::Budget,
             };
         }
-        lease.run_and_tell(alloc, budget)
+        lease.run_ahead(alloc, budget)
     }
 }
 

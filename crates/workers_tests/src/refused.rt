@@ -1,8 +1,8 @@
 //! Calls that are refused their memory: each request, or under `scripts/refusals.py` one of them. Where the call isn't served, it is when it is made again.
 
 use crate::exchanges::steps::setup;
-use crate::rings::{ROWS, TEXT, assert_held, page_of, ring_setup, run_ring};
-use exchange::{Exchange, Lease, Ran, Stop};
+use crate::rings::{ROWS, TEXT, assert_held, job_of, page_of, ring_setup, run_ring};
+use exchange::{Exchange, Lease as LeaseOfOne};
 use fixtures::memory::{Held, Refused, exhaust, refuse, room, serve};
 use std::alloc::{AllocGlobal, Global};
 use std::process::Abort;
@@ -10,12 +10,11 @@ use std::sync::atomic::{AtomicBool, AtomicU64, Ordering};
 use std::sync::{Arc, Mutex};
 use task_seed::{AnyTurns, TableTurns};
 use terms::{NoMemory, Refusal};
-use trace::Lines;
-use workers::{Gate, RunFault, Summary, Unheld, run};
+use workers::{Gate, Lease, Ran, RunFault, Stop, Summary, Unheld, run};
 
 type Shared = Exchange<TableTurns>;
 
-type Leases = Vec<Lease<TableTurns>>;
+type Leases = Vec<LeaseOfOne<TableTurns>>;
 
 fn started(rt: &(impl Abort + AllocGlobal)) -> (Shared, Leases) {
     let setup = Arc::new(rt.alloc(), setup(rt, 1000)).expect(rt, "memory for a setup");
@@ -43,8 +42,8 @@ fn started_later(rt: &(impl Abort + AllocGlobal), held: &mut Held) -> (Shared, L
 fn run_ahead_later(
     alloc: Global,
     held: &mut Held,
-    lease: &mut Lease<TableTurns>,
-    twin: &mut Lease<TableTurns>,
+    lease: &mut LeaseOfOne<TableTurns>,
+    twin: &mut LeaseOfOne<TableTurns>,
 ) -> bool {
     let how = refuse(alloc, held);
     let first = lease.run_ahead(alloc, 9);
@@ -87,7 +86,7 @@ struct Starving {
 
 impl Gate<AnyTurns> for Starving {
     fn ahead(&self, alloc: Global, lease: &mut Lease<AnyTurns>, budget: u32) -> Ran {
-        lease.run_and_tell(alloc, budget)
+        lease.run_ahead(alloc, budget)
     }
 
     fn may_start(&self, _worker: u16) -> bool {
@@ -112,7 +111,7 @@ struct Wanting {
 impl Gate<AnyTurns> for Wanting {
     fn ahead(&self, alloc: Global, lease: &mut Lease<AnyTurns>, budget: u32) -> Ran {
         if self.calls.fetch_add(1, Ordering::SeqCst) < self.served {
-            return lease.run_and_tell(alloc, budget);
+            return lease.run_ahead(alloc, budget);
         }
         let Ok(mut held) = room(alloc) else {
             return Ran {
@@ -121,7 +120,7 @@ impl Gate<AnyTurns> for Wanting {
             };
         };
         exhaust(alloc, &mut held);
-        let ran = lease.run_and_tell(alloc, budget);
+        let ran = lease.run_ahead(alloc, budget);
         if ran.count == 0 && ran.stop == Stop::NoMemory {
             self.is_refused.store(true, Ordering::SeqCst);
         }
@@ -174,7 +173,8 @@ fn a_refused_run_is_served_later(rt: HostRuntime) {
     let setup = Arc::new(rt.alloc(), ring_setup(&rt, &ROWS, 1000)).expect(&rt, "memory for it");
     let mut out = page_of(rt.alloc(), 100, 100);
     let how = refuse(rt.alloc(), &mut held);
-    let ran = run(&rt, rt.alloc(), setup, 2, 64, &Unheld, Lines::All, &mut out);
+    let job = job_of((2, 64), None);
+    let ran = run(&rt, rt.alloc(), setup, job, &Unheld, &mut out);
     serve(rt.alloc(), &mut held);
     let wanted = match ran {
         Ok(summary) => {

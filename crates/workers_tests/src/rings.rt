@@ -1,5 +1,5 @@
 //! Runs of the ring of two, against its text worked out by hand.
-ghost use Rattle.std.specs.Prelude.{◌≤◌};
+ghost use Rattle.std.specs.Prelude.{◌≡◌, ◌≤◌};
 
 use fixtures::ring;
 use std::alloc::{AllocGlobal, Global};
@@ -8,8 +8,8 @@ use std::process::Abort;
 use std::sync::{Arc, Wait};
 use std::thread::Threads;
 use task_seed::{AnyTurns, Row, Setup, TableTurns};
-use trace::{Counted, Lines};
-use workers::{Gate, RunFault, Summary, Unheld, run};
+use trace::{Counted, Form, Lines};
+use workers::{Gate, Job, RunFault, Summary, Unheld, Window, groups_by_trial, run};
 
 /// Component 0 has turns at the ticks 2 and 4, component 1 at 1 and 3.
 pub(crate) const ROWS: [Row; 4] = [
@@ -100,21 +100,35 @@ pub(crate) fn ring_setup(
     Setup::new(plan, AnyTurns::Table(turns), horizon).expect(rt, "a setup")
 }
 
+/// All turns by so many workers, with so many entries in a row, within this window.
+pub(crate) fn job_of(crew: (u16, u32), window: Option<Window>) -> Job
+    ensures { (result.workers ≡ crew.0) × (result.budget ≡ crew.1) }
+{
+    Job {
+        workers: crew.0,
+        budget: crew.1,
+        window,
+        form: Form {
+            lines: Lines::All,
+            head: false,
+        },
+    }
+}
+
 // Runs the ring with these turns.
 fn run_with<W: Write + Drop, G: Gate<AnyTurns>, R: Abort + Threads + Wait + Sync + AllocGlobal>(
     rt: &R,
     rows: &[Row],
     horizon: u64,
-    crew: (u16, u32),
+    job: Job,
     gate: &G,
-    lines: Lines,
     out: &mut Counted<W>,
 ) -> Result<Summary, RunFault>
-    requires workers { (1 ≤ crew.0) × (crew.0 ≤ 64) }
-    requires budget { (1 ≤ crew.1) × (crew.1 ≤ 65535) }
+    requires workers { (1 ≤ job.workers) × (job.workers ≤ 64) }
+    requires budget { (1 ≤ job.budget) × (job.budget ≤ 65535) }
 {
     let setup = Arc::new(rt.alloc(), ring_setup(rt, rows, horizon)).expect(rt, "memory for it");
-    run(rt, rt.alloc(), setup, crew.0, crew.1, gate, lines, out)
+    run(rt, rt.alloc(), setup, job, gate, out)
 }
 
 // Runs the ring with its turns.
@@ -126,7 +140,7 @@ pub(crate) fn run_ring<
     requires workers { (1 ≤ crew.0) × (crew.0 ≤ 64) }
     requires budget { (1 ≤ crew.1) × (crew.1 ≤ 65535) }
 {
-    run_with(rt, &ROWS, 1000, crew, gate, Lines::All, out)
+    run_with(rt, &ROWS, 1000, job_of(crew, None), gate, out)
 }
 
 pub(crate) fn assert_held(rt: &impl Abort, out: Counted<Narrow>, wanted: &[u8]) {
@@ -145,10 +159,13 @@ fn any_crew_writes_all(rt: HostRuntime) {
         (8, 65535),
         (64, 1),
     ] {
-        let mut out = page_of(rt.alloc(), 100, 100);
-        let ran = run_ring(&rt, crew, &Unheld, &mut out);
-        assert!(rt; ran == Ok(Summary { turns: 4 }));
-        assert_held(&rt, out, TEXT.as_bytes());
+        for window in [None, Some(Window::new(1)), Some(Window::new(65535))] {
+            let mut out = page_of(rt.alloc(), 100, 100);
+            let job = job_of(crew, window);
+            let ran = run_with(&rt, &ROWS, 1000, job, &Unheld, &mut out);
+            assert!(rt; ran == Ok(Summary { turns: 4 }));
+            assert_held(&rt, out, TEXT.as_bytes());
+        }
     }
 }
 
@@ -162,8 +179,22 @@ fn other_turns_and_lines(rt: HostRuntime) {
     ];
     for (rows, horizon, lines, count, wanted) in tables {
         let mut out = page_of(rt.alloc(), 100, 100);
-        let ran = run_with(&rt, rows, horizon, (2, 64), &Unheld, lines, &mut out);
+        let form = Form { lines, head: false };
+        let job = Job {
+            form,
+            ..job_of((2, 64), None)
+        };
+        let ran = run_with(&rt, rows, horizon, job, &Unheld, &mut out);
         assert!(rt; ran == Ok(Summary { turns: count }));
         assert_held(&rt, out, wanted.as_bytes());
+    }
+}
+
+#[test]
+fn a_run_that_is_over_within_the_trial_has_one_group(rt: HostRuntime) {
+    let setup = Arc::new(rt.alloc(), ring_setup(&rt, &ROWS, 1000)).expect(&rt, "memory for it");
+    for crew in [(1u16, 1u32), (2, 64), (64, 1)] {
+        let groups = groups_by_trial(&rt, rt.alloc(), &setup, job_of(crew, None));
+        assert_eq!(rt; groups, 1);
     }
 }

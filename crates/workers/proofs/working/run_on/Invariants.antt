@@ -1,5 +1,5 @@
-use Rattle.std.proofs.Common.{◌≡◌}
+use Rattle.workers.specs.Crews.{IsOf}
 use Rattle.workers.proofs.working.run_on.Given as goal
 
-abbrev pub invariant-loop-count : goal.invariant-loop-count
-invariant-loop-count g l = l.lease.component.setup ≡ l.initial.lease.component.setup
+abbrev pub invariant-loop : goal.invariant-loop
+invariant-loop g l = record { own : IsOf g.T.Turns.turn_of l.shared l.worker }

@@ -1,5 +1,5 @@
 use Rattle.std.proofs.Common.{refl}
-use Rattle.exchange.specs.Held.{put_all}
+use Rattle.group_exchange.specs.Held.{put_all}
 use Rattle.task_seed.specs.Setups.{system}
 use Rattle.workers.proofs.Portioned.{portioned}
 use Rattle.workers.proofs.writing.put_together.Goals as goal

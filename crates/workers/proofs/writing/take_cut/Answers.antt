@@ -1,4 +1,4 @@
-use Rattle.exchange.specs.Held.{put_all}
+use Rattle.group_exchange.specs.Held.{put_all}
 use Rattle.task_seed.specs.Setups.{system}
 use Rattle.workers.proofs.Portioned.{cut_off}
 use Rattle.workers.proofs.writing.take_cut.Goals as goal

@@ -9,7 +9,7 @@ use Rattle.plans.specs.declared.plan.Plan.{Plan}
 use Rattle.workers.specs.declared.fault.RunFault.{RunFault}
 use Rattle.workers.specs.Runs.{IsUnfinished, IsWhole}
 use Rattle.workers.proofs.Written.{begun, cut, last, more, starts, unfinished}
-use Rattle.workers.specs.declared.writing.Portion.{Portion}
+use Rattle.workers.specs.declared.portions.Portion.{Portion}
 use Rattle.workers.specs.Portions.{IsPortion, IsDuePortion, IsStoppedIn}
 use Rattle.workers.proofs.writing.write_all.Goals as goal
 
@@ -17,12 +17,12 @@ due : {s : System} (p : Portion) (o : Option Portion) → o ≡ Some p → IsDue
 due {s} p o is h = subst (IsDuePortion s) is h
 
 pub loop-init : goal.loop-init
-loop-init g c = record { caller = c.requires; sofar = starts c.args.out.now c.args.before (omega arith) }
+loop-init g c = record { caller = c.requires; sofar = starts c.args.out.now c.args.page.before (omega arith) }
 
 pub returns-in-Err-clause-unfinished : goal.returns-in-Err-clause-unfinished
 returns-in-Err-clause-unfinished g c =
     let own = c.args.own.now in
-    subst (λ (f : RunFault). IsUnfinished (plan_of own) (system g.T.Turns.turn_of own) c.args.lines (IsWritten g.W.Write.contents c.args.out.now c.loop.out) (Stops g.W.Write.contents c.args.out.now c.loop.out c.args.before) f) (sym c.run_fault.ensures)
+    subst (λ (f : RunFault). IsUnfinished (plan_of own) (system g.T.Turns.turn_of own) c.args.page.lines (IsWritten g.W.Write.contents c.args.out.now c.loop.out) (Stops g.W.Write.contents c.args.out.now c.loop.out c.args.page.before) f) (sym c.run_fault.ensures)
     (unfinished c.turns_are_schedule.ensures.below c.in-Err.fault c.loop.invariant.sofar)
 
 pub returns-then-portion-written-clause-unfinished : goal.returns-then-portion-written-clause-unfinished
@@ -33,7 +33,7 @@ returns-in-Err-put_portion-clause-unfinished g c =
     let known = g.W.Write.contents in
     let portion = c.in-Ok-Some.portion in
     let first : portion.first ≡ c.loop.written = omega arith in
-    let stopped = subst (λ (p : Plan). IsStoppedIn known p c.args.lines c.loop.out c.put_portion.new.out c.loop.bytes portion.turns.after c.in-Err-put_portion.fault) c.plan.ensures c.in-Err-put_portion.ensures.err in
+    let stopped = subst (λ (p : Plan). IsStoppedIn known p c.args.page.lines c.loop.out c.put_portion.new.out c.loop.bytes portion.turns.after c.in-Err-put_portion.fault) c.plan.ensures c.in-Err-put_portion.ensures.err in
     cut c.turns_are_schedule.ensures.below portion c.loop.invariant.sofar (due c.in-Ok-Some.portion c.in-Ok-Some.field-0 c.in-Ok-Some.field-0-is c.in-Ok-Some.ensures.portion) first stopped
 
 pub returns-then-portion-clause-whole : goal.returns-then-portion-clause-whole
@@ -42,15 +42,15 @@ returns-then-portion-clause-whole g c =
     let portion = c.in-Ok-Some.portion in
     let is = (due c.in-Ok-Some.portion c.in-Ok-Some.field-0 c.in-Ok-Some.field-0-is c.in-Ok-Some.ensures.portion) in
     let first : portion.first ≡ c.loop.written = omega arith in
-    let puts = subst (λ (p : Plan). Puts known c.loop.out c.put_portion.new.out c.loop.bytes c.in-Ok.after (text_of p c.args.lines portion.turns.after)) c.plan.ensures c.in-Ok.ensures.ok in
+    let puts = subst (λ (p : Plan). Puts known c.loop.out c.put_portion.new.out c.loop.bytes c.in-Ok.after (text_of p c.args.page.lines portion.turns.after)) c.plan.ensures c.in-Ok.ensures.ok in
     let own = c.args.own.now in
     let whole = last c.turns_are_schedule.ensures.below portion c.loop.invariant.sofar is first c.in-Ok.ensures.keys puts (is.last c.if-portion.true) in
-    subst (λ (n : ℕ). IsWhole (plan_of own) (system g.T.Turns.turn_of own) c.args.lines (IsWritten known c.args.out.now c.put_portion.new.out) n) (sym c.stats.ensures) whole
+    subst (λ (n : ℕ). IsWhole (plan_of own) (system g.T.Turns.turn_of own) c.args.page.lines (IsWritten known c.args.out.now c.put_portion.new.out) n) (sym c.stats.ensures) whole
 
 pub loop-preserved : goal.loop-preserved
 loop-preserved g c =
     let known = g.W.Write.contents in
     let portion = c.in-Ok-Some.portion in
     let first : portion.first ≡ c.loop.written = omega arith in
-    let puts = subst (λ (p : Plan). Puts known c.loop.out c.put_portion.new.out c.loop.bytes c.in-Ok.after (text_of p c.args.lines portion.turns.after)) c.plan.ensures c.in-Ok.ensures.ok in
+    let puts = subst (λ (p : Plan). Puts known c.loop.out c.put_portion.new.out c.loop.bytes c.in-Ok.after (text_of p c.args.page.lines portion.turns.after)) c.plan.ensures c.in-Ok.ensures.ok in
     record { caller = c.next_portion.ensures.caller; sofar = more portion c.loop.invariant.sofar (due c.in-Ok-Some.portion c.in-Ok-Some.field-0 c.in-Ok-Some.field-0-is c.in-Ok-Some.ensures.portion) first c.in-Ok.ensures.keys puts }

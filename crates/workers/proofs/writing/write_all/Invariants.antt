@@ -6,5 +6,5 @@ use Rattle.workers.proofs.writing.write_all.Given as goal
 abbrev pub invariant-loop : goal.invariant-loop
 invariant-loop g l = record {
   caller : IsCallerOf l.shared l.own l.caller;
-  sofar : Sofar g.W.Write.contents (plan_of l.own) (system g.T.Turns.turn_of l.own) l.lines l.initial.out l.out l.before l.written l.bytes;
+  sofar : Sofar g.W.Write.contents (plan_of l.own) (system g.T.Turns.turn_of l.own) l.page.lines l.initial.out l.out l.page.before l.written l.bytes;
 }

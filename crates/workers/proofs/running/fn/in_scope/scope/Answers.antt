@@ -1,3 +1,7 @@
+use Rattle.std.proofs.Common.{All, subst, sym}
+use Rattle.std.proofs.lemmas.List.Elements.{All-head, All-rest}
+use Rattle.workers.specs.declared.crew.Worker.{Worker as WorkerSeen}
+use Rattle.workers.specs.Crews.{IsOf}
 use denote.Param.{param}
 use Rattle.std.proofs.Crossing as crossing
 use denote.Param.Send.{IsSend, IsSync, sendable}
@@ -17,3 +21,28 @@ spawn-child-requires-send-F g c κs within =
     let gate : IsSync (param 2 g.row.G) = search rules parts 8 in
     let rt : IsSync (param 3 g.row.R) = search rules parts 8 in
     search (crossing.crosses, sendable) depth 60 fits 20000
+
+pub loop-worker-init : goal.loop-worker-init
+loop-worker-init g c = record {
+  can = tt;
+  ends = tt;
+  crew = subst (All (IsOf g.T.Turns.turn_of c.captures.shared.now)) (sym c.into_iter-worker-iterator.ensures.into_iter_gives.0) c.requires.0;
+  caller = c.requires.1;
+}
+
+pub spawn-child-requires-after_bounds : goal.spawn-child-requires-after_bounds
+spawn-child-requires-after_bounds g c κs within =
+    let P : WorkerSeen g.row.T.Denot → Type 0 = IsOf g.T.Turns.turn_of c.captures.shared.now in
+    let worker : P c.in-Some.worker = All-head P c.in-Some.worker c.next.new.self.rest.items (subst (All P) c.in-Some.ensures.steps.0 c.loop-worker.invariant.crew) in
+    (worker, search rules parts 8)
+
+pub loop-worker-preserved-else-is_err : goal.loop-worker-preserved-else-is_err
+loop-worker-preserved-else-is_err g c =
+    let P : WorkerSeen g.row.T.Denot → Type 0 = IsOf g.T.Turns.turn_of c.captures.shared.now in
+    let i = c.loop-worker.invariant in
+    record {
+      can = i.can;
+      ends = i.ends;
+      crew = All-rest P c.in-Some.worker c.next.new.self.rest.items c.loop-worker.worker-iterator.rest.items c.in-Some.ensures.steps.0 i.crew;
+      caller = i.caller;
+    }
