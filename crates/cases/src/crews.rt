@@ -2,8 +2,8 @@
 
 use std::alloc::{AllocError, Global};
 
-/// The numbers of workers and the budgets with which each run that is done to its end has to come out the same, unless its case is for its own
-/// words alone.
+/// The numbers of groups, each with a worker of its own, and the budgets with which each run that is done to its end has to come out the same,
+/// unless its case is for its own words alone.
 pub const CREWS: [(&str, &str); 8] = [
     ("1", "1"),
     ("1", "64"),
@@ -28,10 +28,10 @@ pub fn owned(alloc: Global, words: &[&str]) -> Result<Vec<String>, AllocError> {
 pub fn with_crew(
     alloc: Global,
     words: &[String],
-    workers: &str,
+    groups: &str,
     budget: &str,
 ) -> Result<Vec<String>, AllocError> {
-    let mut crewed = owned(alloc, &["run", "--workers", workers, "--budget", budget])?;
+    let mut crewed = owned(alloc, &["run", "--groups", groups, "--budget", budget])?;
     push_others(alloc, words, &mut crewed)?;
     Ok(crewed)
 }
@@ -47,9 +47,12 @@ fn push_others(
         let word = word.as_str();
         if is_value {
             is_value = false;
-        } else if word == "--workers" || word == "--budget" {
+        } else if word == "--workers" || word == "--groups" || word == "--budget" {
             is_value = true;
-        } else if !word.starts_with("--workers=") && !word.starts_with("--budget=") {
+        } else if !word.starts_with("--workers=")
+            && !word.starts_with("--groups=")
+            && !word.starts_with("--budget=")
+        {
             crewed.push(String::from_str(alloc, word)?)?;
         }
     }

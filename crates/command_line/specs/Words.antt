@@ -47,10 +47,11 @@ reference_app = simulating (of_file (codes "reference") (codes "F"))
 -- a subcommand that workers carry out
 abbrev pub manned : App → App
 manned app =
-    with_rule (with_rule (with_rule (with_rule app
+    with_rule (with_rule (with_rule (with_rule (with_rule app
     (number_rule (codes "workers") (codes "2") (Unsigned 1 64)))
     (number_rule (codes "budget") (codes "64") (Unsigned 1 65535)))
     (optional_rule (codes "window") (Unsigned 1 65535)))
+    (optional_rule (codes "groups") (Unsigned 1 64)))
     (flag_rule (codes "stats"))
 
 abbrev pub run_app : App
@@ -102,11 +103,12 @@ pub record HasOptions (rows : List Row) (options : Options) : Type 0 where
   pub head : IsFlag (first_of (codes "head") rows) options.head
   pub progress : IsFlag (first_of (codes "progress") rows) options.progress
 
--- the workers, how far each runs ahead, their window, and whether they tell what they did, as they were entered
+-- the workers, how far each runs ahead, their window, their groups, and whether they tell what they did, as they were entered
 pub record HasCrew (rows : List Row) (crew : Crew) : Type 0 where
   pub workers : IsNumber rows (codes "workers") 1 64 crew.workers
   pub budget : IsNumber rows (codes "budget") 1 65535 crew.budget
   pub window : IsChosen rows (codes "window") 1 65535 crew.window
+  pub groups : IsChosen rows (codes "groups") 1 64 crew.groups
   pub stats : IsFlag (first_of (codes "stats") rows) crew.stats
 
 -- what was entered is this subcommand, with this file and these options

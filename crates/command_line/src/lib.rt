@@ -419,13 +419,14 @@ fn add_crew<'a>(
     let workers = value_parser!(u64).range(1..65);
     let budgets = value_parser!(u64).range(1..65_536);
     let windows = value_parser!(u64).range(1..65_536);
+    let groups = value_parser!(u64).range(1..65);
     let command = add_number(
         alloc,
         command,
         "workers",
         "2",
         workers,
-        "How many workers run the components",
+        "How many workers run the components at most",
     );
     let command = add_number(
         alloc,
@@ -441,6 +442,13 @@ fn add_crew<'a>(
         "window",
         windows,
         "How many turns of its own a component may have done that aren't committed",
+    );
+    let command = add_optional(
+        alloc,
+        command,
+        "groups",
+        groups,
+        "How many groups of components there are, each with a worker; without it a trial finds how many",
     );
     add_flag(
         alloc,
@@ -686,28 +694,41 @@ fn crew_of(found: &ArgMatches) -> Option<Crew>
 {
     let workers = number_of(found, "workers", 1, 64)?;
     let budget = number_of(found, "budget", 1, 65_535)?;
-    let window = window_of(found)?;
+    let window = chosen_of(found, "window", 65_535)?;
+    let groups = chosen_of(found, "groups", 64)?;
     Some(Crew {
         workers: workers as u16,
         budget: budget as u32,
-        window,
+        window: widened(window),
+        groups,
         stats: is_set(found, "stats"),
     })
 }
 
-// The window, if one was entered, in its range.
-fn window_of(found: &ArgMatches) -> Option<Option<u32>>
-    ensures chosen { MatchOption result
-        ((w : Option ℕ) → IsChosen (rows_of (found_of found.now)) (codes "window") 1 65535 w → ⊥)
-        (IsChosen (rows_of (found_of found.now)) (codes "window") 1 65535) }
-    ensures some { IfSome result (λ window. 1 ≤ or_one window) }
-    ensures small { IfSome result (λ window. or_one window ≤ 65535) }
+// The same number in more bits.
+fn widened(number: Option<u16>) -> Option<u32>
+    ensures { result ≡ number }
 {
-    let Some(_entered) = file_of(found, "window") else {
+    match number {
+        Some(number) => Some(u32::from(number)),
+        None => None,
+    }
+}
+
+// The number that was entered for an option, from 1 to the greatest, or none where none was.
+fn chosen_of(found: &ArgMatches, name: &str, most: u16) -> Option<Option<u16>>
+    requires { 1 ≤ most }
+    ensures chosen { MatchOption result
+        ((n : Option ℕ) → IsChosen (rows_of (found_of found.now)) name.now 1 most n → ⊥)
+        (IsChosen (rows_of (found_of found.now)) name.now 1 most) }
+    ensures some { IfSome result (λ n. 1 ≤ or_one n) }
+    ensures small { IfSome result (λ n. or_one n ≤ most) }
+{
+    let Some(_entered) = file_of(found, name) else {
         return Some(None);
     };
-    let window = number_of(found, "window", 1, 65_535)?;
-    Some(Some(window as u32))
+    let number = number_of(found, name, 1, u64::from(most))?;
+    Some(Some(number as u16))
 }
 
 // The number that stands for an option, if it is in a range.

@@ -3,7 +3,7 @@ use Rattle.std.proofs.Common.{◌≡◌, inl, inr, ℕ, List, refl}
 use Rattle.std.specs.Prelude.{Bool, true, false, Option, None}
 use Rattle.plans.specs.declared.plan.Plan.{Plan}
 use Rattle.task_seed.specs.Turning.{System}
-use Rattle.exchange.specs.declared.judging.MeetRefused.TheVariants.{OtherSetup, Stranger}
+use Rattle.group_exchange.specs.declared.judging.MeetRefused.TheVariants.{NoMemory, OtherSetup, Stranger}
 use Rattle.trace.specs.declared.counted.Counted.{Counted}
 use Rattle.trace.specs.declared.texts.Form.{Form}
 use Rattle.trace.specs.Headed.{Behind, headed}
@@ -29,6 +29,7 @@ module _ {W : Type 0} (known : W → Option (List ℕ)) (old new : Counted W) (p
   -- a run that ended early
   pub unfinished_reported : (e : RunFault) → IsUnfinished plan system form.lines (Behind form.head (IsWritten known old new)) (λ text. Stops known old new 0 (headed form.head text)) e → IsCrewReport plan system form stats kept (IsWritten known old new) (IsStopped known old new) (report_of (run_number e) None)
   unfinished_reported fault.NoMemory left = inl (inl refl, inr left)
+  unfinished_reported (fault.Meeting NoMemory) left = inl (inl refl, inr left)
   unfinished_reported (fault.Meeting OtherSetup) left = inl (inr (inl refl), inr left)
   unfinished_reported (fault.Meeting Stranger) left = inl (inr (inr (inl refl)), inr left)
   unfinished_reported (fault.Write failed) left = inr (record {

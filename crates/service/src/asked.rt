@@ -20,18 +20,17 @@ use std::alloc::Global;
 use std::io::Write;
 use std::sync::Wait;
 use std::thread::Threads;
+use std::time::Clock;
 use trace::Counted;
 use workers::Unheld;
 
 /// Does what is asked for.
-pub(crate) fn do_asked<F: Files, L: Looks + Sync, W: Write + Drop, R: Threads + Wait + Sync>(
-    rt: &R,
-    alloc: Global,
-    asked: Asked,
-    files: &F,
-    looks: &L,
-    out: &mut Counted<W>,
-) -> Report
+pub(crate) fn do_asked<
+    F: Files,
+    L: Looks + Sync,
+    W: Write + Drop,
+    R: Threads + Wait + Sync + Clock,
+>(rt: &R, alloc: Global, asked: Asked, files: &F, looks: &L, out: &mut Counted<W>) -> Report
     ensures report { IsReportOn asked.entry (F.has files.now) (F.lacks files.now)
         (out.new ≡ out.old) (IsWritten W.contents out.old out.new)
         (IsStopped W.contents out.old out.new) result }
@@ -167,7 +166,7 @@ fn with_table<'a>(source: &'a str, options: Options<'a>) -> Subject<'a>
 }
 
 // Simulates by workers, whose gate holds nobody.
-fn run_file<F: Files, W: Write + Drop, R: Threads + Wait + Sync>(
+fn run_file<F: Files, W: Write + Drop, R: Threads + Wait + Sync + Clock>(
     rt: &R,
     alloc: Global,
     source: &str,

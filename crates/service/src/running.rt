@@ -1,6 +1,7 @@
 //! The engine of `run`, over bytes.
-ghost use Rattle.std.specs.Prelude.{◌≡◌};
+ghost use Rattle.std.specs.Prelude.{◌≡◌, ◌≤◌};
 ghost use Rattle.std.specs.Arc.{arc_value};
+ghost use Rattle.task_seed.specs.Any.{any_turn};
 ghost use Rattle.task_seed.specs.Setups.{plan_of, system};
 ghost use Rattle.trace.specs.Went.{IsStopped, IsWritten};
 ghost use Rattle.service.specs.Crews.{IsCrewReport, IsRunReport, done};
@@ -14,15 +15,17 @@ use std::alloc::Global;
 use std::io::Write;
 use std::sync::{Arc, Wait};
 use std::thread::Threads;
+use std::time::Clock;
+use steering::Stats;
 use task_seed::{AnyTurns, Setup, Turns};
 use trace::{Counted, Form};
-use workers::{Gate, Stats, Window, run_with_stats};
+use workers::{Gate, Job, Window, groups_by_trial, run_with_stats};
 
-/// Simulates the composition of a source by workers, with the turns that are given up to the last tick, and writes the lines of the turns as
+/// Simulates the composition of a source by workers, as many as a trial finds fastest, if no number of groups is asked for; with the turns that are given up to the last tick, and writes the lines of the turns as
 /// they are committed, behind the head where it is asked for. The source is judged before the turns.
 ///
 /// It may wait. What went out is a beginning of the text of the simulator by one thread, and all of it where the report is `Done` or `Ran`.
-pub fn run_source<W: Write + Drop, G: Gate<AnyTurns>, R: Threads + Wait + Sync>(
+pub fn run_source<W: Write + Drop, G: Gate<AnyTurns>, R: Threads + Wait + Sync + Clock>(
     rt: &R,
     alloc: Global,
     source: &[u8],
@@ -44,16 +47,16 @@ pub fn run_source<W: Write + Drop, G: Gate<AnyTurns>, R: Threads + Wait + Sync>(
 }
 
 /// Runs a setup.
-pub(crate) fn run_setup<T: Turns, W: Write + Drop, G: Gate<T>, R: Threads + Wait + Sync>(
+pub(crate) fn run_setup<W: Write + Drop, G: Gate<AnyTurns>, R: Threads + Wait + Sync + Clock>(
     rt: &R,
     alloc: Global,
-    setup: Setup<T>,
+    setup: Setup<AnyTurns>,
     crew: Crew,
     gate: &G,
     form: Form,
     out: &mut Counted<W>,
 ) -> Report
-    ensures { IsCrewReport (plan_of setup) (system T.turn_of setup) form crew.stats
+    ensures { IsCrewReport (plan_of setup) (system any_turn setup) form crew.stats
         (out.new ≡ out.old) (IsWritten W.contents out.old out.new)
         (IsStopped W.contents out.old out.new) result }
 {
@@ -61,19 +64,34 @@ pub(crate) fn run_setup<T: Turns, W: Write + Drop, G: Gate<T>, R: Threads + Wait
         Ok(shared) => shared,
         Err(_refused) => return Report::Fault(1),
     };
-    match run_with_stats(
-        rt,
-        alloc,
-        window_of(crew),
-        shared,
-        crew.workers,
-        crew.budget,
-        gate,
+    let job = Job {
+        workers: crew.workers,
+        budget: crew.budget,
+        window: window_of(crew),
         form,
-        out,
-    ) {
+    };
+    let workers = groups_of(rt, alloc, &shared, crew, job);
+    match run_with_stats(rt, alloc, shared, Job { workers, ..job }, gate, out) {
         Ok(counts) => done(crew.stats, counts),
         Err(fault) => report_of(&fault),
+    }
+}
+
+// The groups that are asked for, or else what a trial finds.
+fn groups_of<R: Threads + Wait + Sync + Clock>(
+    rt: &R,
+    alloc: Global,
+    setup: &Arc<Setup<AnyTurns>>,
+    crew: Crew,
+    job: Job,
+) -> u16
+    requires workers { (1 ≤ job.workers) × (job.workers ≤ 64) }
+    requires budget { (1 ≤ job.budget) × (job.budget ≤ 65535) }
+    ensures { (1 ≤ result) × (result ≤ 64) }
+{
+    match crew.groups {
+        Some(groups) => groups,
+        None => groups_by_trial(rt, alloc, setup, job),
     }
 }
 

@@ -21,6 +21,7 @@ use std::alloc::{AllocError, Global};
 use std::io::Write;
 use std::sync::Wait;
 use std::thread::Threads;
+use std::time::Clock;
 use terms::Refusal;
 use trace::{Counted, write_text};
 
@@ -29,7 +30,13 @@ use trace::{Counted, write_text};
 /// `looks` of each seed that was looked at. It may wait where `run` is asked for.
 ///
 /// A flush that fails is the fault of a failed write (60). The lines of the steps that `drive` refused, and of what workers did, come after it.
-pub fn serve<F: Files, L: Looks + Sync, W: Write + Drop, E: Write, R: Threads + Wait + Sync>(
+pub fn serve<
+    F: Files,
+    L: Looks + Sync,
+    W: Write + Drop,
+    E: Write,
+    R: Threads + Wait + Sync + Clock,
+>(
     rt: &R,
     alloc: Global,
     words: &[String],
@@ -52,7 +59,13 @@ pub fn serve<F: Files, L: Looks + Sync, W: Write + Drop, E: Write, R: Threads + 
 /// behind that of a file that isn't read its name and why. Of a failed write (60) nothing is said: whoever holds the writer knows why it failed.
 ///
 /// For that a file may be read once more, and has to have what it had.
-pub fn serve_person<F: Files, L: Looks + Sync, W: Write + Drop, E: Write, R: Threads + Wait + Sync>(
+pub fn serve_person<
+    F: Files,
+    L: Looks + Sync,
+    W: Write + Drop,
+    E: Write,
+    R: Threads + Wait + Sync + Clock,
+>(
     rt: &R,
     alloc: Global,
     words: &[String],
@@ -106,7 +119,7 @@ fn tell_why<F: Files, E: Write>(
     }
 }
 
-fn answer<F: Files, L: Looks + Sync, W: Write + Drop, E: Write, R: Threads + Wait + Sync>(
+fn answer<F: Files, L: Looks + Sync, W: Write + Drop, E: Write, R: Threads + Wait + Sync + Clock>(
     rt: &R,
     alloc: Global,
     words: &[String],
@@ -147,7 +160,13 @@ fn flushed<W: Write>(report: Report, out: &mut Counted<W>) -> Report
 }
 
 // The report, before the output is flushed.
-fn answer_words<F: Files, L: Looks + Sync, W: Write + Drop, E: Write, R: Threads + Wait + Sync>(
+fn answer_words<
+    F: Files,
+    L: Looks + Sync,
+    W: Write + Drop,
+    E: Write,
+    R: Threads + Wait + Sync + Clock,
+>(
     rt: &R,
     alloc: Global,
     words: &[String],

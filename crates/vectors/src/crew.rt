@@ -1,4 +1,4 @@
-//! Sources by 1 to 8 workers, beside the one-thread simulator.
+//! Sources in 1 to 8 groups of components, each with a worker of its own, beside the one-thread simulator.
 
 use crate::given::Given;
 use crate::served::{Place, ask};
@@ -7,19 +7,20 @@ use fixtures::Count;
 use std::alloc::Global;
 use std::sync::Wait;
 use std::thread::Threads;
+use std::time::Clock;
 
 // How often a source is run, in all.
 const RUNS: u64 = 200;
 
-const WORKERS: [&str; 8] = [
-    "--workers=1",
-    "--workers=2",
-    "--workers=3",
-    "--workers=4",
-    "--workers=5",
-    "--workers=6",
-    "--workers=7",
-    "--workers=8",
+const GROUPS: [&str; 8] = [
+    "--groups=1",
+    "--groups=2",
+    "--groups=3",
+    "--groups=4",
+    "--groups=5",
+    "--groups=6",
+    "--groups=7",
+    "--groups=8",
 ];
 
 const BUDGETS: [&str; 5] = [
@@ -47,7 +48,7 @@ const GAPS: [&str; 2] = ["--gap=20", "--gap=3"];
 const LEAST_GAPS: [&str; 2] = ["--stream=0", "--from-zero"];
 
 /// What the program writes to these words; nothing where it fails, or writes an error.
-pub fn written<R: Threads + Wait + Sync>(
+pub fn written<R: Threads + Wait + Sync + Clock>(
     rt: &R,
     alloc: Global,
     words: &[&str],
@@ -67,7 +68,7 @@ pub fn written<R: Threads + Wait + Sync>(
 }
 
 // Whether run number k of a source writes just what one thread does, and something.
-fn is_same<R: Threads + Wait + Sync>(
+fn is_same<R: Threads + Wait + Sync + Clock>(
     rt: &R,
     alloc: Global,
     k: u64,
@@ -78,7 +79,7 @@ fn is_same<R: Threads + Wait + Sync>(
 }
 
 // The same by the word of a seed.
-fn is_same_by<R: Threads + Wait + Sync>(
+fn is_same_by<R: Threads + Wait + Sync + Clock>(
     rt: &R,
     alloc: Global,
     k: u64,
@@ -102,7 +103,7 @@ fn is_same_by<R: Threads + Wait + Sync>(
         TICKS[turns],
         GAPS[turns],
         LEAST_GAPS[turns],
-        WORKERS[(k % 8) as usize],
+        GROUPS[(k % 8) as usize],
         BUDGETS[(k % 5) as usize],
         window,
     ];
@@ -112,8 +113,8 @@ fn is_same_by<R: Threads + Wait + Sync>(
     Ok(given.as_slice() == wanted.as_slice() && !wanted.is_empty())
 }
 
-/// Runs the sources in turn by 1 to 8 workers, 200 times in all, and counts how often the program writes just what it writes by one thread.
-pub fn run_all<R: Threads + Wait + Sync + Eprint>(
+/// Runs the sources in turn in 1 to 8 groups, 200 times in all, and counts how often the program writes just what it writes by one thread.
+pub fn run_all<R: Threads + Wait + Sync + Clock + Eprint>(
     rt: &R,
     alloc: Global,
     texts: &[String],

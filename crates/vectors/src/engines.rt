@@ -10,6 +10,7 @@ use service::running::run_source;
 use std::alloc::Global;
 use std::sync::Wait;
 use std::thread::Threads;
+use std::time::Clock;
 use trace::{Counted, Form, Lines};
 use workers::Unheld;
 
@@ -54,7 +55,7 @@ fn came_to(alloc: Global, report: &Report, out: Counted<Narrow>, text: &str, sai
 }
 
 // Whether one thread, and three workers, write and say what a row wants.
-fn are_simulated<R: Threads + Wait + Sync>(
+fn are_simulated<R: Threads + Wait + Sync + Clock>(
     rt: &R,
     alloc: Global,
     row: &(&str, &str, u64, &str, &str),
@@ -65,6 +66,7 @@ fn are_simulated<R: Threads + Wait + Sync>(
         workers: 3,
         budget: 2,
         window: Some(2),
+        groups: Some(3),
         stats: false,
     };
     let mut out = Counted::new(Narrow::wide(alloc));
@@ -101,7 +103,7 @@ fn tell<R: Eprint>(rt: &R, count: &mut Count, is_well: bool, name: &str) -> anyh
 }
 
 /// Calls the engines with bytes, and counts how often they write and say what they have to.
-pub fn try_engines<R: Threads + Wait + Sync + Eprint>(
+pub fn try_engines<R: Threads + Wait + Sync + Clock + Eprint>(
     rt: &R,
     alloc: Global,
     count: &mut Count,

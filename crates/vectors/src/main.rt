@@ -8,9 +8,10 @@
 //! (`null`: it is accepted) and the token at which it stands. For the composition: the same under the name `composed`, and the number of the
 //! component.
 //!
-//! A file whose name ends with `.ioa` is a source, which is run by 1 to 8 workers and has to come out as by one thread, 200 runs of all sources.
+//! A file whose name ends with `.ioa` is a source, which is run in 1 to 8 groups and has to come out as by one thread, 200 runs of all sources.
 //!
-//! A file whose name ends with `.grammar` gives 10,000 sources, which have to come out as by a simulator that makes each tuple of parameters.
+//! A file whose name ends with `.grammar` gives 2,500 sources, or 10,000 with `all:` before its name, which have to come out as by a simulator that
+//! makes each tuple of parameters.
 //!
 //! Two words name no file. `engines` calls the engines that take bytes. `lists` has `fixtures` drive worlds by twelve lists of steps whose replies
 //! are known; worlds of four small compositions by a thousand random lists of steps, whose committed turns are compared with those of the
@@ -28,7 +29,7 @@ mod solved;
 use crate::crew::run_all;
 use crate::engines::try_engines;
 use crate::served::comes_out;
-use crate::solved::try_sources;
+use crate::solved::{ALL_SOURCES, SOURCES, try_sources};
 use cases::Case;
 use fixtures::Count;
 use fixtures::lists::try_lists;
@@ -37,6 +38,7 @@ use std::process::ExitCode;
 use std::rt::Files;
 use std::sync::Wait;
 use std::thread::Threads;
+use std::time::Clock;
 use std::{env, fs};
 
 fn main(rt: HostRuntime) -> anyhow::Result<ExitCode> {
@@ -55,7 +57,7 @@ fn main(rt: HostRuntime) -> anyhow::Result<ExitCode> {
 }
 
 // Tries the lists, the engines, the cases of a file or the sources of a grammar; a source is kept.
-fn try_word<R: AllocGlobal + Files + Threads + Wait + Sync + Eprint>(
+fn try_word<R: AllocGlobal + Files + Threads + Wait + Sync + Clock + Eprint>(
     rt: &R,
     alloc: Global,
     word: &str,
@@ -68,18 +70,22 @@ fn try_word<R: AllocGlobal + Files + Threads + Wait + Sync + Eprint>(
     if word == "engines" {
         return try_engines(rt, alloc, count);
     }
+    if let Some(name) = word.strip_prefix("all:") {
+        let text = fs::read_to_string(rt, name)?;
+        return try_sources(rt, alloc, text.as_str(), ALL_SOURCES, count);
+    }
     let text = fs::read_to_string(rt, word)?;
     if word.ends_with(".ioa") {
         return Ok(sources.push(text)?);
     }
     if word.ends_with(".grammar") {
-        return try_sources(rt, alloc, text.as_str(), count);
+        return try_sources(rt, alloc, text.as_str(), SOURCES, count);
     }
     try_all(rt, alloc, word, text.as_str(), count)
 }
 
 // Tries the cases of a file.
-fn try_all<R: Threads + Wait + Sync + Eprint>(
+fn try_all<R: Threads + Wait + Sync + Clock + Eprint>(
     rt: &R,
     alloc: Global,
     name: &str,
@@ -96,7 +102,11 @@ fn try_all<R: Threads + Wait + Sync + Eprint>(
     Ok(())
 }
 
-fn has_passed<R: Threads + Wait + Sync>(rt: &R, alloc: Global, line: &str) -> anyhow::Result<bool> {
+fn has_passed<R: Threads + Wait + Sync + Clock>(
+    rt: &R,
+    alloc: Global,
+    line: &str,
+) -> anyhow::Result<bool> {
     let case = Case::read(alloc, line)?;
     let has_passed = comes_out(rt, alloc, &case);
     drop(case);

@@ -9,6 +9,7 @@ use std::alloc::{AllocError, Global};
 use std::sync::Wait;
 use std::sync::atomic::{AtomicU64, Ordering};
 use std::thread::Threads;
+use std::time::Clock;
 use trace::Counted;
 
 // How many seeds were looked at.
@@ -45,7 +46,7 @@ pub struct Place {
 }
 
 /// Asks the service with these words.
-pub fn ask<R: Threads + Wait + Sync>(
+pub fn ask<R: Threads + Wait + Sync + Clock>(
     rt: &R,
     alloc: Global,
     words: &[String],
@@ -94,7 +95,7 @@ impl Answer {
 }
 
 /// Whether a case comes out as it should. Where workers are asked for it may wait.
-pub fn comes_out<R: Threads + Wait + Sync>(
+pub fn comes_out<R: Threads + Wait + Sync + Clock>(
     rt: &R,
     alloc: Global,
     case: &Case,
@@ -106,7 +107,7 @@ pub fn comes_out<R: Threads + Wait + Sync>(
 }
 
 // Whether the service answers with the wanted status and texts: to the words of the case, and to a run for each crew with every other one.
-fn is_served<R: Threads + Wait + Sync>(
+fn is_served<R: Threads + Wait + Sync + Clock>(
     rt: &R,
     alloc: Global,
     case: &Case,
@@ -118,8 +119,8 @@ fn is_served<R: Threads + Wait + Sync>(
     if !case.is_for_each_crew(words.as_slice()) {
         return Ok(true);
     }
-    for (workers, budget) in CREWS {
-        let crewed = with_crew(alloc, words.as_slice(), workers, budget)?;
+    for (groups, budget) in CREWS {
+        let crewed = with_crew(alloc, words.as_slice(), groups, budget)?;
         if !is_answered(rt, alloc, case, crewed.as_slice())? {
             return Ok(false);
         }
@@ -127,7 +128,7 @@ fn is_served<R: Threads + Wait + Sync>(
     Ok(true)
 }
 
-fn is_answered<R: Threads + Wait + Sync>(
+fn is_answered<R: Threads + Wait + Sync + Clock>(
     rt: &R,
     alloc: Global,
     case: &Case,

@@ -9,3 +9,6 @@ returns-in_err-budget c = nothing _ _ _ c.from_residual-in_err-budget.ensures (�
 
 pub returns-in_err-window : goal.returns-in_err-window
 returns-in_err-window c = nothing _ _ _ c.from_residual-in_err-window.ensures (λ crew h. c.in_err-window.ensures.chosen crew.window h.window)
+
+pub returns-in_err-groups : goal.returns-in_err-groups
+returns-in_err-groups c = nothing _ _ _ c.from_residual-in_err-groups.ensures (λ crew h. c.in_err-groups.ensures.chosen crew.groups h.groups)

@@ -1,4 +1,5 @@
 use Rattle.std.proofs.Common.{◌≡◌, ℕ, List, subst, sym}
+use Rattle.task_seed.specs.Any.{any_turn}
 use Rattle.task_seed.specs.Setups.{plan_of, system}
 use Rattle.trace.specs.Headed.{Behind, headed}
 use Rattle.trace.specs.Puts.{Stops}
@@ -14,11 +15,11 @@ returns-in-Err-run_with_stats g c =
     let old = c.args.out.now in
     let new = c.run_with_stats.new.out in
     let plan = plan_of c.args.setup in
-    let turns = system g.T.Turns.turn_of c.args.setup in
+    let turns = system any_turn c.args.setup in
     let kept : Type 0 = new ≡ old in
     let wrote : List ℕ → Type 0 = IsWritten known old new in
     let left =
-    subst (λ s. IsUnfinished (plan_of s) (system g.T.Turns.turn_of s) c.args.form.lines (Behind c.args.form.head wrote) (λ text. Stops known old new 0 (headed c.args.form.head text)) c.in-Err-run_with_stats.fault) c.in-Ok.ensures.ok
+    subst (λ s. IsUnfinished (plan_of s) (system any_turn s) c.args.form.lines (Behind c.args.form.head wrote) (λ text. Stops known old new 0 (headed c.args.form.head text)) c.in-Err-run_with_stats.fault) c.in-Ok.ensures.ok
     c.in-Err-run_with_stats.ensures.unfinished in
     subst (IsCrewReport plan turns c.args.form c.args.crew.stats kept wrote (IsStopped known old new)) (sym c.report_of.ensures)
     (unfinished_reported known old new plan turns c.args.form c.args.crew.stats kept c.in-Err-run_with_stats.fault left)
@@ -29,10 +30,10 @@ returns-in-Ok-run_with_stats g c =
     let old = c.args.out.now in
     let new = c.run_with_stats.new.out in
     let plan = plan_of c.args.setup in
-    let turns = system g.T.Turns.turn_of c.args.setup in
+    let turns = system any_turn c.args.setup in
     let kept : Type 0 = new ≡ old in
     let wrote : List ℕ → Type 0 = IsWritten known old new in
     let counts = c.in-Ok-run_with_stats.counts in
-    let whole = subst (λ s. IsWhole (plan_of s) (system g.T.Turns.turn_of s) c.args.form.lines (Behind c.args.form.head wrote) counts.turns) c.in-Ok.ensures.ok c.in-Ok-run_with_stats.ensures.whole in
+    let whole = subst (λ s. IsWhole (plan_of s) (system any_turn s) c.args.form.lines (Behind c.args.form.head wrote) counts.turns) c.in-Ok.ensures.ok c.in-Ok-run_with_stats.ensures.whole in
     subst (IsCrewReport plan turns c.args.form c.args.crew.stats kept wrote (IsStopped known old new)) (sym c.done.ensures)
     (done_reported known old new plan turns c.args.form c.args.crew.stats kept counts whole)
