@@ -1,7 +1,7 @@
 #!/usr/bin/env python3
 """Compares `run` with `reference` byte by byte, so often: examples, token rings of 2 to 16, PHOLD and generated sources, turns of seeds, with gaps from 1
-or from 0, or of tables with many turns in one tick, 1 to 64 workers, budgets of 1 to 65,535, no window or one of 1 to 8 or 65,535 turns, all drawn
-together. Prints the command of each run that differs, or is still there after 20 seconds, and how many there are of both; its status is 1 if any is.
+or from 0, or of tables with many turns in one tick, 1 to 64 workers at most or just 1 to 64 groups, budgets of 1 to 65,535, no window or one of 1 to 8 or 65,535
+turns, all drawn together. Prints the command of each run that differs, or is still there after 20 seconds, and how many there are of both; its status is 1 if any is.
 A source or table of such a command that isn't in the checkout is kept in the folder that is told.
 
 usage: runs.py PROGRAM [TIMES [SEED]]"""
@@ -50,7 +50,7 @@ def draw_turns(count, most_ticks, folder, number):
 def draw(sources, folder, number):
     source, count, most_ticks = CHANCE.choice(sources)
     window = CHANCE.choice([None, *range(1, 9), 1, 2, 65535])
-    crew = ["--workers", up_to(64), "--budget", up_to(65535), *([] if window is None else ["--window", window])]
+    crew = [CHANCE.choice(["--workers", "--groups"]), up_to(64), "--budget", up_to(65535), *([] if window is None else ["--window", window])]
     return source, draw_turns(count, most_ticks, folder, number), crew
 
 

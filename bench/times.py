@@ -1,6 +1,6 @@
 #!/usr/bin/env python3
 """Prints how many turns a second the program takes on the loads in bench/loads and on others, on the token and on three examples, text to /dev/null: by
-`reference`, and the speed of `run` by 1, 2 and 4 workers beside it. Each is the median of five runs, which take turns; only a quiet machine with four processors tells
+`reference`, and the speed of `run` by 1, 2 and 4 workers beside it. Each is the median of nine runs, which take turns; only a quiet machine with four processors tells
 something.
 
 usage: times.py PROGRAM"""
@@ -25,7 +25,7 @@ def print_times(folder, load, ticks):
     words = [f"{load}.ioa", "--ticks", str(ticks)]
     commands = {0: [program, "reference", *words], **{it: [program, "run", *words, "--workers", str(it)] for it in CREWS}}
     turns = subprocess.run(commands[0], cwd=folder, capture_output=True, check=True).stdout.count(b"\n")
-    rounds = [{it: seconds(folder, command) for it, command in commands.items()} for _ in range(5)]
+    rounds = [{it: seconds(folder, command) for it, command in commands.items()} for _ in range(9)]
     took = {it: statistics.median(found[it] for found in rounds) for it in commands}
     beside = ", ".join(f"{took[0] / took[it]:.2f}" for it in CREWS)
     print(f"{load}: {turns} turns, {turns / took[0]:,.0f} a second by one thread; {beside} of its speed by 1, 2 and 4 workers", flush=True)

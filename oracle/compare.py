@@ -79,7 +79,7 @@ def compare(name):
         for setting in [it for _ in range(given.seeds) for it in pick.sample(SETTINGS, given.settings)]:
             words, seed, stream, gap, ticks = drawn(setting, pick)
             is_trace = pick.randrange(4) == 0
-            command = ["reference"] if pick.randrange(5) else ["run", "--workers", str(pick.randrange(1, 5)), "--budget", pick.choice(["1", "2", "7", "64"])]
+            command = ["reference"] if pick.randrange(5) else ["run", pick.choice(["--workers", "--groups"]), str(pick.randrange(1, 5)), "--budget", pick.choice(["1", "2", "7", "64"])]
             turns = simulator.seed_turns(plan, seed, stream, gap, "--from-zero" in setting)
             text = "".join(simulator.reference(plan, turns, ticks, is_trace)[0])
             words = [command[0], "F", *command[1:], *words, *["--trace"] * is_trace]

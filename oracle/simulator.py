@@ -3,7 +3,7 @@
 
 usage: simulator.py print F
        simulator.py reference F [--seed N] [--stream N] [--gap G] [--ticks N] [--table FILE] [--from-zero] [--trace]
-       simulator.py run F ..      (the same text; --workers and --budget are read and have no effect)
+       simulator.py run F ..      (the same text; --workers, --budget, --window and --groups are read and have no effect)
        simulator.py check F TRACE
 
 It answers as the program does, but for two things: it has no `drive`, and faults of a source that only the check finds (10 to 17) are told as
@@ -1232,9 +1232,9 @@ def check(plan, actions):
 
 OPTIONS = {
     "--seed": (0, M64), "--stream": (0, M64), "--gap": (1, 65535), "--ticks": (0, 4294967296),
-    "--workers": (1, 64), "--budget": (1, 65535), "--window": (1, 65535), "--table": None}
+    "--workers": (1, 64), "--budget": (1, 65535), "--window": (1, 65535), "--groups": (1, 64), "--table": None}
 FLAGS = {"--from-zero", "--trace", "--head"}
-FEW = {"--workers", "--budget", "--window"}
+FEW = {"--workers", "--budget", "--window", "--groups"}
 
 
 def parse_words(words_):

@@ -1,6 +1,6 @@
 #!/usr/bin/env python3
 """Tells in half a minute whether dist/ has the program of this checkout, and whether it answers as it should: hash, sha256, the toolchain's line,
-the ring's four turns, what a terminal is told, the examples' layout and expected outputs by `reference` and by `run` with 1 to 8 workers and with windows, what their watches tell in hunts over 100
+the ring's four turns, what a terminal is told, the examples' layout and expected outputs by `reference` and by `run` in 1 to 8 groups, by up to 8 workers and with windows, what their watches tell in hunts over 100
 seeds (over 1,000 with --whole, as the gate has it), the commands that the pages show and what they cite, what `--progress` tells first, the words in
 completions, manual page and editors' files, and the cases with known answers in crates/vectors/data, whose copies of the examples are compared with these."""
 import json, os, pty, re, shutil, subprocess, sys, tempfile, threading
@@ -40,13 +40,13 @@ def differs(words, got, wanted):
 
 
 def try_example(line):
-    """Runs a line of examples/expected/runs, and where it is of `reference`, `run` with the same words by 1 to 8 workers, and with windows."""
+    """Runs a line of examples/expected/runs, and where it is of `reference`, `run` with the same words in 1 to 8 groups, by up to 8 workers, and with windows."""
     name, words = line.split(": ", 1)
     words = words.split()
     wanted = (0, (top / f"examples/expected/{name}.txt").read_text(), "")
     found = differs(words, answer(words), wanted)
     if words[0] == "reference":
-        for option in *(f"--workers {it}" for it in range(1, 9)), *(f"--window {it}" for it in (1, 2, 7, 65535)):
+        for option in *(f"--groups {it}" for it in range(1, 9)), "--workers 8", *(f"--window {it}" for it in (1, 2, 7, 65535)):
             crew = ["run", *words[1:], *option.split()]
             found += differs(crew, answer(crew), wanted)
     return found

@@ -67,7 +67,8 @@ def commands(name, source, turns):
     trace = "examples/ring.trace" if name == "ring" else None
     found = [("print", ["print", source]), ("format", ["format", source]), ("format --check", ["format", source, "--check"])]
     found.append(("reference", ["reference", source, *turns]))
-    found += [(f"run, {count} workers", ["run", source, *turns, "--workers", str(count)]) for count in (1, 2, 3)]
+    found += [(f"run, {count} groups", ["run", source, *turns, "--groups", str(count)]) for count in (1, 2, 3)]
+    found.append(("run, up to 2 workers", ["run", source, *turns, "--workers", "2"]))
     if trace:
         found.append(("check", ["check", source, trace]))
     if steps:

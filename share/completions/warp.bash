@@ -15,7 +15,7 @@ _warp() {
         return
     fi
     case $before in
-    --seed | --seeds | --stream | --gap | --ticks | --workers | --budget | --window | --from | --to) return ;;
+    --seed | --seeds | --stream | --gap | --ticks | --workers | --budget | --window | --groups | --from | --to) return ;;
     --table | --steps | --actions)
         mapfile -t COMPREPLY < <(compgen -f -- "$word")
         return
@@ -24,7 +24,7 @@ _warp() {
     case $command in
     format) options="--check" ;;
     reference | drive) options=$written ;;
-    run) options="$written --workers --budget --window --stats" ;;
+    run) options="$written --workers --budget --window --groups --stats" ;;
     hunt) options="--seeds --stream --gap --from-zero --ticks --workers --count --progress" ;;
     draw) options="$turns --from --to" ;;
     explain) options="--table --steps --actions" ;;
