@@ -22,7 +22,6 @@ use std::sync::Wait;
 use std::thread::Threads;
 use std::time::Clock;
 use trace::Counted;
-use workers::Unheld;
 
 /// Does what is asked for.
 pub(crate) fn do_asked<
@@ -165,7 +164,7 @@ fn with_table<'a>(source: &'a str, options: Options<'a>) -> Subject<'a>
     }
 }
 
-// Simulates by workers, whose gate holds nobody.
+// Simulates by workers.
 fn run_file<F: Files, W: Write + Drop, R: Threads + Wait + Sync + Clock>(
     rt: &R,
     alloc: Global,
@@ -180,7 +179,7 @@ fn run_file<F: Files, W: Write + Drop, R: Threads + Wait + Sync + Clock>(
         (IsStopped W.contents out.old out.new) result }
 {
     match setup_in(alloc, source, options, files) {
-        Ok(setup) => run_setup(rt, alloc, setup, crew, &Unheld, form_for(options), out),
+        Ok(setup) => run_setup(rt, alloc, setup, crew, form_for(options), out),
         Err(report) => report,
     }
 }

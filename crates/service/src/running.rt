@@ -17,42 +17,47 @@ use std::sync::{Arc, Wait};
 use std::thread::Threads;
 use std::time::Clock;
 use steering::Stats;
-use task_seed::{AnyTurns, Setup, Turns};
+use task_seed::{AnyTurns, Setup};
 use trace::{Counted, Form};
-use workers::{Gate, Job, Window, groups_by_trial, run_with_stats};
+use workers::{Job, Unheld, Window, groups_by_trial, run_with_stats};
 
-/// Simulates the composition of a source by workers, as many as a trial finds fastest, if no number of groups is asked for; with the turns that are given up to the last tick, and writes the lines of the turns as
-/// they are committed, behind the head where it is asked for. The source is judged before the turns.
+/// Up to which last tick, by whom, and in which form a run is written.
+#[derive(Clone, Copy)]
+pub struct Manner {
+    pub ticks: u64,
+    pub crew: Crew,
+    pub form: Form,
+}
+
+/// Simulates the composition of a source by workers, with the turns that are given up to the last tick, and writes the lines of the turns as
+/// they are committed, behind the head where it is asked for. The source is judged before the turns. Where no number of groups is asked for, a
+/// trial finds how many are fastest.
 ///
 /// It may wait. What went out is a beginning of the text of the simulator by one thread, and all of it where the report is `Done` or `Ran`.
-pub fn run_source<W: Write + Drop, G: Gate<AnyTurns>, R: Threads + Wait + Sync + Clock>(
+pub fn run_source<W: Write + Drop, R: Threads + Wait + Sync + Clock>(
     rt: &R,
     alloc: Global,
     source: &[u8],
     given: GivenTurns,
-    ticks: u64,
-    crew: Crew,
-    gate: &G,
-    form: Form,
+    manner: Manner,
     out: &mut Counted<W>,
 ) -> Report
-    ensures { IsRunReport source.now (given_of given.entry) ticks form crew.stats
-        (out.new ≡ out.old) (IsWritten W.contents out.old out.new)
+    ensures { IsRunReport source.now (given_of given.entry) manner.ticks manner.form
+        manner.crew.stats (out.new ≡ out.old) (IsWritten W.contents out.old out.new)
         (IsStopped W.contents out.old out.new) result }
 {
-    match setup_of(alloc, source, given, ticks) {
-        Ok(setup) => run_setup(rt, alloc, setup, crew, gate, form, out),
+    match setup_of(alloc, source, given, manner.ticks) {
+        Ok(setup) => run_setup(rt, alloc, setup, manner.crew, manner.form, out),
         Err(report) => report,
     }
 }
 
-/// Runs a setup.
-pub(crate) fn run_setup<W: Write + Drop, G: Gate<AnyTurns>, R: Threads + Wait + Sync + Clock>(
+/// Runs a setup, whose gate holds nobody.
+pub(crate) fn run_setup<W: Write + Drop, R: Threads + Wait + Sync + Clock>(
     rt: &R,
     alloc: Global,
     setup: Setup<AnyTurns>,
     crew: Crew,
-    gate: &G,
     form: Form,
     out: &mut Counted<W>,
 ) -> Report
@@ -71,7 +76,7 @@ pub(crate) fn run_setup<W: Write + Drop, G: Gate<AnyTurns>, R: Threads + Wait + 
         form,
     };
     let workers = groups_of(rt, alloc, &shared, crew, job);
-    match run_with_stats(rt, alloc, shared, Job { workers, ..job }, gate, out) {
+    match run_with_stats(rt, alloc, shared, Job { workers, ..job }, &Unheld, out) {
         Ok(counts) => done(crew.stats, counts),
         Err(fault) => report_of(&fault),
     }

@@ -6,13 +6,12 @@ use commands::GivenTurns;
 use commands::over_bytes::{check_source, drive_source, simulate_source};
 use commands::report::Report;
 use fixtures::Count;
-use service::running::run_source;
+use service::running::{Manner, run_source};
 use std::alloc::Global;
 use std::sync::Wait;
 use std::thread::Threads;
 use std::time::Clock;
 use trace::{Counted, Form, Lines};
-use workers::Unheld;
 
 // The ring of two, and a table of its turns with what all of them write.
 const RING: &str =
@@ -73,9 +72,12 @@ fn are_simulated<R: Threads + Wait + Sync + Clock>(
     let report = simulate_source(alloc, source, given, ticks, ALL, &mut out);
     let alone = came_to(alloc, &report, out, text, said);
     let mut out = Counted::new(Narrow::wide(alloc));
-    let report = run_source(
-        rt, alloc, source, given, ticks, crew, &Unheld, ALL, &mut out,
-    );
+    let manner = Manner {
+        ticks,
+        crew,
+        form: ALL,
+    };
+    let report = run_source(rt, alloc, source, given, manner, &mut out);
     (alone, came_to(alloc, &report, out, text, said))
 }
 
