@@ -1,7 +1,7 @@
 #!/usr/bin/env python3
 """Prints how many turns a second the program takes on the loads in bench/loads and on others, on the token and on three examples, text to /dev/null: by
 `reference`, and the speed of `run` by 1, 2 and 4 workers beside it. Each is the median of nine runs, which take turns; only a quiet machine with four processors tells
-something.
+something. The runs take half a second and more, so that there is a trial of how many groups are fastest.
 
 usage: times.py PROGRAM"""
 import statistics, subprocess, sys, tempfile, time
@@ -9,9 +9,9 @@ from pathlib import Path
 
 from generated import loads
 
-LOADS = [("ring8", 300000), ("ring64", 40000), ("compute64", 2000), ("phold64", 20000), ("phold64near", 20000), ("phold64w", 4000), ("phold1024", 1250),
-         ("token", 100000)]
-EXAMPLES = [("paxos", 60000), ("ricart-agrawala", 60000), ("bakery", 100000)]
+LOADS = [("ring8", 2000000), ("ring64", 300000), ("compute64", 10000), ("phold64", 150000), ("phold64near", 150000), ("phold64w", 50000), ("phold1024", 8000),
+         ("token", 800000)]
+EXAMPLES = [("paxos", 400000), ("ricart-agrawala", 400000), ("bakery", 400000)]
 CREWS = [1, 2, 4]
 
 

@@ -134,14 +134,15 @@ def main():
         print(f"scripts/check.py: {state.stdout.strip()}; scripts/refresh builds it anew")
         return 1
     built = dict(line.split(" ", 1) for line in (top / "dist/BUILT").read_text().splitlines())
-    wanted = (0, f"warp 0.1.0\nproved with {built['kit']}\n", "")
+    # The first word of the kit's line names a packing of the toolchain; what a proof rests on is its logic.
+    logic = " ".join(built["kit"].split()[1:])
+    wanted = (0, f"warp 0.1.0\nproved with Rattle, {logic}\n", "")
     found = differs(["--version"], answer(["--version"]), wanted)
     if shutil.which("rt"):
         kit = subprocess.run(["rt", "version"], capture_output=True, text=True).stdout.strip()
-        # The first word names a packing of the toolchain; what a proof rests on is its logic.
         if kit != built["kit"]:
             print(f"note: the toolchain here is {kit}, and dist/ was built by {built['kit']}")
-        found += [] if kit.split()[1:] == built["kit"].split()[1:] else ["the logic of the toolchain here is another than that which dist/ was built by"]
+        found += [] if kit.endswith(logic) else ["the logic of the toolchain here is another than that which dist/ was built by"]
     ring = ["run", "examples/ring.ioa", "--table", "examples/ring-a.table"]
     found += differs(ring, answer(ring), (0, RING, ""))
     for copy in sorted((top / "crates/vectors/data").glob("*.ioa")):

@@ -21,7 +21,7 @@ bare = record (new_app (codes "warp")) { top = record (new_app (codes "warp")).t
 
 -- name, version and toolchain
 abbrev pub version_text : List ℕ
-version_text = codes "warp 0.1.0\nproved with rattle-kit-13b logic dac8208d650f15bf\n"
+version_text = codes "warp 0.1.0\nproved with Rattle, logic dac8208d650f15bf\n"
 
 abbrev pub print_app : App
 print_app = of_file (codes "print") (codes "F")

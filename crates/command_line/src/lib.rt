@@ -132,7 +132,7 @@ impl From<AllocError> for Refused {
 pub fn version() -> &'static str
     ensures { result.now ≡ version_text }
 {
-    "warp 0.1.0\nproved with rattle-kit-13b logic dac8208d650f15bf\n"
+    "warp 0.1.0\nproved with Rattle, logic dac8208d650f15bf\n"
 }
 
 // What is said of words in which clap finds no fault and that ask for nothing: only a range of seeds can be so.

@@ -2,11 +2,12 @@
 use Rattle.std.specs.Prelude.{ℕ, List, [], ◌∷◌, ◌++◌, codes, decimal, flat_map}
 use Rattle.steering.specs.declared.stats.Stats.{Stats}
 use Rattle.commands.specs.declared.counts.Count.{Count}
-use Rattle.commands.specs.declared.counts.Count.TheVariants.{Turns, Groups, Pairs, Cut, Processed, Kept, TakenBack, RollBacks, Stragglers, Inside, Across, Antimessages, Annihilated, Visits, Meetings, Commits, Chunks, Leash, Waited}
+use Rattle.commands.specs.declared.counts.Count.TheVariants.{Turns, Sure, Groups, Pairs, Cut, Processed, Kept, TakenBack, RollBacks, Stragglers, Inside, Across, Antimessages, Annihilated, Visits, Meetings, Commits, Chunks, Leash, Waited}
 
 -- the name of a count, with what stands before its value
 abbrev pub label_of : Count → List ℕ
 label_of Turns = codes "turns: "
+label_of Sure = codes "sure turns: "
 label_of Groups = codes "groups: "
 label_of Pairs = codes "pairs of components: "
 label_of Cut = codes "pairs cut: "
@@ -28,6 +29,7 @@ label_of Waited = codes "microseconds waited: "
 
 abbrev pub value_of : Stats → Count → ℕ
 value_of stats Turns = stats.turns
+value_of stats Sure = stats.sure
 value_of stats Groups = stats.groups
 value_of stats Pairs = stats.pairs
 value_of stats Cut = stats.cut
@@ -51,7 +53,7 @@ abbrev pub count_line : Stats → Count → List ℕ
 count_line stats count = label_of count ++ decimal (value_of stats count) ++ codes "\n"
 
 abbrev pub all_counts : List Count
-all_counts = Turns ∷ Groups ∷ Pairs ∷ Cut ∷ Processed ∷ Kept ∷ TakenBack ∷ RollBacks ∷ Stragglers ∷ Inside ∷ Across ∷ Antimessages ∷ Annihilated ∷ Visits ∷ Meetings ∷ Commits ∷ Chunks ∷ Leash ∷ Waited ∷ []
+all_counts = Turns ∷ Sure ∷ Groups ∷ Pairs ∷ Cut ∷ Processed ∷ Kept ∷ TakenBack ∷ RollBacks ∷ Stragglers ∷ Inside ∷ Across ∷ Antimessages ∷ Annihilated ∷ Visits ∷ Meetings ∷ Commits ∷ Chunks ∷ Leash ∷ Waited ∷ []
 
 -- a line for each count
 abbrev pub stats_text : Stats → List ℕ

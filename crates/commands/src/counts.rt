@@ -13,6 +13,7 @@ use trace::{Counted, WriteFault};
 #[derive(Clone, Copy)]
 enum Count {
     Turns,
+    Sure,
     Groups,
     Pairs,
     Cut,
@@ -38,6 +39,7 @@ fn label_of(count: Count) -> &'static str
 {
     match count {
         Count::Turns => "turns: ",
+        Count::Sure => "sure turns: ",
         Count::Groups => "groups: ",
         Count::Pairs => "pairs of components: ",
         Count::Cut => "pairs cut: ",
@@ -64,6 +66,7 @@ fn value_of(stats: &Stats, count: Count) -> u64
 {
     match count {
         Count::Turns => stats.turns,
+        Count::Sure => stats.sure,
         Count::Groups => stats.groups,
         Count::Pairs => stats.pairs,
         Count::Cut => stats.cut,
@@ -94,6 +97,7 @@ pub(crate) fn write_stats<E: Write>(stats: &Stats, err: &mut Counted<E>) -> Resu
         stats,
         &[
             Count::Turns,
+            Count::Sure,
             Count::Groups,
             Count::Pairs,
             Count::Cut,

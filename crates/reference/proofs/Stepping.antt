@@ -52,7 +52,7 @@ pub record IsFound (s : System) (turns : List (Turn Named)) (places numbers : Li
   pub stands : IsBeforeLeast s places numbers states
 
 -- the item at a place of a list made by a function of the place
-at_range : {X : Type 0} (f : ℕ → X) (n j : ℕ) (x : X) → slice_get (map f (range_with_len 0 n)) j ≡ Some x → x ≡ f j
+pub at_range : {X : Type 0} (f : ℕ → X) (n j : ℕ) (x : X) → slice_get (map f (range_with_len 0 n)) j ≡ Some x → x ≡ f j
 at_range f n j x e =
     let short = slice_get_within (map f (range_with_len 0 n)) j x e in
     let count = length-map-range_with_len f 0 n in
@@ -102,18 +102,18 @@ module _ (s : System) (law : Lawful (machine s)) (counted : HasCount (machine s)
   rank_of_first : (p : Point (List Datum)) (places : List ℕ) (key : Key) → IsFirst s (length s.composition) p.next places key → rank key ≡ turn_rank s key.component (p.next key.component)
   rank_of_first p places key is = ap rank_or_end is.there ∙ ranked s key.component (p.next key.component) is.within
 
-  least_end : (p : Point (List Datum)) (places numbers : List ℕ) → IsQueue s (length s.composition) p.next places numbers → least_rank places numbers ≤ end_rank
+  pub least_end : (p : Point (List Datum)) (places numbers : List ℕ) → IsQueue s (length s.composition) p.next places numbers → least_rank places numbers ≤ end_rank
   least_end p places numbers queue = go (least_key places numbers) refl where
     go : (o : Option Key) → o ≡ least_key places numbers → least_rank places numbers ≤ end_rank
     go None e = subst (λ k. rank_or_end k ≤ end_rank) e (omega arith)
     go (Some key) e = subst (λ k. rank_or_end k ≤ end_rank) e (small_end key (led s (length s.composition) p.next places numbers queue (Some key) e).small)
 
   -- no component has a turn with a lesser key
-  least_below : (p : Point (List Datum)) (places numbers : List ℕ) (states : List States) → IsAt s p places numbers states → (j : ℕ) → least_rank places numbers ≤ turn_rank s j (p.next j)
-  least_below p places numbers states at j = go (cases_lt j (length s.composition)) where
+  pub least_below : (p : Point (List Datum)) (places numbers : List ℕ) → IsQueue s (length s.composition) p.next places numbers → (j : ℕ) → least_rank places numbers ≤ turn_rank s j (p.next j)
+  least_below p places numbers queue j = go (cases_lt j (length s.composition)) where
     go : (j < length s.composition) ⊎ (length s.composition ≤ j) → least_rank places numbers ≤ turn_rank s j (p.next j)
-    go (inl h) = least_low s (length s.composition) p.next places numbers at.queue refl small_end j h
-    go (inr h) = let silent : turn_rank s j (p.next j) ≡ end_rank = counted.silent j (p.next j) h in let low = least_end p places numbers at.queue in omega (arith, silent, low)
+    go (inl h) = least_low s (length s.composition) p.next places numbers queue refl small_end j h
+    go (inr h) = let silent : turn_rank s j (p.next j) ≡ end_rank = counted.silent j (p.next j) h in let low = least_end p places numbers queue in omega (arith, silent, low)
 
   module _ (exists : (b : ℕ) → b ≤ end_rank → IsReference (machine s) b (reference_below (machine s) b))
       (one : (b : ℕ) (turns later : List (Turn Named)) → IsReference (machine s) b turns → IsReference (machine s) b later → turns ≡ later) where
@@ -127,7 +127,7 @@ module _ (s : System) (law : Lawful (machine s)) (counted : HasCount (machine s)
         record { taken = same; stands = subst (λ (ts : List (Turn Named)). IsAt s (after (machine s) ts) places numbers states) (sym same) at }
 
     pub start_found : (places numbers : List ℕ) (states : List States) → IsAt s (after (machine s) []) places numbers states → IsFound s [] places numbers states
-    start_found places numbers states at = found [] places numbers states (record { run = tt; below = tt; all = λ j. least_below (after (machine s) []) places numbers states at j }) at
+    start_found places numbers states at = found [] places numbers states (record { run = tt; below = tt; all = λ j. least_below (after (machine s) []) places numbers at.queue j }) at
 
     module _ (places numbers : List ℕ) (states : List States) (stands : IsBeforeLeast s places numbers states) where
       abbrev pub p : Point (List Datum)
@@ -143,7 +143,7 @@ module _ (s : System) (law : Lawful (machine s)) (counted : HasCount (machine s)
       ended none = subst (λ b. IsReference (machine s) end_rank (reference_below (machine s) b)) (ap rank_or_end none) (exists end_rank (omega arith))
 
       module _ (key : Key) (is_first : Some key ≡ least_key places numbers) where
-        first : IsFirst s (length s.composition) p.next places key
+        pub first : IsFirst s (length s.composition) p.next places key
         first = led s (length s.composition) p.next places numbers stands.queue (Some key) is_first
 
         below_end : rank key < end_rank
@@ -161,7 +161,7 @@ module _ (s : System) (law : Lawful (machine s)) (counted : HasCount (machine s)
         pub fits : key.component < 65536
         fits = first.small.component
 
-        number_is : key.number ≡ p.next key.component
+        pub number_is : key.number ≡ p.next key.component
         number_is = first.number
 
         pub key_is : Some key ≡ key_of s key.component key.number
@@ -182,11 +182,11 @@ module _ (s : System) (law : Lawful (machine s)) (counted : HasCount (machine s)
         rank_is : rank key ≡ turn_rank s key.component (p.next key.component)
         rank_is = rank_of_first p places key first
 
-        is_least : rank key ≡ least_rank places numbers
+        pub is_least : rank key ≡ least_rank places numbers
         is_least = ap rank_or_end is_first
 
         least_of_all : (j : ℕ) → rank key ≤ turn_rank s j (p.next j)
-        least_of_all j = let l = least_below p places numbers states stands j in let e = is_least in omega (arith, l, e)
+        least_of_all j = let l = least_below p places numbers stands.queue j in let e = is_least in omega (arith, l, e)
 
         module _ (o : Option Named) (came : IfSome (slice_get states key.component) (λ state. o ≡ turn_outcome s key.component key.number state.current)) where
           state_there : slice_get states key.component ≡ Some (slice_index_or states key.component (plain []))
@@ -243,9 +243,8 @@ module _ (s : System) (law : Lawful (machine s)) (counted : HasCount (machine s)
           module _ (follower : Option Key) (follower_is : follower ≡ key_of s key.component (key.number + 1)) (follower_small : IfSome follower IsSmall)
               (new : List ℕ) (is_tournament : IsTournament (length numbers) new) (own : node new (length numbers + key.component) ≡ place_of follower)
               (others : (k : ℕ) → k < length numbers → (k ≡ key.component → ⊥) → node new (length numbers + k) ≡ node places (length numbers + k))
-              (new_numbers : List ℕ) (counted_on : new_numbers ≡ slice_set numbers key.component (key.number + 1))
-              (news : List States) (news_many : length news ≡ length states) (news_is : (j : ℕ) → slice_get news j ≡ option_map (joining (machine s) key.component o j) (slice_get states j)) where
-            queue_after : IsQueue s (length s.composition) q.next new new_numbers
+              (new_numbers : List ℕ) (counted_on : new_numbers ≡ slice_set numbers key.component (key.number + 1)) where
+            pub queue_after : IsQueue s (length s.composition) q.next new new_numbers
             queue_after =
                 let many : length numbers ≡ length s.composition = stands.queue.many in
                 let e = number_is in
@@ -257,18 +256,6 @@ module _ (s : System) (law : Lawful (machine s)) (counted : HasCount (machine s)
                 (subst (λ n. node new (n + key.component) ≡ place_of follower) many own)
                 (subst (λ n. (k : ℕ) → k < n → (k ≡ key.component → ⊥) → node new (n + k) ≡ node places (n + k)) many others))
 
-            currents_after : (j : ℕ) (x : States) → slice_get news j ≡ Some x → x ≡ plain (q.state j)
-            currents_after j x e = go (slice_get states j) refl where
-              go : (was : Option States) → slice_get states j ≡ was → x ≡ plain (q.state j)
-              go None f = let none : Some x ≡ None = sym e ∙ news_is j ∙ ap (option_map (joining (machine s) key.component o j)) f in cc
-              go (Some was) f =
-                  let both : Some x ≡ Some (joining (machine s) key.component o j was) = sym e ∙ news_is j ∙ ap (option_map (joining (machine s) key.component o j)) f in
-                  let is : x ≡ joining (machine s) key.component o j was = cc in
-                  is ∙ ap (joining (machine s) key.component o j) (stands.currents j was f) ∙ ap (λ k. plain (joint (machine s) k o j (p.state j))) (sym owner)
-
-            at_after : IsAt s q new new_numbers news
-            at_after = record { queue = queue_after; states_many = news_many ∙ stands.states_many; currents = currents_after }
-
             before_next : rank key < least_rank new new_numbers
             before_next = go (least_key new new_numbers) refl where
               go : (k : Option Key) → k ≡ least_key new new_numbers → rank key < least_rank new new_numbers
@@ -279,17 +266,34 @@ module _ (s : System) (law : Lawful (machine s)) (counted : HasCount (machine s)
                   let same = rank_of_first q new later is in
                   subst (λ k. rank key < rank_or_end k) e (omega (arith, there, same))
 
-            pub stepped : IsFound s (record { key = rank key; outcome = o } ∷ taken_at s places numbers) new new_numbers news
-            stepped =
+            advanced_is : IsReference (machine s) (least_rank new new_numbers) (t ∷ reference_below (machine s) (least_rank places numbers))
+            advanced_is =
                 let before = exists (least_rank places numbers) (least_end p places numbers stands.queue) in
-                let e = is_least in
-                found (t ∷ reference_below (machine s) (least_rank places numbers)) new new_numbers news
-                (record {
+                let e = is_least in record {
                   run = (next_turn, before.run);
                   below = (before_next, all_below_more (least_rank places numbers) (least_rank new new_numbers) (let b = before_next in omega (arith, b, e)) (reference_below (machine s) (least_rank places numbers)) before.below);
-                  all = least_below q new new_numbers news at_after;
-                })
-                at_after
+                  all = least_below q new new_numbers queue_after;
+                }
+
+            -- up to the next turn there is this one more
+            pub advanced : taken_at s new new_numbers ≡ record { key = rank key; outcome = o } ∷ taken_at s places numbers
+            advanced = one (least_rank new new_numbers) (reference_below (machine s) (least_rank new new_numbers)) (t ∷ reference_below (machine s) (least_rank places numbers)) (exists (least_rank new new_numbers) (least_end q new new_numbers queue_after)) advanced_is
 
             pub whole_after : IsComplete (machine s) (taken_at s new new_numbers)
             whole_after = whole q new new_numbers queue_after
+
+            module _ (news : List States) (news_many : length news ≡ length states) (news_is : (j : ℕ) → slice_get news j ≡ option_map (joining (machine s) key.component o j) (slice_get states j)) where
+              currents_after : (j : ℕ) (x : States) → slice_get news j ≡ Some x → x ≡ plain (q.state j)
+              currents_after j x e = go (slice_get states j) refl where
+                go : (was : Option States) → slice_get states j ≡ was → x ≡ plain (q.state j)
+                go None f = let none : Some x ≡ None = sym e ∙ news_is j ∙ ap (option_map (joining (machine s) key.component o j)) f in cc
+                go (Some was) f =
+                    let both : Some x ≡ Some (joining (machine s) key.component o j was) = sym e ∙ news_is j ∙ ap (option_map (joining (machine s) key.component o j)) f in
+                    let is : x ≡ joining (machine s) key.component o j was = cc in
+                    is ∙ ap (joining (machine s) key.component o j) (stands.currents j was f) ∙ ap (λ k. plain (joint (machine s) k o j (p.state j))) (sym owner)
+
+              at_after : IsAt s q new new_numbers news
+              at_after = record { queue = queue_after; states_many = news_many ∙ stands.states_many; currents = currents_after }
+
+              pub stepped : IsFound s (record { key = rank key; outcome = o } ∷ taken_at s places numbers) new new_numbers news
+              stepped = found (t ∷ reference_below (machine s) (least_rank places numbers)) new new_numbers news advanced_is at_after

@@ -1,3 +1,4 @@
+pub mod Agendas
 pub mod Queues
 pub mod Clocks
 pub mod Memos

@@ -53,7 +53,7 @@ fn place_of(key: Option<Key>) -> u64
     }
 }
 
-fn first_places<T: Turns>(alloc: Global, setup: &Setup<T>) -> Result<Vec<u64>, NoMemory>
+pub(crate) fn first_places<T: Turns>(alloc: Global, setup: &Setup<T>) -> Result<Vec<u64>, NoMemory>
     ensures { IfOk result (λ places. (n : ℕ) → n ≡ length (composition (plan_of setup.now))
         → ArePlaced (system T.turn_of setup.now) n n (λ j. 0) places.items) }
 {
@@ -74,14 +74,14 @@ fn no_places(alloc: Global, count: u16) -> Result<Vec<u64>, NoMemory>
     Ok(places)
 }
 
-fn first_numbers(alloc: Global, count: u16) -> Result<Vec<u64>, NoMemory>
+pub(crate) fn first_numbers(alloc: Global, count: u16) -> Result<Vec<u64>, NoMemory>
     ensures { IfOk result (λ numbers. numbers.items ≡ replicate count 0) }
 {
     let numbers = vec![in alloc; 0; usize::from(count)]?;
     Ok(numbers)
 }
 
-fn start_states(alloc: Global, plan: &Plan) -> Result<Vec<Store>, NoMemory>
+pub(crate) fn start_states(alloc: Global, plan: &Plan) -> Result<Vec<Store>, NoMemory>
     ensures { IfOk result (λ states. states.items
         ≡ map (λ i. plain (start_of (composition plan.now) i))
         (range_with_len 0 (length (composition plan.now)))) }
@@ -96,7 +96,7 @@ fn start_states(alloc: Global, plan: &Plan) -> Result<Vec<Store>, NoMemory>
 
 // The least of the keys of the next turns.
 #[inline(always)]
-fn least_key(places: &[u64], numbers: &[u64]) -> Option<Key>
+pub(crate) fn least_key(places: &[u64], numbers: &[u64]) -> Option<Key>
     requires { HasItsNumber places.now numbers.now }
     ensures { result ≡ least_key places.now numbers.now }
 {
@@ -117,7 +117,7 @@ fn least_key(places: &[u64], numbers: &[u64]) -> Option<Key>
 
 // The turn of this key is taken, and its component's next key comes in its place.
 #[inline(always)]
-fn move_on(places: &mut [u64], numbers: &mut [u64], key: Key, next: Option<Key>)
+pub(crate) fn move_on(places: &mut [u64], numbers: &mut [u64], key: Key, next: Option<Key>)
     requires within { key.component < length numbers.old }
     requires fits { key.number < 4294967296 }
     requires small { IfSome next IsSmall }

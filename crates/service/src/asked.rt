@@ -5,7 +5,7 @@ ghost use Rattle.service.specs.Crews.{IsRunFileReport};
 ghost use Rattle.service.specs.Reports.{IsFormatReportOn, IsReportOn};
 ghost use Rattle.service.specs.Subjects.{alone, subject_of, with_table};
 
-use crate::running::run_setup;
+use crate::running::{Manner, run_setup};
 use command_line::{Asked, Crew, Options};
 use commands::Files;
 use commands::diagrams::draw_file;
@@ -179,7 +179,14 @@ fn run_file<F: Files, W: Write + Drop, R: Threads + Wait + Sync + Clock>(
         (IsStopped W.contents out.old out.new) result }
 {
     match setup_in(alloc, source, options, files) {
-        Ok(setup) => run_setup(rt, alloc, setup, crew, form_for(options), out),
+        Ok(setup) => {
+            let manner = Manner {
+                ticks: options.ticks,
+                crew,
+                form: form_for(options),
+            };
+            run_setup(rt, alloc, setup, manner, out)
+        }
         Err(report) => report,
     }
 }

@@ -47,7 +47,7 @@ pub fn run_source<W: Write + Drop, R: Threads + Wait + Sync + Clock>(
         (IsStopped W.contents out.old out.new) result }
 {
     match setup_of(alloc, source, given, manner.ticks) {
-        Ok(setup) => run_setup(rt, alloc, setup, manner.crew, manner.form, out),
+        Ok(setup) => run_setup(rt, alloc, setup, manner, out),
         Err(report) => report,
     }
 }
@@ -57,14 +57,14 @@ pub(crate) fn run_setup<W: Write + Drop, R: Threads + Wait + Sync + Clock>(
     rt: &R,
     alloc: Global,
     setup: Setup<AnyTurns>,
-    crew: Crew,
-    form: Form,
+    manner: Manner,
     out: &mut Counted<W>,
 ) -> Report
-    ensures { IsCrewReport (plan_of setup) (system any_turn setup) form crew.stats
-        (out.new ≡ out.old) (IsWritten W.contents out.old out.new)
+    ensures { IsCrewReport (plan_of setup) (system any_turn setup) manner.form
+        manner.crew.stats (out.new ≡ out.old) (IsWritten W.contents out.old out.new)
         (IsStopped W.contents out.old out.new) result }
 {
+    let Manner { ticks, crew, form } = manner;
     let shared = match Arc::new(alloc, setup) {
         Ok(shared) => shared,
         Err(_refused) => return Report::Fault(1),
@@ -75,28 +75,13 @@ pub(crate) fn run_setup<W: Write + Drop, R: Threads + Wait + Sync + Clock>(
         window: window_of(crew),
         form,
     };
-    let workers = groups_of(rt, alloc, &shared, crew, job);
+    let workers = match crew.groups {
+        Some(groups) => groups,
+        None => groups_by_trial(rt, alloc, &shared, job, ticks),
+    };
     match run_with_stats(rt, alloc, shared, Job { workers, ..job }, &Unheld, out) {
         Ok(counts) => done(crew.stats, counts),
         Err(fault) => report_of(&fault),
-    }
-}
-
-// The groups that are asked for, or else what a trial finds.
-fn groups_of<R: Threads + Wait + Sync + Clock>(
-    rt: &R,
-    alloc: Global,
-    setup: &Arc<Setup<AnyTurns>>,
-    crew: Crew,
-    job: Job,
-) -> u16
-    requires workers { (1 ≤ job.workers) × (job.workers ≤ 64) }
-    requires budget { (1 ≤ job.budget) × (job.budget ≤ 65535) }
-    ensures { (1 ≤ result) × (result ≤ 64) }
-{
-    match crew.groups {
-        Some(groups) => groups,
-        None => groups_by_trial(rt, alloc, setup, job),
     }
 }
 

@@ -3,6 +3,7 @@
 #![tactic(auto)]
 
 pub mod nap;
+pub mod pace;
 mod policy;
 pub mod raises;
 pub mod ready;
@@ -10,6 +11,7 @@ pub mod signals;
 pub mod stats;
 pub mod vigil;
 
+pub use pace::Pace;
 pub use raises::Raises;
 pub use ready::Ready;
 pub use signals::Signals;

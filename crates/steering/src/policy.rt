@@ -8,6 +8,10 @@ pub(crate) struct Policy {
     /// How many turns may be published before the calling thread has looked for them again. A worker waits then until it has: what isn't written
     /// takes memory, and the cells of what is written serve again.
     pub(crate) most_unseen: u64,
+    /// How many sure turns are drawn at most before those before them are fetched, and taken before those before them are.
+    pub(crate) most_waiting: usize,
+    /// How many are drawn at first.
+    pub(crate) first_page: usize,
     /// How many ticks a group may run ahead of all others, where entries of it were taken back lately.
     pub(crate) leash: u64,
     /// The same after many entries without any.
@@ -24,11 +28,15 @@ pub(crate) struct Policy {
     pub(crate) entries_a_component: u64,
     /// How many times in a row a worker looks again at once that found nothing to do, before it naps: some tens of microseconds.
     pub(crate) most_vain: u32,
+    /// The same of a thread of a lone group.
+    pub(crate) most_vain_alone: u32,
 }
 
 pub(crate) const POLICY: Policy = Policy {
     nap: 50,
     most_unseen: 1024,
+    most_waiting: 4096,
+    first_page: 64,
     leash: 8,
     most_leash: 64,
     slice: 2,
@@ -37,4 +45,5 @@ pub(crate) const POLICY: Policy = Policy {
     entries_a_raise: 256,
     entries_a_component: 4,
     most_vain: 600,
+    most_vain_alone: 200,
 };

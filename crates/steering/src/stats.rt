@@ -5,6 +5,8 @@
 pub struct Stats {
     /// How many turns there were, written or not.
     pub turns: u64,
+    /// How many of these were sure: taken without marks, since nothing could come before them any more.
+    pub sure: u64,
     /// In how many groups the components were, each with a worker of its own.
     pub groups: u64,
     /// How many pairs of components there are of which the first can send to the second, as far as they were looked for: for one group none is.

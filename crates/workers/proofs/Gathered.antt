@@ -13,12 +13,12 @@ use Rattle.workers.specs.declared.crew.Lent.{Lent}
 use Rattle.workers.specs.Crews.{AreHeld, IsHeld}
 
 module _ {A : Type 0} where
-  in_front : (xs : List A) (x : A) (n : ℕ) (y : A) → slice_get xs n ≡ Some y → slice_get (xs ++ x ∷ []) n ≡ Some y
+  pub in_front : (xs : List A) (x : A) (n : ℕ) (y : A) → slice_get xs n ≡ Some y → slice_get (xs ++ x ∷ []) n ≡ Some y
   in_front [] x n y is = absurd (none-some y is)
   in_front (z ∷ xs) x zero y is = is
   in_front (z ∷ xs) x (suc n) y is = in_front xs x n y is
 
-  at_end : (xs : List A) (x : A) → slice_get (xs ++ x ∷ []) (length xs) ≡ Some x
+  pub at_end : (xs : List A) (x : A) → slice_get (xs ++ x ∷ []) (length xs) ≡ Some x
   at_end [] x = refl
   at_end (z ∷ xs) x = at_end xs x
 

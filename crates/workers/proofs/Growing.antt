@@ -1,12 +1,9 @@
 -- The reference below a bound is a beginning of the one below a greater bound.
-use Rattle.std.proofs.Common.{◌≡◌, ℕ, zero, suc, ◌+◌, ◌-◌, ◌<◌, ◌≤◌, ◌⊎◌, inl, inr, Option, None, Some, List, [], ◌∷◌, ◌++◌, map, length, refl, ap, sym, ◌∙◌, arith, length-append}
-use Rattle.std.proofs.lemmas.List.{append_assoc, length-map}
+use Rattle.std.proofs.Common.{◌≡◌, ℕ, zero, suc, ◌+◌, ◌-◌, ◌<◌, ◌≤◌, ◌⊎◌, inl, inr, Option, None, Some, List, [], ◌∷◌, ◌++◌, length, refl, ap, sym, ◌∙◌, arith, length-append}
+use Rattle.std.proofs.lemmas.List.{append_assoc}
 use Rattle.std.proofs.lemmas.Bool.{cases_lt}
-use Rattle.event_keys.specs.declared.outcome.Turned.{Turned}
 use Rattle.virtual_time.specs.Machine.{Machine}
 use Rattle.virtual_time.specs.Reference.{Turn, add_turn, after, next_turn, reference_below}
-use Rattle.task_seed.specs.Taken.{turn_of, turns_of}
-use Rattle.raw_events.specs.Onto.{onto}
 
 module _ {S A : Type 0} (m : Machine S A) where
   added : (k : ℕ) (o : Option (Option A)) (ts : List (Turn A)) → (extra : List (Turn A)) × (add_turn k o ts ≡ extra ++ ts)
@@ -42,10 +39,3 @@ module _ {S A : Type 0} (m : Machine S A) where
       go : (b < c) ⊎ (c ≤ b) → reference_below m b ≡ reference_below m c
       go (inl low) = let found = grown b c (omega (arith, low)) in sym (none_more found.0 (reference_below m b) (reference_below m c) found.1 (sym n))
       go (inr high) = let found = grown c b high in none_more found.0 (reference_below m c) (reference_below m b) found.1 n
-
-length_onto : {X : Type 0} (xs ys : List X) → length (onto xs ys) ≡ length xs + length ys
-length_onto [] ys = omega arith
-length_onto (x ∷ xs) ys = length_onto xs (x ∷ ys) ∙ omega arith
-
-pub length_turns : (turns : List Turned) → length (turns_of turns) ≡ length turns
-length_turns turns = length_onto (map turn_of turns) [] ∙ (let e = length-map turns turn_of in omega (arith, e))

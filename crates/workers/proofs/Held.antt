@@ -4,7 +4,7 @@ use Rattle.std.specs.Prelude.{Option, None, Some, slice_get}
 use Rattle.std.proofs.lemmas.List.{length-map}
 use Rattle.std.proofs.lemmas.Option.{none-some}
 use Rattle.terms.specs.Named.{Named}
-use Rattle.virtual_time.specs.Groups.Leases.{Lease, Matches}
+use Rattle.virtual_time.specs.Groups.Leases.{Matches}
 use Rattle.virtual_time.specs.Groups.Stubs.{Exchange, Stub as StubSeen}
 use Rattle.task_seed.specs.declared.setup.Setup.{Setup}
 use Rattle.task_seed.specs.declared.turns.Turn.{Turn}

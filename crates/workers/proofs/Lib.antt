@@ -6,5 +6,6 @@ pub mod Growing
 mod Held
 mod Portioned
 mod Putting
+mod Relayed
 mod Sending
 pub mod Written

@@ -13,7 +13,7 @@ use Rattle.workers.specs.declared.portions.Cut.{Cut}
 use Rattle.workers.specs.declared.portions.Portion.{Portion}
 use Rattle.workers.specs.Portions.{IsCutOf, IsPortion}
 use Rattle.workers.proofs.Ended.{all_ended}
-use Rattle.workers.proofs.Growing.{length_turns}
+use Rattle.lone_group.proofs.Counting.{length_turns}
 
 pub cut_off : {P : Type 0} (s : System) (e new : ExchangeView P) → IsValidExchange s e → (cut : Cut) (turns : List (Turn Named)) → cut.first ≡ e.given → cut.given ≡ new.given → cut.is_last ≡ list_all is_ended e.stubs
     → (b : ℕ) → IsChunk (machine s) (group_at e.groups) (length s.composition) (exchange_of (machine s) e) b (exchange_of (machine s) new) turns → IsGiven (machine s) cut.first b turns → IsCutOf s cut turns

@@ -1,5 +1,5 @@
 -- What the calling thread has written, portion after portion.
-use Rattle.std.proofs.Common.{◌≡◌, ℕ, ◌<◌, ◌≤◌, ◌^◌, List, [], ◌++◌, length, take, refl, ap, sym, subst, ◌∙◌, arith, length-append}
+use Rattle.std.proofs.Common.{◌≡◌, ℕ, ◌+◌, ◌<◌, ◌≤◌, ◌^◌, List, [], ◌++◌, length, take, refl, ap, sym, subst, ◌∙◌, arith, length-append}
 use Rattle.std.specs.Prelude.{Option}
 use Rattle.std.proofs.lemmas.Grind.{flat_map-append}
 use Rattle.std.proofs.lemmas.List.{append_assoc, take-append-le, take_all}
@@ -12,6 +12,8 @@ use Rattle.task_seed.specs.Taken.{turns_of}
 use Rattle.schedules.specs.Schedules.{AreAllTurns, AreSchedule, HasSchedulesBelow, KeysFit}
 use Rattle.schedules.proofs.Told.{AreFollowed, fit_joined, followed, turns_joined}
 use Rattle.group_exchange.specs.Chunks.{IsGiven}
+use Rattle.lone_group.specs.declared.batch.Batch.{Batch}
+use Rattle.lone_group.specs.Lone.{IsBatch, turns_in}
 use Rattle.trace.specs.declared.counted.Counted.{Counted}
 use Rattle.trace.specs.declared.fault.WriteFault.{WriteFault}
 use Rattle.trace.specs.declared.lines.Lines.{Lines}
@@ -20,12 +22,46 @@ use Rattle.trace.specs.Lines.{shown_text, text_of}
 use Rattle.trace.specs.Puts.{Puts, Stops}
 use Rattle.trace.specs.Went.{IsWritten}
 use Rattle.workers.specs.declared.fault.WorkFault.{WorkFault}
-use Rattle.workers.specs.declared.fault.WorkFault.TheVariants.{NoMemory, Meeting, ThreadRefused}
+use Rattle.workers.specs.declared.fault.WorkFault.TheVariants.{NoMemory, Meeting, ThreadRefused, OutOfPlace}
 use Rattle.workers.specs.declared.portions.Portion.{Portion}
 use Rattle.workers.specs.Portions.{IsPortion, IsStoppedIn}
 use Rattle.workers.specs.Refusals.{run_fault}
 use Rattle.workers.specs.Runs.{IsBegun, IsCut, IsUnfinished, IsWhole}
-use Rattle.workers.proofs.Growing.{as_many, grown, length_turns}
+use Rattle.lone_group.proofs.Counting.{length_turns}
+use Rattle.lone_group.proofs.Stepping.{many_in}
+use Rattle.workers.proofs.Growing.{as_many, grown}
+
+-- turns that come next, how many came before, and how many with them
+pub record Piece : Type 0 where
+  pub turns : List Turned
+  pub first : ℕ
+  pub given : ℕ
+
+-- they are the next ones of the reference, up to a bound
+pub record IsPiece (s : System) (piece : Piece) : Type 0 where
+  pub bound : ℕ
+  pub within : bound ≤ end_rank
+  pub next : IsGiven (machine s) piece.first bound (turns_of piece.turns)
+  pub count : piece.given ≡ piece.first + length piece.turns
+
+-- a portion, and a batch
+abbrev pub piece_of : Portion → Piece
+piece_of portion = record { turns = portion.turns.after; first = portion.first; given = portion.given }
+
+abbrev pub is_piece : {s : System} {portion : Portion} → IsPortion s portion → IsPiece s (piece_of portion)
+is_piece is = record { bound = is.bound; within = is.within; next = is.next; count = is.count }
+
+abbrev pub piece_in : Batch → Piece
+piece_in batch = record { turns = turns_in batch.used batch.slots.items; first = batch.first; given = batch.given }
+
+pub many_given : {s : System} {batch : Batch} → IsBatch s batch → batch.given ≡ batch.first + length (turns_in batch.used batch.slots.items)
+many_given {batch = batch} is =
+    let many = many_in batch.used batch.slots.items is.room in
+    let count = is.count in
+    omega (arith, many, count)
+
+abbrev pub is_piece_in : {s : System} {batch : Batch} → IsBatch s batch → IsPiece s (piece_in batch)
+is_piece_in is = let p = is.part in record { bound = is.bound; within = p.within; next = record { old = p.old; before = p.before; next = p.next }; count = many_given is }
 
 -- the lines of the first turns went out, so many turns, and so many bytes with those from the start
 pub record Sofar {W : Type 0} (known : W → Option (List ℕ)) (plan : Plan) (s : System) (lines : Lines) (old new : Counted W) (start written bytes : ℕ) : Type 0 where
@@ -63,19 +99,19 @@ module _ {W : Type 0} {known : W → Option (List ℕ)} {plan : Plan} {s : Syste
   pub starts : (out : Counted W) (start : ℕ) → start < 2 ^ 64 → Sofar known plan s lines out out start 0 start
   starts out start low = record { turns = []; bound = 0; within = omega arith; are = refl; count = refl; keys = tt; puts = puts_nothing out start low }
 
-  -- a portion more
-  pub more : {old mid new : Counted W} {start written before after : ℕ} (portion : Portion) → Sofar known plan s lines old mid start written before → IsPortion s portion → portion.first ≡ written
-      → KeysFit portion.turns.after → Puts known mid new before after (text_of plan lines portion.turns.after) → Sofar known plan s lines old new start portion.given after
-  more {old} {mid} {new} {start} {written} {before} {after} portion h is first keys puts =
-      let first_is : portion.first ≡ length h.turns = first ∙ h.count in
+  -- a piece more
+  pub more : {old mid new : Counted W} {start written before after : ℕ} (piece : Piece) → Sofar known plan s lines old mid start written before → IsPiece s piece → piece.first ≡ written
+      → KeysFit piece.turns → Puts known mid new before after (text_of plan lines piece.turns) → Sofar known plan s lines old new start piece.given after
+  more {old} {mid} {new} {start} {written} {before} {after} piece h is first keys puts =
+      let first_is : piece.first ≡ length h.turns = first ∙ h.count in
       let given = is.count in record {
-        turns = h.turns ++ portion.turns.after;
+        turns = h.turns ++ piece.turns;
         bound = is.bound;
         within = is.within;
-        are = next_turns s h.turns portion.turns.after h.bound portion.first is.bound h.are first_is is.next;
+        are = next_turns s h.turns piece.turns h.bound piece.first is.bound h.are first_is is.next;
         count = simp length-append (omega (arith, given, first_is));
-        keys = fit_joined h.turns portion.turns.after h.keys keys;
-        puts = subst (Puts known old new start after) (sym (flat_map-append (shown_text plan lines) h.turns portion.turns.after)) (then_puts h.puts puts);
+        keys = fit_joined h.turns piece.turns h.keys keys;
+        puts = subst (Puts known old new start after) (sym (flat_map-append (shown_text plan lines) h.turns piece.turns)) (then_puts h.puts puts);
       }
 
   -- the lines of the first turns went out
@@ -94,20 +130,20 @@ module _ {W : Type 0} {known : W → Option (List ℕ)} {plan : Plan} {s : Syste
   pub whole : {old new : Counted W} {start written bytes : ℕ} → HasSchedulesBelow plan s → (h : Sofar known plan s lines old new start written bytes) → h.bound ≡ end_rank → IsWhole plan s lines (IsWritten known old new) written
   whole has h end = record { turns = h.turns; are = all_turns plan s has h.turns (h.are ∙ ap (reference_below (machine s)) end) h.keys; count_is = h.count; became = record { bytes = h.puts.bytes; failures = h.puts.failures } }
 
-  -- a portion more was the last one
-  pub last : {old mid new : Counted W} {start written before after : ℕ} → HasSchedulesBelow plan s → (portion : Portion) → Sofar known plan s lines old mid start written before → (is : IsPortion s portion) → portion.first ≡ written
-      → KeysFit portion.turns.after → Puts known mid new before after (text_of plan lines portion.turns.after) → is.bound ≡ end_rank → IsWhole plan s lines (IsWritten known old new) portion.given
+  -- a piece more was the last one
+  pub last : {old mid new : Counted W} {start written before after : ℕ} → HasSchedulesBelow plan s → (piece : Piece) → Sofar known plan s lines old mid start written before → (is : IsPiece s piece) → piece.first ≡ written
+      → KeysFit piece.turns → Puts known mid new before after (text_of plan lines piece.turns) → is.bound ≡ end_rank → IsWhole plan s lines (IsWritten known old new) piece.given
   unfolding more
-  last has portion h is first keys puts end = whole has (more portion h is first keys puts) end
+  last has piece h is first keys puts end = whole has (more piece h is first keys puts) end
 
-  -- a write failed in a portion
-  pub cut : {old mid new : Counted W} {start written before : ℕ} {fault : WriteFault} → HasSchedulesBelow plan s → (portion : Portion) → Sofar known plan s lines old mid start written before → IsPortion s portion → portion.first ≡ written
-      → IsStoppedIn known plan lines mid new before portion.turns.after fault → IsCut plan s lines (λ text. Stops known old new start text fault)
-  cut {old} {mid} {new} {start} {written} {before} {fault} has portion h is first stopped =
-      let first_is : portion.first ≡ length h.turns = first ∙ h.count in
+  -- a write failed in a piece
+  pub cut : {old mid new : Counted W} {start written before : ℕ} {fault : WriteFault} → HasSchedulesBelow plan s → (piece : Piece) → Sofar known plan s lines old mid start written before → IsPiece s piece → piece.first ≡ written
+      → IsStoppedIn known plan lines mid new before piece.turns fault → IsCut plan s lines (λ text. Stops known old new start text fault)
+  cut {old} {mid} {new} {start} {written} {before} {fault} has piece h is first stopped =
+      let first_is : piece.first ≡ length h.turns = first ∙ h.count in
       let turns = h.turns ++ stopped.first in
-      let are = next_turns s h.turns portion.turns.after h.bound portion.first is.bound h.are first_is is.next in
-      let split : h.turns ++ portion.turns.after ≡ turns ++ stopped.rest = ap (λ l. h.turns ++ l) stopped.are ∙ sym (append_assoc h.turns stopped.first stopped.rest) in
+      let are = next_turns s h.turns piece.turns h.bound piece.first is.bound h.are first_is is.next in
+      let split : h.turns ++ piece.turns ≡ turns ++ stopped.rest = ap (λ l. h.turns ++ l) stopped.are ∙ sym (append_assoc h.turns stopped.first stopped.rest) in
       let found = grown (machine s) is.bound end_rank is.within in
       let all : reference_below (machine s) end_rank ≡ (found.0 ++ turns_of stopped.rest) ++ turns_of turns
       = found.1 ∙ ap (λ l. found.0 ++ l) (sym are ∙ ap turns_of split ∙ turns_joined turns stopped.rest) ∙ sym (append_assoc found.0 (turns_of stopped.rest) (turns_of turns)) in
@@ -124,3 +160,4 @@ module _ {W : Type 0} {known : W → Option (List ℕ)} {plan : Plan} {s : Syste
   unfinished has NoMemory h = begun has h
   unfinished has (Meeting refused) h = begun has h
   unfinished has ThreadRefused h = begun has h
+  unfinished has OutOfPlace h = begun has h

@@ -1,3 +1,4 @@
+pub mod Alone
 pub mod Crews
 pub mod Gates
 pub mod Portions

@@ -19,3 +19,4 @@ abbrev pub run_fault : WorkFault → RunFault
 run_fault work.NoMemory = NoMemory
 run_fault (work.Meeting refused) = Meeting refused
 run_fault work.ThreadRefused = ThreadRefused
+run_fault work.OutOfPlace = OutOfPlace

@@ -33,6 +33,7 @@ impl Activity {
         let arrived = self.tally.messages.saturating_sub(self.tally.antimessages);
         Stats {
             turns,
+            sure: 0,
             groups: u64::from(groups),
             pairs: cut.edges as u64,
             cut: cut.cut as u64,
@@ -52,5 +53,34 @@ impl Activity {
             leash: self.leash,
             waited: self.waited,
         }
+    }
+}
+
+// What is told of a run whose components were all in one group: each turn was sure. So many batches were handed over, and the worker slept for so
+// many microseconds.
+pub(crate) fn alone_stats(turns: u64, batches: u64, waited: u64) -> Stats
+    ensures { result.turns ≡ turns }
+{
+    Stats {
+        turns,
+        sure: turns,
+        groups: 1,
+        pairs: 0,
+        cut: 0,
+        processed: turns,
+        kept: turns,
+        taken_back: 0,
+        roll_backs: 0,
+        stragglers: 0,
+        inside: 0,
+        across: 0,
+        antimessages: 0,
+        annihilated: 0,
+        visits: batches,
+        meetings: 0,
+        commits: 0,
+        chunks: batches,
+        leash: 0,
+        waited,
     }
 }

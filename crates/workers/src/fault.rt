@@ -23,7 +23,8 @@ pub enum RunFault {
     /// A worker's thread could not be started, or the gate didn't let the worker start.
     #[error("a worker could not be started")]
     ThreadRefused,
-    /// The number of the turns that chunks had given isn't that of the turns written. No run is known in which this comes.
+    /// The number of the turns that chunks had given isn't that of the turns written, or those that were drawn don't begin with the one that comes next.
+    /// No run is known in which this comes.
     #[error("turns are out of place")]
     OutOfPlace,
 }
@@ -34,6 +35,7 @@ pub enum WorkFault {
     NoMemory,
     Meeting(MeetRefused),
     ThreadRefused,
+    OutOfPlace,
 }
 
 /// The fault with which the run ends for it.
@@ -44,6 +46,7 @@ pub fn run_fault(fault: WorkFault) -> RunFault
         WorkFault::NoMemory => RunFault::NoMemory,
         WorkFault::Meeting(refused) => RunFault::Meeting(refused),
         WorkFault::ThreadRefused => RunFault::ThreadRefused,
+        WorkFault::OutOfPlace => RunFault::OutOfPlace,
     }
 }
 

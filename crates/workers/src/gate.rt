@@ -1,11 +1,13 @@
 //! What stands between a worker and the group that it runs ahead.
 ghost use Rattle.std.specs.Prelude.{◌≡◌, ◌≤◌};
 ghost use Rattle.groups.specs.Moves.{HasStopped, IsAhead};
+ghost use Rattle.lone_group.specs.Lone.{HasStopped as HasStoppedAlone, IsAhead as IsAheadAlone};
 ghost use Rattle.task_seed.specs.Any.{any_turn};
 ghost use Rattle.workers.specs.Gates.{StaysItself};
 
 use group_exchange::Lease;
 use groups::Ran;
+use lone_group::{LoneGroup, Took};
 use std::alloc::Global;
 use task_seed::{AnyTurns, Turns};
 
@@ -19,6 +21,11 @@ pub trait Gate<T: Turns>: Sync {
     /// Where memory was refused for the first entry, the run ends with that fault.
     fn ahead(&self, alloc: Global, lease: &mut Lease<T>, budget: u32) -> Ran
         ensures same { StaysItself T.turn_of lease.old lease.new };
+
+    /// Takes turns of the group that has all components, at most `budget` of them, as [`Gate::ahead`] does of others: where one group alone is run, a
+    /// gate is asked this.
+    fn ahead_alone(&self, alloc: Global, group: &mut LoneGroup<T>, budget: u32) -> Took
+        ensures same { group.new.setup ≡ group.old.setup };
 
     /// Whether a worker may be started. Workers are numbered from 0 and asked in order by the calling thread; after the first that isn't
     /// started no other is.
@@ -40,6 +47,15 @@ impl Gate<AnyTurns> for Unheld {
         ensures stop { HasStopped any_turn budget result.count result.stop lease.new }
     {
         run_ahead(alloc, lease, budget)
+    }
+
+    fn ahead_alone(&self, alloc: Global, group: &mut LoneGroup<AnyTurns>, budget: u32) -> Took
+        ensures same { group.new.setup ≡ group.old.setup }
+        ensures ahead { IsAheadAlone group.old group.new result.count }
+        ensures most { result.count ≤ budget }
+        ensures stop { HasStoppedAlone budget result.count result.rest group.new }
+    {
+        group.run_ahead(alloc, budget)
     }
 }
 

@@ -12,7 +12,8 @@ use crate::crew::{Caller, Division, Lent, Worker};
 use crate::desk::Desk;
 use crate::fault::{RunFault, WorkFault};
 use crate::gate::Gate;
-use crate::shared::{Shared, end, note};
+use crate::running_alone::run_alone;
+use crate::shared::{Ends, Shared};
 use crate::working::work;
 use crate::writing::{Page, write_all};
 use boards::{Board, Made, Pass};
@@ -24,8 +25,8 @@ use raw_events::EventList;
 use schedules::laws::turns_are_schedule;
 use std::alloc::Global;
 use std::io::Write;
-use std::sync::atomic::{AtomicBool, AtomicU64};
-use std::sync::{Arc, Mutex, Wait};
+use std::sync::atomic::AtomicU64;
+use std::sync::{Arc, Wait};
 use std::thread;
 use std::thread::Threads;
 use steering::{Raises, Ready, Signals, Stats, Vigil};
@@ -108,10 +109,10 @@ pub fn run_with_stats<T: Turns, W: Write + Drop, G: Gate<T>, R: Threads + Wait +
 
 // What a run runs on: threads, memory, and the gate before its groups.
 #[derive(Drop)]
-struct Means<'x, G, R> {
-    rt: &'x R,
-    alloc: Global,
-    gate: &'x G,
+pub(crate) struct Means<'x, G, R> {
+    pub(crate) rt: &'x R,
+    pub(crate) alloc: Global,
+    pub(crate) gate: &'x G,
 }
 
 // Runs, where so many bytes went out before the lines.
@@ -131,6 +132,9 @@ fn run_on<'x, T: Turns, W: Write + Drop, G: Gate<T>, R: Threads + Wait + Sync>(
         job.form.lines out.old out.new before) }
 {
     let lines = job.form.lines;
+    if job.workers.min(setup.plan().components()) <= 1 {
+        return run_alone(means, setup, job.budget, Page { lines, before }, out);
+    }
     match start(means.rt, means.alloc, setup, job) {
         Ok(begun) => run_begun(means, setup, begun, Page { lines, before }, out),
         Err(_refused) => Err(RunFault::NoMemory),
@@ -246,8 +250,7 @@ fn start<T: Turns, R: Wait>(
         shared: Shared {
             board,
             signals,
-            fault: Mutex::new(None),
-            ends: AtomicBool::new(groups == 0),
+            ends: Ends::new(groups == 0),
             looks: AtomicU64::new(0),
             published,
         },
@@ -401,7 +404,7 @@ fn in_scope<'x, 'y, T: Turns, W: Write + Drop, G: Gate<T>, R: Threads + Wait + S
             let mut number = 0u16;
             for worker in crew {
                 if !gate.may_start(number) {
-                    note(rt, shared, WorkFault::ThreadRefused);
+                    shared.ends.note(rt, WorkFault::ThreadRefused);
                     break;
                 }
                 number = number.wrapping_add(1);
@@ -411,7 +414,7 @@ fn in_scope<'x, 'y, T: Turns, W: Write + Drop, G: Gate<T>, R: Threads + Wait + S
                     { work(rt, alloc, shared, gate, worker) },
                 );
                 if child.is_err() {
-                    note(rt, shared, WorkFault::ThreadRefused);
+                    shared.ends.note(rt, WorkFault::ThreadRefused);
                     break;
                 }
             }
@@ -419,7 +422,7 @@ fn in_scope<'x, 'y, T: Turns, W: Write + Drop, G: Gate<T>, R: Threads + Wait + S
             let mut out = out;
             let result = write_all(rt, shared, own, &mut caller, page, &mut out);
             if result.is_err() {
-                end(shared);
+                shared.ends.end();
             }
             (out, result)
         },

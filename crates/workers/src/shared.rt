@@ -14,14 +14,20 @@ use std::sync::{Mutex, Wait};
 use steering::Signals;
 use task_seed::Turns;
 
+// The first fault, and whether a worker has ended.
+#[derive(Drop)]
+pub(crate) struct Ends {
+    fault: Mutex<Option<WorkFault>>,
+    ended: AtomicBool,
+}
+
 // The exchange, which one thread at a time has, what workers tell each other without it, the first fault, whether a worker has ended, how often
 // the calling thread looked for turns, and the count of committed turns.
 #[derive(Drop)]
 pub(crate) struct Shared<T: Turns> {
     pub(crate) board: Board<Lent<T>, Division<T>, Stub>,
     pub(crate) signals: Signals,
-    pub(crate) fault: Mutex<Option<WorkFault>>,
-    pub(crate) ends: AtomicBool,
+    pub(crate) ends: Ends,
     pub(crate) looks: AtomicU64,
     pub(crate) published: Published,
 }
@@ -45,14 +51,35 @@ pub(crate) fn hold<T: Turns, R: Wait>(
     unreachable!()
 }
 
-// Whether a worker has ended, or is to end: the exchange has finished, or a fault was noted.
-pub(crate) fn ends<T: Turns>(shared: &Shared<T>) -> bool {
-    shared.ends.load(Ordering::SeqCst)
-}
+impl Ends {
+    // No fault was noted; whether all have ended already.
+    pub(crate) fn new(has_ended: bool) -> Ends {
+        Ends {
+            fault: Mutex::new(None),
+            ended: AtomicBool::new(has_ended),
+        }
+    }
 
-// Tells all that a worker ends.
-pub(crate) fn end<T: Turns>(shared: &Shared<T>) {
-    shared.ends.store(true, Ordering::SeqCst);
+    // Whether a worker has ended, or is to end: all turns are there, or a fault was noted.
+    pub(crate) fn has_ended(&self) -> bool {
+        self.ended.load(Ordering::SeqCst)
+    }
+
+    // Tells all that a worker ends.
+    pub(crate) fn end(&self) {
+        self.ended.store(true, Ordering::SeqCst);
+    }
+
+    // Notes a fault, if it is the first, and has all workers end.
+    pub(crate) fn note<R: Wait>(&self, rt: &R, fault: WorkFault) {
+        set_first(&mut self.fault.lock(rt), fault);
+        self.end();
+    }
+
+    // The first fault, if there is one.
+    pub(crate) fn noted<R: Wait>(&self, rt: &R) -> Option<WorkFault> {
+        *self.fault.lock(rt)
+    }
 }
 
 // The calling thread looks for turns.
@@ -63,17 +90,6 @@ pub(crate) fn note_look<T: Turns>(shared: &Shared<T>) {
 // How often the calling thread looked for turns.
 pub(crate) fn looks<T: Turns>(shared: &Shared<T>) -> u64 {
     shared.looks.load(Ordering::SeqCst)
-}
-
-// Notes a fault, if it is the first, and has all workers end.
-pub(crate) fn note<T: Turns, R: Wait>(rt: &R, shared: &Shared<T>, fault: WorkFault) {
-    set_first(&mut shared.fault.lock(rt), fault);
-    end(shared);
-}
-
-// The first fault, if there is one.
-pub(crate) fn noted<T: Turns, R: Wait>(rt: &R, shared: &Shared<T>) -> Option<WorkFault> {
-    *shared.fault.lock(rt)
 }
 
 fn set_first(noted: &mut Option<WorkFault>, fault: WorkFault) {

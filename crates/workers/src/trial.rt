@@ -1,5 +1,5 @@
 //! Into how many groups the components of a setup are put: a trial finds what is fastest.
-ghost use Rattle.std.specs.Prelude.{◌≤◌};
+ghost use Rattle.std.specs.Prelude.{◌≡◌, ◌≤◌};
 ghost use Rattle.task_seed.specs.Any.{any_turn};
 ghost use Rattle.workers.specs.Gates.{StaysItself};
 
@@ -8,6 +8,7 @@ use crate::running::{Job, run_with_stats};
 use event_keys::Bound;
 use group_exchange::Lease;
 use groups::{Ran, Stop};
+use lone_group::{LoneGroup, Rest, Took};
 use std::alloc::Global;
 use std::io::{self, Sink};
 use std::sync::atomic::{AtomicU64, Ordering};
@@ -17,6 +18,12 @@ use std::time::{Clock, Duration, Instant};
 use task_seed::{AnyTurns, Setup};
 use terms::NoMemory;
 use trace::Counted;
+
+// How long one group is looked at first, in microseconds: by that it is told how long the run will take. A run that is to be over sooner than so many
+// has one group.
+const GLANCE: u64 = 500;
+
+const LONG: u64 = 250_000;
 
 // How long one group is tried, in microseconds, and how many entries it does then at least.
 const TRIED: u64 = 2_000;
@@ -115,11 +122,11 @@ impl<'x, R: Clock> Trial<'x, R> {
                 && self.elapsed() >= self.finish.limit)
     }
 
-    // A group did so many entries and has this to do next.
-    fn note(&self, group: u16, count: u32, next: Bound) {
+    // A group did so many entries and has come to this tick.
+    fn note(&self, group: u16, count: u32, tick: u64) {
         self.done.fetch_add(u64::from(count), Ordering::Relaxed);
-        if let Some(tick) = self.ticks.get(usize::from(group)) {
-            tick.store(tick_of(next), Ordering::Relaxed);
+        if let Some(word) = self.ticks.get(usize::from(group)) {
+            word.store(tick, Ordering::Relaxed);
         }
     }
 }
@@ -136,8 +143,26 @@ impl<'x, R: Clock + Sync> Gate<AnyTurns> for Trial<'x, R> {
             };
         }
         let ran = run_ahead(alloc, lease, budget);
-        self.note(lease.number(), ran.count, lease.next());
+        self.note(lease.number(), ran.count, tick_of(lease.next()));
         ran
+    }
+
+    fn ahead_alone(&self, alloc: Global, group: &mut LoneGroup<AnyTurns>, budget: u32) -> Took
+        ensures same { group.new.setup ≡ group.old.setup }
+    {
+        if self.is_over() {
+            return Took {
+                count: 0,
+                rest: Rest::NoMemory,
+            };
+        }
+        let took = group.run_ahead(alloc, budget);
+        let tick = match group.next() {
+            Some(key) => key.tick,
+            None => END,
+        };
+        self.note(0, took.count, tick);
+        took
     }
 }
 
@@ -150,7 +175,7 @@ fn tick_of(next: Bound) -> u64 {
 
 /// Into how many groups the components of a setup are put, 1 to the number of the workers of a job: as many as workers, or half of them, a quarter and
 /// so on, the first that proves faster than one group, as far as some milliseconds of their runs tell, whose text goes nowhere. One group, where none
-/// does, where the run is over sooner, and where memory or the clock fails.
+/// does, where a run up to this last tick seems to be over within a quarter of a second, and where memory or the clock fails.
 ///
 /// The trial's runs may wait as [`run`](crate::run) does. Nothing is promised of the answer but its range.
 pub fn groups_by_trial<R: Threads + Wait + Sync + Clock>(
@@ -158,12 +183,16 @@ pub fn groups_by_trial<R: Threads + Wait + Sync + Clock>(
     alloc: Global,
     setup: &Arc<Setup<AnyTurns>>,
     job: Job,
+    last: u64,
 ) -> u16
     requires workers { (1 ≤ job.workers) × (job.workers ≤ 64) }
     requires budget { (1 ≤ job.budget) × (job.budget ≤ 65535) }
     ensures { (1 ≤ result) × (result ≤ job.workers) }
 {
     let mut groups = job.workers.min(setup.plan().components());
+    if groups <= 1 || !is_long(rt, alloc, setup, job, last).unwrap_or(false) {
+        return 1;
+    }
     for _ in 0..HALVINGS {
         let tried = within(groups, job.workers);
         if tried == 1 {
@@ -176,6 +205,32 @@ pub fn groups_by_trial<R: Threads + Wait + Sync + Clock>(
         }
     }
     1
+}
+
+// Whether a run by one group up to this tick seems to take long, as far as its beginning tells.
+fn is_long<R: Threads + Wait + Sync + Clock>(
+    rt: &R,
+    alloc: Global,
+    setup: &Arc<Setup<AnyTurns>>,
+    job: Job,
+    last: u64,
+) -> Result<bool, NoMemory>
+    requires budget { (1 ≤ job.budget) × (job.budget ≤ 65535) }
+{
+    let alone = Job { workers: 1, ..job };
+    let finish = Finish {
+        tick: END,
+        limit: Duration::from_micros(GLANCE),
+        entries: ENTRIES,
+    };
+    let Some(begun) = try_run(rt, alloc, setup, alone, finish)? else {
+        return Ok(false);
+    };
+    if begun.tick == END {
+        return Ok(false);
+    }
+    let times = u32::try_from(last / begun.tick.max(1)).unwrap_or(u32::MAX);
+    Ok(begun.took.saturating_mul(times) >= Duration::from_micros(LONG))
 }
 
 // The number, but one at least and no more than that.

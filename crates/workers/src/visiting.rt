@@ -3,7 +3,7 @@ ghost use Rattle.workers.specs.Crews.{IsOf};
 
 use crate::crew::Worker;
 use crate::desk::{Report, meet};
-use crate::shared::{Shared, end, hold};
+use crate::shared::{Shared, hold};
 use std::alloc::Global;
 use std::sync::Wait;
 use task_seed::Turns;
@@ -43,7 +43,7 @@ pub(crate) fn visit<T: Turns, R: Wait>(
     worker.vigil.see(ready);
     shared.published.publish(&mut worker.seat, ready);
     if has_finished {
-        end(shared);
+        shared.ends.end();
     }
     met
 }

@@ -5,7 +5,7 @@ ghost use Rattle.workers.specs.Crews.{IsOf};
 use crate::crew::Worker;
 use crate::fault::WorkFault;
 use crate::gate::Gate;
-use crate::shared::{Shared, end, ends, looks, note};
+use crate::shared::{Shared, looks};
 use crate::visiting::visit;
 use event_keys::Bound;
 use groups::Stop;
@@ -25,18 +25,18 @@ pub(crate) fn work<T: Turns, G: Gate<T>, R: Wait>(
     requires { IsOf T.turn_of shared.now worker }
 {
     for _ in rt.forever() {
-        if ends(shared) {
+        if shared.ends.has_ended() {
             break;
         }
         if worker.vigil.keep_back(rt, looks(shared)) {
             continue;
         }
         if go_on(rt, alloc, shared, gate, &mut worker).is_err() {
-            note(rt, shared, WorkFault::NoMemory);
+            shared.ends.note(rt, WorkFault::NoMemory);
             break;
         }
     }
-    end(shared);
+    shared.ends.end();
 }
 
 // Runs the group ahead, and visits the exchange where that is due; else it waits, if there was nothing to do.

@@ -10,7 +10,7 @@ ghost use Rattle.workers.specs.Crews.{IsCallerOf, StaysDivided};
 use crate::crew::Caller;
 use crate::fault::{RunFault, WorkFault, run_fault};
 use crate::portions::{Cut, Portion, put_portion};
-use crate::shared::{Shared, ends, hold, note_look, noted};
+use crate::shared::{Shared, hold, note_look};
 use event_keys::Turned;
 use group_exchange::{Exchange, Parcel};
 use raw_events::EventList;
@@ -93,10 +93,10 @@ fn next_portion<T: Turns, R: Wait>(
 {
     note_look(shared);
     let count = shared.published.read(&mut caller.seat);
-    if count <= written && !ends(shared) {
+    if count <= written && !shared.ends.has_ended() {
         return Ok(None);
     }
-    if let Some(fault) = noted(rt, shared) {
+    if let Some(fault) = shared.ends.noted(rt) {
         return Err(fault);
     }
     let cut = collect(rt, shared, own, caller, spare);
@@ -105,7 +105,7 @@ fn next_portion<T: Turns, R: Wait>(
 
 // Naps, unless a worker has ended: then what is left can be had at once.
 fn rest<T: Turns, R: Wait>(rt: &R, shared: &Shared<T>) {
-    if !ends(shared) {
+    if !shared.ends.has_ended() {
         nap(rt);
     }
 }

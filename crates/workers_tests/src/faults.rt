@@ -9,13 +9,14 @@ use std::thread;
 use task_seed::AnyTurns;
 use terms::Refusal;
 use trace::{Counted, WriteFault};
-use workers::{Gate, Lease, Ran, RunFault, Summary, Unheld};
+use workers::{Gate, Lease, LoneGroup, Ran, RunFault, Summary, Took, Unheld};
 
 #[test]
 fn a_failing_writer_has_a_beginning(rt: HostRuntime) {
-    for room in 0..53usize {
+    for room in 0..106usize {
+        let (workers, room) = (1 + (room / 53) as u16, room % 53);
         let mut out = page_of(rt.alloc(), room, 100);
-        let ran = run_ring(&rt, (2, 64), &Unheld, &mut out);
+        let ran = run_ring(&rt, (workers, 64), &Unheld, &mut out);
         let fault = WriteFault::WriteFailed(room as u64);
         assert!(rt; ran == Err(RunFault::Write(fault)), "{room}");
         assert!(rt; out.failures() == 1);
@@ -44,6 +45,10 @@ impl Gate<AnyTurns> for Few {
         lease.run_ahead(alloc, budget)
     }
 
+    fn ahead_alone(&self, alloc: Global, group: &mut LoneGroup<AnyTurns>, budget: u32) -> Took {
+        group.run_ahead(alloc, budget)
+    }
+
     fn may_start(&self, worker: u16) -> bool {
         worker < self.workers
     }
@@ -55,7 +60,7 @@ fn a_worker_that_may_not_start_ends_the_run(rt: HostRuntime) {
     let ran = run_ring(&rt, (2, 64), &Few { workers: 0 }, &mut out);
     assert!(rt; ran == Err(RunFault::ThreadRefused));
     assert_held(&rt, out, b"");
-    for (crew, workers) in [((2u16, 64u32), 1u16), ((3, 64), 1)] {
+    for (crew, workers) in [((2u16, 64u32), 1u16), ((3, 64), 1), ((1, 64), 0)] {
         let mut out = page_of(rt.alloc(), 100, 100);
         let ran = run_ring(&rt, crew, &Few { workers }, &mut out);
         assert!(rt; ran == Err(RunFault::ThreadRefused));
@@ -86,6 +91,10 @@ impl<'a> Gate<AnyTurns> for Waiting<'a> {
             }
         }
         lease.run_ahead(alloc, budget)
+    }
+
+    fn ahead_alone(&self, alloc: Global, group: &mut LoneGroup<AnyTurns>, budget: u32) -> Took {
+        group.run_ahead(alloc, budget)
     }
 }
 

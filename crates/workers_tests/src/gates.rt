@@ -1,13 +1,18 @@
 //! That leases run ahead side by side, without the lock, and that what is written comes of them.
 
+ghost use Rattle.std.specs.Prelude.{◌≤◌};
+
 use crate::rings::{TEXT, run_ring};
-use std::alloc::Global;
+use std::alloc::{AllocGlobal, Global};
 use std::io::{self, Write};
+use std::process::Abort;
+use std::sync::Wait;
 use std::sync::atomic::{AtomicBool, AtomicU64, Ordering};
 use std::thread;
+use std::thread::Threads;
 use task_seed::AnyTurns;
 use trace::Counted;
-use workers::{Gate, Lease, Ran, Stop, Summary};
+use workers::{Gate, Lease, LoneGroup, Ran, Rest, Stop, Summary, Took};
 
 // How many rounds a gate waits at most.
 const MOST: u32 = 1_000_000;
@@ -45,6 +50,10 @@ impl Gate<AnyTurns> for Together {
             _ => {}
         }
         lease.run_ahead(alloc, budget)
+    }
+
+    fn ahead_alone(&self, alloc: Global, group: &mut LoneGroup<AnyTurns>, budget: u32) -> Took {
+        group.run_ahead(alloc, budget)
     }
 }
 
@@ -87,10 +96,11 @@ impl<'a> Write for Watched<'a> {
     }
 }
 
-// A gate that runs nothing of component 0 until the writer has taken 11 bytes, and in 1,000 calls more.
+// A gate that runs nothing of component 0, or of a group alone after its first turn, until the writer has taken 11 bytes, and in 1,000 calls more.
 #[derive(Drop)]
 struct Holding<'a> {
     taken: &'a AtomicU64,
+    begun: AtomicBool,
     calls: AtomicU64,
     later: AtomicU64,
     had: AtomicU64,
@@ -122,13 +132,37 @@ impl<'a> Gate<AnyTurns> for Holding<'a> {
         }
         lease.run_ahead(alloc, budget)
     }
+
+    fn ahead_alone(&self, alloc: Global, group: &mut LoneGroup<AnyTurns>, budget: u32) -> Took {
+        if !self.begun.swap(true, Ordering::SeqCst) {
+            return group.run_ahead(alloc, 1);
+        }
+        if self.holds() {
+            thread::yield_now();
+            return Took {
+                count: 0,
+                rest: Rest::Budget,
+            };
+        }
+        group.run_ahead(alloc, budget)
+    }
 }
 
 #[test]
 fn what_is_written_comes_of_the_leases(rt: HostRuntime) {
+    for workers in [2u16, 1] {
+        hold_and_write(&rt, workers);
+    }
+}
+
+// Runs the ring by so many workers behind a gate that holds it up after the first line.
+fn hold_and_write<R: Abort + Threads + Wait + Sync + AllocGlobal>(rt: &R, workers: u16)
+    requires { (1 ≤ workers) × (workers ≤ 64) }
+{
     let taken = AtomicU64::new(0);
     let gate = Holding {
         taken: &taken,
+        begun: AtomicBool::new(false),
         calls: AtomicU64::new(0),
         later: AtomicU64::new(0),
         had: AtomicU64::new(0),
@@ -137,7 +171,7 @@ fn what_is_written_comes_of_the_leases(rt: HostRuntime) {
         held: Vec::new(rt.alloc()),
         taken: &taken,
     });
-    let ran = run_ring(&rt, (2, 64), &gate, &mut out);
+    let ran = run_ring(rt, (workers, 64), &gate, &mut out);
     assert!(rt; ran == Ok(Summary { turns: 4 }));
     assert!(rt; out.into_inner().held.as_slice() == TEXT.as_bytes());
     assert!(rt; gate.calls.load(Ordering::SeqCst) < u64::from(MOST));

@@ -10,7 +10,7 @@ use std::sync::atomic::{AtomicBool, AtomicU64, Ordering};
 use std::sync::{Arc, Mutex};
 use task_seed::{AnyTurns, TableTurns};
 use terms::{NoMemory, Refusal};
-use workers::{Gate, Lease, Ran, RunFault, Stop, Summary, Unheld, run};
+use workers::{Gate, Lease, LoneGroup, Ran, Rest, RunFault, Stop, Summary, Took, Unheld, run};
 
 type Shared = Exchange<TableTurns>;
 
@@ -89,6 +89,10 @@ impl Gate<AnyTurns> for Starving {
         lease.run_ahead(alloc, budget)
     }
 
+    fn ahead_alone(&self, alloc: Global, group: &mut LoneGroup<AnyTurns>, budget: u32) -> Took {
+        group.run_ahead(alloc, budget)
+    }
+
     fn may_start(&self, _worker: u16) -> bool {
         match self.held.try_lock() {
             Some(mut held) => {
@@ -100,7 +104,7 @@ impl Gate<AnyTurns> for Starving {
     }
 }
 
-// A gate that takes all memory in each call but so many first ones, until a lease is refused.
+// A gate that takes all memory in each call but so many first ones, until a lease, or a group alone, is refused.
 #[derive(Drop)]
 struct Wanting {
     served: u64,
@@ -108,24 +112,48 @@ struct Wanting {
     is_refused: AtomicBool,
 }
 
+// No entry and no turn, since memory was refused.
+const NONE: Ran = Ran {
+    count: 0,
+    stop: Stop::NoMemory,
+};
+
+const NO_TURN: Took = Took {
+    count: 0,
+    rest: Rest::NoMemory,
+};
+
 impl Gate<AnyTurns> for Wanting {
     fn ahead(&self, alloc: Global, lease: &mut Lease<AnyTurns>, budget: u32) -> Ran {
         if self.calls.fetch_add(1, Ordering::SeqCst) < self.served {
             return lease.run_ahead(alloc, budget);
         }
         let Ok(mut held) = room(alloc) else {
-            return Ran {
-                count: 0,
-                stop: Stop::NoMemory,
-            };
+            return NONE;
         };
         exhaust(alloc, &mut held);
         let ran = lease.run_ahead(alloc, budget);
-        if ran.count == 0 && ran.stop == Stop::NoMemory {
+        if ran == NONE {
             self.is_refused.store(true, Ordering::SeqCst);
         }
         drop(held);
         ran
+    }
+
+    fn ahead_alone(&self, alloc: Global, group: &mut LoneGroup<AnyTurns>, budget: u32) -> Took {
+        if self.calls.fetch_add(1, Ordering::SeqCst) < self.served {
+            return group.run_ahead(alloc, budget);
+        }
+        let Ok(mut held) = room(alloc) else {
+            return NO_TURN;
+        };
+        exhaust(alloc, &mut held);
+        let took = group.run_ahead(alloc, budget);
+        if took == NO_TURN {
+            self.is_refused.store(true, Ordering::SeqCst);
+        }
+        drop(held);
+        took
     }
 }
 
@@ -140,14 +168,14 @@ fn a_run_ends_where_its_memory_is_refused(rt: HostRuntime) {
     drop(gate);
     assert!(rt; ran == Err(RunFault::ThreadRefused));
     assert_held(&rt, out, b"");
-    for served in [0u64, 2, 4] {
+    for (crew, served) in [(1u16, 0u64), (1, 2), (1, 4), (2, 0), (2, 2), (2, 4)] {
         let gate = Wanting {
             served,
             calls: AtomicU64::new(0),
             is_refused: AtomicBool::new(false),
         };
         let mut out = page_of(rt.alloc(), 100, 100);
-        let ran = run_ring(&rt, (1, 1), &gate, &mut out);
+        let ran = run_ring(&rt, (crew, 1), &gate, &mut out);
         let is_refused = gate.is_refused.load(Ordering::SeqCst);
         let is_done = ran == Ok(Summary { turns: 4 }) && !is_refused && served > 0;
         assert!(rt; ran == Err(RunFault::NoMemory) || is_done);

@@ -194,7 +194,7 @@ fn other_turns_and_lines(rt: HostRuntime) {
 fn a_run_that_is_over_within_the_trial_has_one_group(rt: HostRuntime) {
     let setup = Arc::new(rt.alloc(), ring_setup(&rt, &ROWS, 1000)).expect(&rt, "memory for it");
     for crew in [(1u16, 1u32), (2, 64), (64, 1)] {
-        let groups = groups_by_trial(&rt, rt.alloc(), &setup, job_of(crew, None));
+        let groups = groups_by_trial(&rt, rt.alloc(), &setup, job_of(crew, None), 1000);
         assert_eq!(rt; groups, 1);
     }
 }

@@ -19,10 +19,10 @@ returns-in-Err-run_with_stats g c =
     let kept : Type 0 = new ≡ old in
     let wrote : List ℕ → Type 0 = IsWritten known old new in
     let left =
-    subst (λ s. IsUnfinished (plan_of s) (system any_turn s) c.args.form.lines (Behind c.args.form.head wrote) (λ text. Stops known old new 0 (headed c.args.form.head text)) c.in-Err-run_with_stats.fault) c.in-Ok.ensures.ok
+    subst (λ s. IsUnfinished (plan_of s) (system any_turn s) c.args.manner.form.lines (Behind c.args.manner.form.head wrote) (λ text. Stops known old new 0 (headed c.args.manner.form.head text)) c.in-Err-run_with_stats.fault) c.in-Ok.ensures.ok
     c.in-Err-run_with_stats.ensures.unfinished in
-    subst (IsCrewReport plan turns c.args.form c.args.crew.stats kept wrote (IsStopped known old new)) (sym c.report_of.ensures)
-    (unfinished_reported known old new plan turns c.args.form c.args.crew.stats kept c.in-Err-run_with_stats.fault left)
+    subst (IsCrewReport plan turns c.args.manner.form c.args.manner.crew.stats kept wrote (IsStopped known old new)) (sym c.report_of.ensures)
+    (unfinished_reported known old new plan turns c.args.manner.form c.args.manner.crew.stats kept c.in-Err-run_with_stats.fault left)
 
 pub returns-in-Ok-run_with_stats : goal.returns-in-Ok-run_with_stats
 returns-in-Ok-run_with_stats g c =
@@ -34,6 +34,6 @@ returns-in-Ok-run_with_stats g c =
     let kept : Type 0 = new ≡ old in
     let wrote : List ℕ → Type 0 = IsWritten known old new in
     let counts = c.in-Ok-run_with_stats.counts in
-    let whole = subst (λ s. IsWhole (plan_of s) (system any_turn s) c.args.form.lines (Behind c.args.form.head wrote) counts.turns) c.in-Ok.ensures.ok c.in-Ok-run_with_stats.ensures.whole in
-    subst (IsCrewReport plan turns c.args.form c.args.crew.stats kept wrote (IsStopped known old new)) (sym c.done.ensures)
-    (done_reported known old new plan turns c.args.form c.args.crew.stats kept counts whole)
+    let whole = subst (λ s. IsWhole (plan_of s) (system any_turn s) c.args.manner.form.lines (Behind c.args.manner.form.head wrote) counts.turns) c.in-Ok.ensures.ok c.in-Ok-run_with_stats.ensures.whole in
+    subst (IsCrewReport plan turns c.args.manner.form c.args.manner.crew.stats kept wrote (IsStopped known old new)) (sym c.done.ensures)
+    (done_reported known old new plan turns c.args.manner.form c.args.manner.crew.stats kept counts whole)

@@ -1,7 +1,6 @@
 use Rattle.std.proofs.Common.{◌≡◌, Option, None, Some}
 use Rattle.std.specs.Prelude.{IfSome}
 use Rattle.groups.specs.declared.window.Window.{Window}
-use Rattle.workers.proofs.desk.meet.Goals as goal
 
 -- both have the same window
 has_window : (a b : Option Window) → a ≡ b → IfSome b (λ w. a ≡ Some w)

@@ -8,7 +8,7 @@ use Rattle.trace.specs.Lines.{text_of}
 use Rattle.plans.specs.declared.plan.Plan.{Plan}
 use Rattle.workers.specs.declared.fault.RunFault.{RunFault}
 use Rattle.workers.specs.Runs.{IsUnfinished, IsWhole}
-use Rattle.workers.proofs.Written.{begun, cut, last, more, starts, unfinished}
+use Rattle.workers.proofs.Written.{begun, cut, is_piece, last, more, piece_of, starts, unfinished}
 use Rattle.workers.specs.declared.portions.Portion.{Portion}
 use Rattle.workers.specs.Portions.{IsPortion, IsDuePortion, IsStoppedIn}
 use Rattle.workers.proofs.writing.write_all.Goals as goal
@@ -34,7 +34,7 @@ returns-in-Err-put_portion-clause-unfinished g c =
     let portion = c.in-Ok-Some.portion in
     let first : portion.first ≡ c.loop.written = omega arith in
     let stopped = subst (λ (p : Plan). IsStoppedIn known p c.args.page.lines c.loop.out c.put_portion.new.out c.loop.bytes portion.turns.after c.in-Err-put_portion.fault) c.plan.ensures c.in-Err-put_portion.ensures.err in
-    cut c.turns_are_schedule.ensures.below portion c.loop.invariant.sofar (due c.in-Ok-Some.portion c.in-Ok-Some.field-0 c.in-Ok-Some.field-0-is c.in-Ok-Some.ensures.portion) first stopped
+    cut c.turns_are_schedule.ensures.below (piece_of portion) c.loop.invariant.sofar (is_piece (due c.in-Ok-Some.portion c.in-Ok-Some.field-0 c.in-Ok-Some.field-0-is c.in-Ok-Some.ensures.portion)) first stopped
 
 pub returns-then-portion-clause-whole : goal.returns-then-portion-clause-whole
 returns-then-portion-clause-whole g c =
@@ -44,7 +44,7 @@ returns-then-portion-clause-whole g c =
     let first : portion.first ≡ c.loop.written = omega arith in
     let puts = subst (λ (p : Plan). Puts known c.loop.out c.put_portion.new.out c.loop.bytes c.in-Ok.after (text_of p c.args.page.lines portion.turns.after)) c.plan.ensures c.in-Ok.ensures.ok in
     let own = c.args.own.now in
-    let whole = last c.turns_are_schedule.ensures.below portion c.loop.invariant.sofar is first c.in-Ok.ensures.keys puts (is.last c.if-portion.true) in
+    let whole = last c.turns_are_schedule.ensures.below (piece_of portion) c.loop.invariant.sofar (is_piece is) first c.in-Ok.ensures.keys puts (is.last c.if-portion.true) in
     subst (λ (n : ℕ). IsWhole (plan_of own) (system g.T.Turns.turn_of own) c.args.page.lines (IsWritten known c.args.out.now c.put_portion.new.out) n) (sym c.stats.ensures) whole
 
 pub loop-preserved : goal.loop-preserved
@@ -53,4 +53,4 @@ loop-preserved g c =
     let portion = c.in-Ok-Some.portion in
     let first : portion.first ≡ c.loop.written = omega arith in
     let puts = subst (λ (p : Plan). Puts known c.loop.out c.put_portion.new.out c.loop.bytes c.in-Ok.after (text_of p c.args.page.lines portion.turns.after)) c.plan.ensures c.in-Ok.ensures.ok in
-    record { caller = c.next_portion.ensures.caller; sofar = more portion c.loop.invariant.sofar (due c.in-Ok-Some.portion c.in-Ok-Some.field-0 c.in-Ok-Some.field-0-is c.in-Ok-Some.ensures.portion) first c.in-Ok.ensures.keys puts }
+    record { caller = c.next_portion.ensures.caller; sofar = more (piece_of portion) c.loop.invariant.sofar (is_piece (due c.in-Ok-Some.portion c.in-Ok-Some.field-0 c.in-Ok-Some.field-0-is c.in-Ok-Some.ensures.portion)) first c.in-Ok.ensures.keys puts }

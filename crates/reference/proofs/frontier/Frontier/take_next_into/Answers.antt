@@ -259,7 +259,7 @@ returns-clause-whole g c =
     let states_are : (with_items c.args.self.now.states news).items ≡ news = with_items_is c.args.self.now.states news (c.in_ok-take_turn.ensures.many ∙ c.deref_mut.ensures.len) in
     subst (λ (l : List ℕ). IsComplete (machine s) (taken_at s l (with_items c.args.self.now.numbers new_numbers).items)) (sym places_are)
     (subst (λ (l : List ℕ). IsComplete (machine s) (taken_at s new l)) (sym numbers_are)
-    (whole_after s law counted exists one places numbers here stands key first found came next c.in-Ok.ensures.key small new tournament own others new_numbers counted_on news c.in_ok-take_turn.ensures.many c.in_ok-take_turn.ensures.states))
+    (whole_after s law counted exists one places numbers here stands key first found came next c.in-Ok.ensures.key small new tournament own others new_numbers counted_on))
 
 pub returns-clause-ok : goal.returns-clause-ok
 returns-clause-ok g c =

@@ -1,0 +1,4 @@
+pub mod Drawn
+pub mod Held
+pub mod Lone
+pub mod Taken

@@ -1,0 +1,5 @@
+use Rattle.workers.proofs.Relayed.{may_give}
+use Rattle.workers.proofs.batches.next_batch.Goals as goal
+
+pub give_back-requires-clause-others : goal.give_back-requires-clause-others
+give_back-requires-clause-others g c = may_give c.args.writer.now.pass c.take.new.pass c.in-Some.ensures.some
