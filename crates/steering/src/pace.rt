@@ -3,6 +3,7 @@ use crate::nap::nap_for;
 use crate::policy::POLICY;
 use std::hint::spin_loop;
 use std::sync::Wait;
+use std::thread::yield_now;
 
 /// One thread's own counts, where one group has all components. It steers the thread, and no promise rests on it.
 #[derive(Clone, Copy)]
@@ -49,11 +50,16 @@ impl Pace {
         self.vain = 0;
     }
 
-    /// It found nothing to do: it looks again at once for a while, and then naps.
+    /// It found nothing to do: it looks again at once for a while, then gives the processor up between looks, and naps last.
     pub fn wait<R: Wait>(&mut self, rt: &R) {
         if self.vain < POLICY.most_vain_alone {
             self.vain += 1;
             spin_loop();
+            return;
+        }
+        if self.vain - POLICY.most_vain_alone < POLICY.most_yields_alone {
+            self.vain += 1;
+            yield_now();
             return;
         }
         self.waited = self.waited.saturating_add(POLICY.nap);

@@ -28,8 +28,11 @@ pub(crate) struct Policy {
     pub(crate) entries_a_component: u64,
     /// How many times in a row a worker looks again at once that found nothing to do, before it naps: some tens of microseconds.
     pub(crate) most_vain: u32,
-    /// The same of a thread of a lone group.
+    /// The same of a thread of a lone group, before it gives the processor up between looks.
     pub(crate) most_vain_alone: u32,
+    /// How many times in a row a thread of a lone group gives the processor up and looks again, before it naps. A nap may end much later than it should
+    /// where the host takes processors away, and the two other threads then wait too.
+    pub(crate) most_yields_alone: u32,
 }
 
 pub(crate) const POLICY: Policy = Policy {
@@ -46,4 +49,5 @@ pub(crate) const POLICY: Policy = Policy {
     entries_a_component: 4,
     most_vain: 600,
     most_vain_alone: 200,
+    most_yields_alone: 400,
 };

@@ -26,14 +26,6 @@ impl Ready {
         })
     }
 
-    /// Whether turns came below the bound since a component met the exchange last, where so many are now.
-    pub fn is_behind(&self, number: u16, count: u64) -> bool {
-        match self.met.get(usize::from(number)) {
-            None => false,
-            Some(met) => *met != count,
-        }
-    }
-
     /// A component meets the exchange while so many turns are below the bound.
     pub fn meet(&mut self, number: u16, count: u64) {
         let at = usize::from(number);

@@ -33,21 +33,11 @@ pub struct Vigil {
 }
 
 impl Vigil {
-    /// That of a worker that does at most so many entries in a row, where there are so many groups of so many components in all.
-    pub fn new(budget: u32, groups: u16) -> Vigil {
-        let is_alone = groups <= 1;
-        let slice = if is_alone {
-            budget.min(POLICY.slice_alone)
-        } else {
-            budget.min(POLICY.slice)
-        };
+    /// That of a worker of one of several groups that does at most so many entries in a row.
+    pub fn new(budget: u32) -> Vigil {
         Vigil {
-            slice,
-            slices: if is_alone {
-                1
-            } else {
-                budget / POLICY.slice + 1
-            },
+            slice: budget.min(POLICY.slice),
+            slices: budget / POLICY.slice + 1,
             leash: POLICY.leash,
             unlost: 0,
             done: 0,

@@ -238,7 +238,7 @@ fn start<T: Turns, R: Wait>(
     let Some(seat) = seats.pop() else {
         unreachable!()
     };
-    let vigil = Vigil::new(job.budget, groups);
+    let vigil = Vigil::new(job.budget);
     let shares = Shares {
         passes,
         leases,
