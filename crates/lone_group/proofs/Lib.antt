@@ -1,3 +1,4 @@
 pub mod Counting
 mod Drawing
 pub mod Stepping
+mod Waiting

@@ -1,5 +1,5 @@
 -- A group of all components, and what it hands over.
-use Rattle.std.specs.Prelude.{◌≡◌, ℕ, ◌+◌, ◌++◌, ◌≤◌, ◌<◌, true, Option, None, IsSome, List, [], drop, length, map, take}
+use Rattle.std.specs.Prelude.{◌≡◌, ℕ, ◌+◌, ◌++◌, ◌≤◌, ◌<◌, true, Option, None, IsSome, List, [], ◌∷◌, drop, length, map, take}
 use Rattle.event_keys.specs.declared.key.Key.{Key}
 use Rattle.event_keys.specs.declared.outcome.Turned.{Turned}
 use Rattle.virtual_time.specs.Reference.{reference_below}
@@ -26,11 +26,11 @@ pub record Alone (P : Type 0) : Type 0 where
 abbrev pub start_of : {P : Type 0} → P → Option Key → Alone P
 start_of setup next = record { setup = setup; next = next; due = []; first = 0; turns = [] }
 
--- a setup, the turns that are drawn and wait, if there are any, and the batch that waits, if there is one
+-- a setup, the lists of turns that are drawn and wait, and the batches that wait, each in the order in which they came
 pub record Between (P : Type 0) : Type 0 where
   pub setup : P
-  pub drawn : Option Drawn
-  pub batch : Option Batch
+  pub drawn : List Drawn
+  pub batches : List Batch
 
 -- the turn in a slot, and those in the first slots, so many
 abbrev pub turned : Slot → Turned
@@ -55,6 +55,13 @@ pub record IsBatch (s : System) (batch : Batch) : Type 0 where
   pub room : batch.used ≤ length batch.slots.items
   pub count : batch.given ≡ batch.first + batch.used
   pub last : batch.is_last ≡ true → bound ≡ end_rank
+
+-- what a group took and hadn't handed over waits as a batch, behind those that waited
+pub record IsHanded {P : Type 0} (old new : Between P) (group : Alone P) : Type 0 where
+  pub batch : Batch
+  pub becomes : new ≡ record old { batches = old.batches ++ batch ∷ [] }
+  pub first : batch.first ≡ group.first
+  pub turns : turns_in batch.used batch.slots.items ≡ group.turns
 
 -- so many more turns were taken, of those that were drawn
 pub record IsAhead {P : Type 0} (old new : Alone P) (count : ℕ) : Type 0 where

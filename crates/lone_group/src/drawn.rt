@@ -1,5 +1,5 @@
 //! Turns that are drawn and not taken yet.
-ghost use Rattle.std.specs.Prelude.{◌≡◌, [], IfOk};
+ghost use Rattle.std.specs.Prelude.{◌≡◌, ◌≤◌, ◌⊎◌, [], IfOk, None, vec_len};
 ghost use Rattle.task_seed.specs.Setups.{system};
 ghost use Rattle.lone_group.specs.Drawn.{IsDrawn};
 
@@ -31,6 +31,8 @@ pub fn draw<T: Turns>(
     ensures drawn { IfOk result (IsDrawn (system T.turn_of agenda.old.setup)) }
     ensures from { IfOk result (λ drawn. drawn.from ≡ agenda.old.next) }
     ensures next { IfOk result (λ drawn. drawn.next ≡ agenda.new.next) }
+    ensures most { IfOk result (λ drawn. vec_len drawn.due ≤ most) }
+    ensures all { IfOk result (λ drawn. (vec_len drawn.due ≡ most) ⊎ (drawn.next ≡ None)) }
 {
     let mut due = empty;
     let from = agenda.next();

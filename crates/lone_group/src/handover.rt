@@ -1,32 +1,33 @@
 //! What the threads of a lone group hand each other.
-ghost use Rattle.std.specs.Prelude.{◌≡◌, [], IfSome, None, Some, is_none};
+ghost use Rattle.std.specs.Prelude.{◌≡◌, [], ◌∷◌, ◌++◌, IfNone, IfOk, IfSome, OnErr, OnOk, length, option_to_list};
 ghost use Rattle.std.specs.Arc.{arc_value};
 ghost use Rattle.task_seed.specs.Setups.{system};
 ghost use Rattle.lone_group.specs.Drawn.{IsDrawn};
-ghost use Rattle.lone_group.specs.Lone.{IsBatch};
+ghost use Rattle.lone_group.specs.Lone.{IsBatch, IsHanded};
 
 use crate::batch::{Batch, Slot};
 use crate::drawn::Drawn;
 use crate::lone::LoneGroup;
 use reference::Due;
 use std::alloc::Global;
+use std::collections::VecDeque;
 use std::marker::Model;
-use std::mem::replace;
 use std::sync::Arc;
 use task_seed::{Setup, Turns};
+use terms::NoMemory;
 
-/// Room for turns that were drawn, and for a batch of those that were taken; and for a list of either, whose memory serves again.
+/// Turns that were drawn, and batches of those that were taken, each in the order in which they came; and lists of either, whose memory serves again.
 #[derive(Drop)]
 pub struct Handover<T: Turns> {
     setup: Arc<Setup<T>>,
-    drawn: Option<Drawn>,
-    batch: Option<Batch>,
-    due: Option<Vec<Due>>,
-    slots: Option<Vec<Slot>>,
+    drawn: VecDeque<Drawn>,
+    batches: VecDeque<Batch>,
+    dues: Vec<Vec<Due>>,
+    slots: Vec<Vec<Slot>>,
 }
 
 impl<T: Turns> Model for Handover<T> {
-    ghost use Rattle.std.specs.Prelude.{IfSome, [], ◌≡◌};
+    ghost use Rattle.std.specs.Prelude.{All, [], ◌≡◌};
     ghost use Rattle.std.specs.Arc.{arc_value};
     ghost use Rattle.std.specs.Coded.{codes};
     ghost use Rattle.plans.specs.KnownLaws.{are_known_prop};
@@ -50,47 +51,73 @@ impl<T: Turns> Model for Handover<T> {
       datum_code,
     ) };
 
-    ghost view = { λ h. record { setup = arc_value h.setup; drawn = h.drawn; batch = h.batch } };
+    ghost view = { λ h. record {
+      setup = arc_value h.setup;
+      drawn = h.drawn.items;
+      batches = h.batches.items;
+    } };
 
-    ghost invariant = { λ h. IfSome h.drawn (IsDrawn (system T.turn_of (arc_value h.setup)))
-        × IfSome h.batch (IsBatch (system T.turn_of (arc_value h.setup)))
-        × IfSome h.due (λ due. due.items ≡ []) };
+    ghost invariant = { λ h. All (IsDrawn (system T.turn_of (arc_value h.setup))) h.drawn.items
+        × All (IsBatch (system T.turn_of (arc_value h.setup))) h.batches.items
+        × All (λ due. due.items ≡ []) h.dues.items };
 }
 
 impl<T: Turns> Handover<T> {
-    /// There is none.
-    pub fn new(setup: Arc<Setup<T>>) -> Handover<T>
-        ensures { result ≡ record { setup = arc_value setup; drawn = None; batch = None } }
+    /// Nothing waits.
+    pub fn new(alloc: Global, setup: Arc<Setup<T>>) -> Handover<T>
+        ensures { result ≡ record { setup = arc_value setup; drawn = []; batches = [] } }
     {
         Handover {
             setup,
-            drawn: None,
-            batch: None,
-            due: None,
-            slots: None,
+            drawn: VecDeque::new(alloc),
+            batches: VecDeque::new(alloc),
+            dues: Vec::new(alloc),
+            slots: Vec::new(alloc),
         }
     }
 
-    /// Turns were drawn, which wait now in place of those that waited. The answer is an empty list for those that are drawn next.
-    pub fn put_drawn(&mut self, alloc: Global, drawn: Drawn) -> Vec<Due>
-        requires drawn { IsDrawn (system T.turn_of self.old.setup) drawn }
-        ensures put { self.new ≡ record self.old { drawn = Some drawn } }
-        ensures empty { result.items ≡ [] }
+    /// How many lists of drawn turns wait.
+    pub fn drawn(&self) -> usize
+        ensures { result ≡ length self.now.drawn }
     {
-        self.drawn = Some(drawn);
-        match replace(&mut self.due, None) {
-            Some(due) => due,
-            None => Vec::new(alloc),
+        self.drawn.len()
+    }
+
+    /// How many batches wait.
+    pub fn batches(&self) -> usize
+        ensures { result ≡ length self.now.batches }
+    {
+        self.batches.len()
+    }
+
+    /// Turns were drawn, which wait now behind those that wait. The answer is an empty list for those that are drawn next.
+    ///
+    /// # Errors
+    ///
+    /// `NoMemory`; then they don't wait, and are lost.
+    pub fn put_drawn(&mut self, alloc: Global, drawn: Drawn) -> Result<Vec<Due>, NoMemory>
+        requires drawn { IsDrawn (system T.turn_of self.old.setup) drawn }
+        ensures ok { OnOk result
+            (self.new ≡ record self.old { drawn = self.old.drawn ++ drawn ∷ [] }) }
+        ensures empty { IfOk result (λ due. due.items ≡ []) }
+        ensures err { OnErr result (self.new ≡ self.old) }
+    {
+        self.drawn.reserve(1)?;
+        self.drawn.push_back_reserved(drawn);
+        match self.dues.pop() {
+            Some(due) => Ok(due),
+            None => Ok(Vec::new(alloc)),
         }
     }
 
-    /// The turns that are drawn and wait, if there are any, which leaves room for the next.
+    /// The turns that were drawn first of those that wait, if any do. They don't wait any more.
     pub fn take_drawn(&mut self) -> Option<Drawn>
         ensures drawn { IfSome result (IsDrawn (system T.turn_of self.old.setup)) }
-        ensures result { result ≡ self.old.drawn }
-        ensures rest { self.new ≡ record self.old { drawn = None } }
+        ensures first { self.old.drawn ≡ option_to_list result ++ self.new.drawn }
+        ensures none { IfNone result (self.old.drawn ≡ []) }
+        ensures rest { self.new ≡ record self.old { drawn = self.new.drawn } }
     {
-        replace(&mut self.drawn, None)
+        self.drawn.pop_front()
     }
 
     /// The list of turns that were taken, whose memory serves again.
@@ -98,40 +125,48 @@ impl<T: Turns> Handover<T> {
         requires empty { due.items ≡ [] }
         ensures { self.new ≡ self.old }
     {
-        self.due = Some(due);
+        // Where there is no memory to keep it, it goes.
+        drop(self.dues.push(due));
     }
 
-    /// The group hands over its turns, where there is room. Whether there was.
-    pub fn put(&mut self, alloc: Global, group: &mut LoneGroup<T>) -> bool
+    /// The group hands over its turns: a batch of them waits behind those that wait.
+    ///
+    /// # Errors
+    ///
+    /// `NoMemory`; then nothing was handed over.
+    pub fn put(&mut self, alloc: Global, group: &mut LoneGroup<T>) -> Result<(), NoMemory>
         requires own { group.old.setup ≡ self.old.setup }
+        ensures ok { OnOk result (IsHanded self.old self.new group.old) }
+        ensures rest { OnOk result
+            (group.new ≡ record group.old { first = group.new.first; turns = [] }) }
+        ensures err { OnErr result ((self.new ≡ self.old) × (group.new ≡ group.old)) }
         ensures setup { self.new.setup ≡ self.old.setup }
         ensures same { group.new.setup ≡ group.old.setup }
-        ensures room { result ≡ is_none self.old.batch }
     {
-        if self.batch.is_some() {
-            return false;
-        }
-        let slots = match replace(&mut self.slots, None) {
+        self.batches.reserve(1)?;
+        let slots = match self.slots.pop() {
             Some(slots) => slots,
             None => Vec::new(alloc),
         };
-        self.batch = Some(group.hand_over(slots));
-        true
+        self.batches.push_back_reserved(group.hand_over(slots));
+        Ok(())
     }
 
-    /// The batch, if there is one, which leaves room for the next.
+    /// The batch that was handed over first of those that wait, if any do. It doesn't wait any more.
     pub fn take(&mut self) -> Option<Batch>
         ensures batch { IfSome result (IsBatch (system T.turn_of self.old.setup)) }
-        ensures result { result ≡ self.old.batch }
-        ensures rest { self.new ≡ record self.old { batch = None } }
+        ensures first { self.old.batches ≡ option_to_list result ++ self.new.batches }
+        ensures none { IfNone result (self.old.batches ≡ []) }
+        ensures rest { self.new ≡ record self.old { batches = self.new.batches } }
     {
-        replace(&mut self.batch, None)
+        self.batches.pop_front()
     }
 
     /// The slots of a batch that was written, whose memory serves again.
     pub fn give_slots(&mut self, slots: Vec<Slot>)
         ensures { self.new ≡ self.old }
     {
-        self.slots = Some(slots);
+        // Where there is no memory to keep them, they go.
+        drop(self.slots.push(slots));
     }
 }

@@ -117,13 +117,6 @@ impl<T: Turns> LoneGroup<T> {
         })
     }
 
-    /// The setup.
-    pub fn setup(&self) -> &Setup<T>
-        ensures { result.now ≡ self.now.setup }
-    {
-        self.standing.setup()
-    }
-
     /// The key of the turn that comes next, if one is left.
     pub fn next(&self) -> Option<Key>
         ensures { result ≡ self.now.next }

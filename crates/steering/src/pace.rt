@@ -45,6 +45,17 @@ impl Pace {
         waiting < POLICY.most_waiting
     }
 
+    /// Whether one more list of drawn turns may wait, where so many do.
+    pub fn may_add(&self, lists: u64) -> bool {
+        lists < POLICY.most_lists
+    }
+
+    /// Whether turns that were taken go now, where so many batches wait: at once where none does, so that nobody waits for them; else only where there
+    /// are as many as there may be, or no more come.
+    pub fn may_share(&self, batches: u64, is_full: bool) -> bool {
+        batches == 0 || (is_full && batches < POLICY.most_lists)
+    }
+
     /// It found something to do.
     pub fn go_on(&mut self) {
         self.vain = 0;

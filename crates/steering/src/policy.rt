@@ -8,8 +8,11 @@ pub(crate) struct Policy {
     /// How many turns may be published before the calling thread has looked for them again. A worker waits then until it has: what isn't written
     /// takes memory, and the cells of what is written serve again.
     pub(crate) most_unseen: u64,
-    /// How many sure turns are drawn at most before those before them are fetched, and taken before those before them are.
+    /// How many turns of a lone group are drawn at most in one list, and are taken at most before they are handed over: a millisecond or two of work.
     pub(crate) most_waiting: usize,
+    /// How many lists of drawn turns may wait, and how many batches of taken ones. While the host takes the processor away from one of the three
+    /// threads, the two others go on with these, or fill them.
+    pub(crate) most_lists: u64,
     /// How many are drawn at first.
     pub(crate) first_page: usize,
     /// How many ticks a group may run ahead of all others, where entries of it were taken back lately.
@@ -39,6 +42,7 @@ pub(crate) const POLICY: Policy = Policy {
     nap: 50,
     most_unseen: 1024,
     most_waiting: 4096,
+    most_lists: 4,
     first_page: 64,
     leash: 8,
     most_leash: 64,

@@ -1,4 +1,4 @@
-use Rattle.std.proofs.Common.{◌++◌, ◌∷◌, [], List, ap, sym, subst, ◌∙◌}
+use Rattle.std.proofs.Common.{◌++◌, ◌∷◌, [], List, ap, sym, subst, ◌∙◌, rules}
 use Rattle.task_seed.specs.Setups.{system}
 use Rattle.reference.specs.declared.agenda.Due.{Due}
 use Rattle.reference.specs.Agendas.{IsDrawn}
@@ -22,4 +22,5 @@ loop-preserved g c =
       setup = c.draw.ensures.setup ∙ c.loop.invariant.setup;
       due = subst (λ l. AreNext s l new) (sym items) (next_more s due turn old new drawn.0 drawn.1 c.loop.invariant.due);
       from = c.loop.invariant.from ∙ sym (first_more due turn old new drawn.0) ∙ ap (λ l. first_of l new) (sym items);
+      count = search rules;
     }
