@@ -95,7 +95,7 @@ module _ (T : RattleType) (g : turns.Ghosts T.Denot) (e : equal.Ghosts T.Denot) 
   LoneGroup-send s y = search (Setup-send, Setup-sync, slot.the_send, memo.the_send, option.the_field_send, crossing.Arc-send, arc.the_send, vec.the_send, vec_deque.the_send, scalar.the_send, crossing.crosses, value.crosses, effect.crosses, shape.crosses, term.crosses, sendable) depth 60 fits 20000
 
   pub Handover-send : IsSend T → IsSync T → IsSend (Handover.the_row T g e)
-  Handover-send s y = search (Setup-send, Setup-sync, batch.the_send, slot.the_send, drawn.the_send, option.the_field_send, crossing.Arc-send, arc.the_send, vec.the_send, crossing.crosses, value.crosses, effect.crosses, shape.crosses, term.crosses, sendable) depth 60 fits 20000
+  Handover-send s y = search (Setup-send, Setup-sync, batch.the_send, slot.the_send, drawn.the_send, crossing.Arc-send, arc.the_send, vec.the_send, vec_deque.the_send, crossing.crosses, value.crosses, effect.crosses, shape.crosses, term.crosses, sendable) depth 60 fits 20000
 
   pub Passed-send : IsSend T → IsSync T → IsSend (Passed.the_row T g e)
   Passed-send s y = search (Handover-send, crossing.crosses, effect.crosses, shape.crosses, term.crosses, sendable) depth 60 fits 20000
@@ -107,4 +107,4 @@ module _ (T : RattleType) (g : turns.Ghosts T.Denot) (e : equal.Ghosts T.Denot) 
   Taker-send s y = search (Passed-send, LoneGroup-send, pace.the_field_send, pass.the_field_send, crossing.crosses, value.crosses, effect.crosses, shape.crosses, term.crosses, sendable) depth 60 fits 20000
 
   pub Relay-sync : (q : whole_equal.Ghosts T.Denot) → IsSend T → IsSync T → IsSync (Relay.the_row T g q e)
-  Relay-sync q s y = search (Passed-send, ends.the_field_sync, atomic_bool.the_field_sync, board.the_field_sync, crossing.crosses, value.crosses, effect.crosses, shape.crosses, term.crosses, sendable) depth 60 fits 20000
+  Relay-sync q s y = search (Passed-send, ends.the_field_sync, board.the_field_sync, crossing.crosses, value.crosses, effect.crosses, shape.crosses, term.crosses, sendable) depth 60 fits 20000

@@ -8,7 +8,7 @@ use boards::{Board, Made, Pass, Sectioned};
 use lone_group::{Handover, LoneGroup};
 use reference::Agenda;
 use std::alloc::Global;
-use std::sync::atomic::{AtomicBool, AtomicU64};
+use std::sync::atomic::AtomicU64;
 use std::sync::{Arc, Wait};
 use steering::Pace;
 use task_seed::{Setup, Turns};
@@ -28,13 +28,13 @@ impl<T: Turns> Sectioned<Setup<T>, u16> for Passed<T> {
     ghost sections_of = { λ passed. 0 ∷ 0 ∷ [] };
 }
 
-// What they share: also whether turns that were drawn wait, and whether a batch does; and how many microseconds the one slept that takes turns.
+// What they share: also how many lists of drawn turns wait, and how many batches do; and how many microseconds the one slept that takes turns.
 #[derive(Drop)]
 pub(crate) struct Relay<T: Turns> {
     pub(crate) board: Board<Passed<T>, Setup<T>, u16>,
     pub(crate) ends: Ends,
-    pub(crate) has_drawn: AtomicBool,
-    pub(crate) has_batch: AtomicBool,
+    pub(crate) drawn: AtomicU64,
+    pub(crate) batches: AtomicU64,
     pub(crate) waited: AtomicU64,
 }
 
@@ -93,7 +93,7 @@ pub(crate) fn start_alone<T: Turns, R: Wait>(
     let own = Arc::try_clone(setup)?;
     let group = LoneGroup::new(alloc, own, agenda.next())?;
     let own = Arc::try_clone(setup)?;
-    let inside = Box::new(alloc, Handover::new(own))?;
+    let inside = Box::new(alloc, Handover::new(alloc, own))?;
     let Made {
         board,
         mut passes,
@@ -110,8 +110,8 @@ pub(crate) fn start_alone<T: Turns, R: Wait>(
         relay: Relay {
             board,
             ends: Ends::new(false),
-            has_drawn: AtomicBool::new(false),
-            has_batch: AtomicBool::new(false),
+            drawn: AtomicU64::new(0),
+            batches: AtomicU64::new(0),
             waited: AtomicU64::new(0),
         },
         team: Team {

@@ -33,7 +33,7 @@ fn next_batch<T: Turns, R: Wait>(
     ensures batch { IfOk result (IsBatch (system T.turn_of own.now)) }
 {
     let _ = own;
-    if !relay.has_batch.load(Ordering::SeqCst) {
+    if relay.batches.load(Ordering::SeqCst) == 0 {
         return Err(spare);
     }
     let Some(mut passed) = relay.board.take(rt, &mut writer.pass) else {
@@ -47,8 +47,9 @@ fn next_batch<T: Turns, R: Wait>(
         }
         None => Err(spare),
     };
+    let left = passed.inside.batches() as u64;
+    relay.batches.store(left, Ordering::SeqCst);
     relay.board.give_back(rt, &mut writer.pass, passed);
-    relay.has_batch.store(false, Ordering::SeqCst);
     answer
 }
 

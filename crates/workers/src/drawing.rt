@@ -40,7 +40,8 @@ pub(crate) fn draw_turns<T: Turns, R: Wait>(
     }
 }
 
-// Hands over what was drawn, once what was drawn before is gone, and gets the list of that, empty. None, if a worker has ended.
+// Hands over what was drawn, once few lists of what was drawn before wait, and gets an empty list for the next. None, if a worker has ended, or memory
+// was refused.
 fn pass_on<T: Turns, R: Wait>(
     rt: &R,
     alloc: Global,
@@ -57,16 +58,20 @@ fn pass_on<T: Turns, R: Wait>(
         if relay.ends.has_ended() {
             return None;
         }
-        if relay.has_drawn.load(Ordering::SeqCst) {
+        if !drawer.pace.may_add(relay.drawn.load(Ordering::SeqCst)) {
             drawer.pace.wait(rt);
             continue;
         }
         if let Some(mut passed) = relay.board.take(rt, &mut drawer.pass) {
             let due = passed.inside.put_drawn(alloc, drawn);
+            let many = passed.inside.drawn() as u64;
+            relay.drawn.store(many, Ordering::SeqCst);
             relay.board.give_back(rt, &mut drawer.pass, passed);
-            relay.has_drawn.store(true, Ordering::SeqCst);
             drawer.pace.go_on();
-            return Some(due);
+            if due.is_err() {
+                relay.ends.note(rt, WorkFault::NoMemory);
+            }
+            return due.ok();
         }
         drawer.pace.wait(rt);
     }

@@ -23,8 +23,8 @@ pub enum RunFault {
     /// A worker's thread could not be started, or the gate didn't let the worker start.
     #[error("a worker could not be started")]
     ThreadRefused,
-    /// The number of the turns that chunks had given isn't that of the turns written, or those that were drawn don't begin with the one that comes next.
-    /// No run is known in which this comes.
+    /// The number of the turns that chunks or batches had given isn't that of the turns written, or those that were drawn don't begin with the one that
+    /// comes next. No run is known in which this comes.
     #[error("turns are out of place")]
     OutOfPlace,
 }

@@ -1,5 +1,5 @@
 //! Workers that hold groups of components: each thread keeps its group, runs it ahead and shares what it did, while the calling thread writes what is
-//! committed.
+//! committed. Where one group has all components, one thread draws its turns and another takes them, while the calling thread writes them.
 #![tactic(auto)]
 
 mod activity;

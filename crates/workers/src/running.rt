@@ -42,7 +42,8 @@ pub struct Summary {
 }
 
 /// How a setup is run: by how many workers, 1 to 64; how many entries each does at most before it looks round, 1 to 65,535; within which window, if
-/// there is one: how many turns of its own each component may have done since its base; and in which form the turns are written.
+/// there is one: how many turns of its own each component may have done since its base; and in which form the turns are written. One group of all
+/// components has no window.
 #[derive(Clone, Copy)]
 pub struct Job {
     pub workers: u16,
@@ -53,11 +54,13 @@ pub struct Job {
 
 /// Simulates a setup by workers, each of which keeps a group of its components: it runs the group ahead and shares what it did; and writes the lines of
 /// the turns as they are committed for good, in the order of keys, behind a head where it is asked for. There are no more workers than components.
-/// The calling thread writes; it and the workers may wait for each other, so that what is promised holds if the call returns.
+/// One worker, or one component, makes one group of all: then nothing is ever taken back, and three threads run it. One draws the turns, one takes
+/// them, and the calling thread writes them. The calling thread writes in any case; it and the others may wait for each other, so that what is promised
+/// holds if the call returns.
 ///
 /// What was written is a beginning of the text of the one-thread simulator that always takes the least key, and all of it where the answer
 /// isn't a fault; the actions of these turns are a schedule of the composition. That several threads ran, and that what is written comes of
-/// the leases, no clause can say.
+/// what they did, no clause can say.
 ///
 /// # Errors
 ///

@@ -10,6 +10,7 @@ use std::alloc::Global;
 use std::sync::Wait;
 use std::sync::atomic::Ordering;
 use task_seed::Turns;
+use terms::NoMemory;
 
 // Takes turns until all are handed over, or a fault was noted.
 pub(crate) fn take_turns<T: Turns, G: Gate<T>, R: Wait>(
@@ -25,24 +26,44 @@ pub(crate) fn take_turns<T: Turns, G: Gate<T>, R: Wait>(
         if relay.ends.has_ended() {
             break;
         }
-        let went = match go_on(rt, alloc, relay, gate, &mut taker) {
-            Ok(went) => went,
+        match go_round(rt, alloc, relay, gate, &mut taker) {
+            Ok(Round::Went) => taker.pace.go_on(),
+            Ok(Round::Vain) => taker.pace.wait(rt),
+            Ok(Round::End) => break,
             Err(fault) => {
                 relay.ends.note(rt, fault);
                 break;
             }
-        };
-        let has_shared = share(rt, alloc, relay, &mut taker);
-        if has_shared && taker.group.next().is_none() {
-            break;
-        }
-        if went {
-            taker.pace.go_on();
-        } else {
-            taker.pace.wait(rt);
         }
     }
     relay.ends.end();
+}
+
+// What a round came to: it took or fetched turns, or it did not, or all are handed over.
+#[derive(Clone, Copy)]
+enum Round {
+    Went,
+    Vain,
+    End,
+}
+
+// Takes some turns, and hands over what it took, where it may.
+fn go_round<T: Turns, G: Gate<T>, R: Wait>(
+    rt: &R,
+    alloc: Global,
+    relay: &Relay<T>,
+    gate: &G,
+    taker: &mut Taker<T>,
+) -> Result<Round, WorkFault>
+    requires { IsTakerOf relay.now taker.old }
+    ensures { IsTakerOf relay.now taker.new }
+{
+    let went = go_on(rt, alloc, relay, gate, taker)?;
+    let has_shared = share(rt, alloc, relay, taker)?;
+    if has_shared && taker.group.next().is_none() {
+        return Ok(Round::End);
+    }
+    Ok(if went { Round::Went } else { Round::Vain })
 }
 
 // Takes some turns, as the gate lets it, of those that are drawn, unless many wait to be handed over. Whether it took or fetched any.
@@ -79,15 +100,16 @@ fn fetch<T: Turns, R: Wait>(
     requires { IsTakerOf relay.now taker.old }
     ensures { IsTakerOf relay.now taker.new }
 {
-    if !relay.has_drawn.load(Ordering::SeqCst) {
+    if relay.drawn.load(Ordering::SeqCst) == 0 {
         return Ok(false);
     }
     let Some(mut passed) = relay.board.take(rt, &mut taker.pass) else {
         return Ok(false);
     };
     let has_added = add(&mut passed.inside, &mut taker.group);
+    let left = passed.inside.drawn() as u64;
+    relay.drawn.store(left, Ordering::SeqCst);
     relay.board.give_back(rt, &mut taker.pass, passed);
-    relay.has_drawn.store(false, Ordering::SeqCst);
     has_added
 }
 
@@ -107,22 +129,34 @@ fn add<T: Turns>(inside: &mut Handover<T>, group: &mut LoneGroup<T>) -> Result<b
     Ok(true)
 }
 
-// Hands over what was taken, unless the batch before it waits still. Whether it did.
-fn share<T: Turns, R: Wait>(rt: &R, alloc: Global, relay: &Relay<T>, taker: &mut Taker<T>) -> bool
+// Hands over what was taken, unless it is better to take more before. Whether it did.
+fn share<T: Turns, R: Wait>(
+    rt: &R,
+    alloc: Global,
+    relay: &Relay<T>,
+    taker: &mut Taker<T>,
+) -> Result<bool, WorkFault>
     requires { IsTakerOf relay.now taker.old }
     ensures { IsTakerOf relay.now taker.new }
 {
-    let has_news = taker.group.waiting() > 0 || taker.group.next().is_none();
-    if !has_news || relay.has_batch.load(Ordering::SeqCst) {
-        return false;
+    let waiting = taker.group.waiting();
+    let is_end = taker.group.next().is_none();
+    let is_full = is_end || !taker.pace.has_room(waiting);
+    let batches = relay.batches.load(Ordering::SeqCst);
+    if (waiting == 0 && !is_end) || !taker.pace.may_share(batches, is_full) {
+        return Ok(false);
     }
     let waited = taker.pace.take_waited();
     relay.waited.fetch_add(waited, Ordering::SeqCst);
     let Some(mut passed) = relay.board.take(rt, &mut taker.pass) else {
-        return false;
+        return Ok(false);
     };
-    let has_put = passed.inside.put(alloc, &mut taker.group);
+    let put = passed.inside.put(alloc, &mut taker.group);
+    let many = passed.inside.batches() as u64;
+    relay.batches.store(many, Ordering::SeqCst);
     relay.board.give_back(rt, &mut taker.pass, passed);
-    relay.has_batch.store(true, Ordering::SeqCst);
-    has_put
+    match put {
+        Ok(()) => Ok(true),
+        Err(NoMemory) => Err(WorkFault::NoMemory),
+    }
 }
