@@ -1,0 +1,3 @@
+mod Covered
+mod Dealt
+pub mod Placed

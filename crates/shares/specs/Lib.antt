@@ -1,0 +1,5 @@
+pub mod Dealing
+pub mod Hands
+pub mod Shares
+pub mod Turns
+pub mod Waiting
