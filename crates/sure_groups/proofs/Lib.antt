@@ -1,0 +1,14 @@
+pub mod Acted
+pub mod Coming
+pub mod Dealt
+pub mod Falling
+pub mod Given
+pub mod Heard
+pub mod Passed
+pub mod Places
+pub mod Points
+pub mod Posted
+pub mod Standing
+pub mod Starting
+pub mod Stepped
+pub mod Written
